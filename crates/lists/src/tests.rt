@@ -1,0 +1,35 @@
+use crate::{List, ShortList};
+use std::alloc::AllocError;
+
+#[test]
+fn a_list_grows_and_changes(rt: HostRuntime) -> Result<(), AllocError> {
+    let mut list: List<u64> = List::new(rt.alloc());
+    assert!(rt; list.is_empty());
+    list.push(7)?;
+    list.push(8)?;
+    assert_eq!(rt; list.len(), 2);
+    assert!(rt; list.as_slice() == [7, 8].as_slice());
+    if list.len() == 2 {
+        list.set(0, 9);
+        assert_eq!(rt; *list.at(1), 8);
+    }
+    let vector = list.into_vec();
+    assert!(rt; vector.as_slice() == [9, 8].as_slice());
+    assert_eq!(rt; List::from_vec(vector).len(), 2);
+    Ok(())
+}
+
+#[test]
+fn a_short_list_grows_changes_and_is_copied(rt: HostRuntime) {
+    let mut list: ShortList<u64, 2> = ShortList::new();
+    assert!(rt; list.is_empty());
+    list.push(7);
+    list.push(8);
+    let copy = list.copy();
+    assert!(rt; copy == list);
+    list.set(0, 9);
+    assert!(rt; list.as_slice() == [9, 8].as_slice());
+    assert_eq!(rt; *list.at(1), 8);
+    assert_eq!(rt; list.len(), 2);
+    assert!(rt; copy != list);
+}

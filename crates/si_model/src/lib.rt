@@ -1,0 +1,18 @@
+//! The history machine of snapshot isolation.
+//!
+//! Its public types are the rows, histories, logs and reports of a store. Its `specs/` define what a run of the
+//! machine is: committed states, evaluation, legal and numbered histories, what a log may list, and why. `state`
+//! gives a committed state and `eval` an evaluation, exactly.
+#![tactic(auto)]
+
+mod evaluated;
+mod log;
+mod op;
+mod report;
+mod row;
+
+pub use evaluated::Evaluated;
+pub use log::{Attempt, Event, Finish, Lock, Log, MoveEnd, Outcome, Snapshot, Stamp};
+pub use op::{Op, Policy};
+pub use report::{AuditRow, Closed, CommitLine, Report};
+pub use row::{Item, Items, Key, Row, Value};

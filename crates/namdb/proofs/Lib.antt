@@ -1,0 +1,4 @@
+mod HistoryLemmas
+mod SerialLemmas
+mod SerialRunLemmas
+mod WholeRunLemmas

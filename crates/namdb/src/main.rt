@@ -1,0 +1,4 @@
+//! The program `namdb`.
+#![tactic(auto)]
+
+fn main() {}

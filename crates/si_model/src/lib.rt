@@ -6,7 +6,9 @@
 #![tactic(auto)]
 
 mod evaluated;
+mod evaluation;
 mod log;
+mod lookup;
 mod op;
 mod report;
 mod row;

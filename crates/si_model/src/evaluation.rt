@@ -1,11 +1,11 @@
 //! Evaluation of operations.
 
 ghost use Rattle.std.specs.Prelude.{◌≡◌, ℕ, ◌+◌, ◌-◌, ◌^◌, ◌<◌, ◌≤◌, [], ◌∷◌, ◌++◌, length, slice_index, slice_set, replicate, All, Option, Some, None, MatchOption, IfOk, OnOk, IsTrue, if◌then◌else◌};
-ghost use Rattle.si_model.specs.Rows.{key_at, item_key, item_at, rows_of, overlay};
+ghost use Rattle.si_model.specs.Rows.{key_at, item_key, item_at, rows_of, writes_key, overlay};
 ghost use Rattle.si_model.specs.Evaluation.{field_of, with_field, can_change, changed, wrote, guarded, passes, found, writes_after, guards_after, unwritten, evaluation_of, OpFits, AreWide};
 
 use crate::evaluated::Evaluated;
-use crate::lookup::value_at;
+use crate::lookup::{add_items_between, value_at};
 use crate::op::Op;
 use crate::row::{Item, Items, Key, Row, Value};
 use lists::List;
@@ -94,4 +94,200 @@ fn guard(guards: &mut List<Key>, key: Key) -> Result<(), AllocError>
         }
     }
     guards.push(key)
+}
+
+fn is_written(writes: &[Item], key: Key) -> bool
+    ensures { result ≡ writes_key writes.now key }
+{
+    for item in writes {
+        if item.table == key.table && item.key == key.key {
+            return true;
+        }
+    }
+    false
+}
+
+/// The guarded keys that aren't written.
+fn unwritten(
+    alloc: Global,
+    writes: &[Item],
+    guards: &[Key],
+) -> Result<List<Key>, AllocError>
+    ensures { IfOk result (λ keys. keys ≡ unwritten writes.now guards.now) }
+{
+    let mut keys = List::new(alloc);
+    for guard in guards {
+        if !is_written(writes, *guard) {
+            keys.push(*guard)?;
+        }
+    }
+    Ok(keys)
+}
+
+/// What was read, written and guarded so far. The copy of the rows is the rows under the writes.
+#[derive(Drop)]
+struct Progress {
+    reads: Items,
+    writes: Items,
+    guards: List<Key>,
+}
+
+impl Progress {
+    /// Reads a key, and gives what was found.
+    fn read(&mut self, rows: &[Row], table: u32, key: u64) -> Result<Option<Value>, AllocError>
+        ensures found { IfOk result (λ value. value ≡ overlay self.old.writes (rows_of rows.now) (key_at table key)) }
+        ensures reads { OnOk result (self.new.reads ≡ self.old.reads ++ item_at (key_at table key) (overlay self.old.writes (rows_of rows.now) (key_at table key)) ∷ []) }
+        ensures writes { self.new.writes ≡ self.old.writes }
+        ensures guards { self.new.guards ≡ self.old.guards }
+    {
+        let value = value_at(self.writes.as_slice(), rows, table, key);
+        self.reads.push(Item {
+            table,
+            key,
+            value: copied(&value),
+        })?;
+        Ok(value)
+    }
+
+    /// Does one operation on the copy, and says whether it passed.
+    fn apply(
+        &mut self,
+        alloc: Global,
+        widths: &[u32],
+        rows: &[Row],
+        op: &Op,
+    ) -> Result<bool, AllocError>
+        requires fits { OpFits widths.now op.now }
+        requires wide { AreWide widths.now (overlay self.old.writes (rows_of rows.now)) }
+        ensures passed { IfOk result (λ passed. passed ≡ passes op.now (overlay self.old.writes (rows_of rows.now))) }
+        ensures reads { OnOk result (self.new.reads ≡ self.old.reads ++ found op.now (overlay self.old.writes (rows_of rows.now))) }
+        ensures writes { IfOk result (λ passed. IsTrue passed → self.new.writes ≡ writes_after widths.now op.now (overlay self.old.writes (rows_of rows.now)) self.old.writes) }
+        ensures guards { IfOk result (λ passed. IsTrue passed → self.new.guards ≡ guards_after op.now self.old.guards) }
+    {
+        match op {
+            Op::Get { table, key } => {
+                self.read(rows, *table, *key)?;
+                Ok(true)
+            }
+            Op::Put { table, key, value } => {
+                let value = Some(value.copy());
+                write(
+                    &mut self.writes,
+                    Item {
+                        table: *table,
+                        key: *key,
+                        value,
+                    },
+                )?;
+                Ok(true)
+            }
+            Op::Add {
+                table,
+                key,
+                field,
+                up,
+                by,
+            } => {
+                let value = self.read(rows, *table, *key)?;
+                match changed_by(field_at(&value, *field), *up, *by) {
+                    Some(number) => {
+                        let width = widths[*table as usize];
+                        let value = Some(with_field(width, value, *field, number));
+                        write(
+                            &mut self.writes,
+                            Item {
+                                table: *table,
+                                key: *key,
+                                value,
+                            },
+                        )?;
+                        Ok(true)
+                    }
+                    None => Ok(false),
+                }
+            }
+            Op::Del { table, key } => {
+                write(
+                    &mut self.writes,
+                    Item {
+                        table: *table,
+                        key: *key,
+                        value: None,
+                    },
+                )?;
+                Ok(true)
+            }
+            Op::Need {
+                table,
+                key,
+                field,
+                least,
+            } => {
+                let value = self.read(rows, *table, *key)?;
+                Ok(*least <= field_at(&value, *field))
+            }
+            Op::Guard { table, key } => {
+                self.read(rows, *table, *key)?;
+                guard(
+                    &mut self.guards,
+                    Key {
+                        table: *table,
+                        key: *key,
+                    },
+                )?;
+                Ok(true)
+            }
+            Op::Scan { table, low, high } => {
+                add_items_between(
+                    alloc,
+                    &mut self.reads,
+                    self.writes.as_slice(),
+                    rows,
+                    *table,
+                    *low,
+                    *high,
+                )?;
+                Ok(true)
+            }
+        }
+    }
+}
+
+/// The operations one after another, on a copy of the rows. `widths` has the width of each table.
+pub fn eval(
+    alloc: Global,
+    widths: &[u32],
+    ops: &[Op],
+    rows: &[Row],
+) -> Result<Evaluated, AllocError>
+    requires fits { All (OpFits widths.now) ops.now }
+    requires wide { AreWide widths.now (rows_of rows.now) }
+    requires short { length ops.now < 2 ^ 32 }
+    ensures { IfOk result (λ evaluated. evaluated ≡ evaluation_of widths.now (rows_of rows.now) ops.now) }
+{
+    let mut progress = Progress {
+        reads: List::new(alloc),
+        writes: List::new(alloc),
+        guards: List::new(alloc),
+    };
+    for (place, op) in ops.iter().enumerate() {
+        if !progress.apply(alloc, widths, rows, op)? {
+            let Progress { reads, .. } = progress;
+            return Ok(Evaluated::Declined {
+                op: place as u32 + 1,
+                reads,
+            });
+        }
+    }
+    let Progress {
+        reads,
+        writes,
+        guards,
+    } = progress;
+    let guards = unwritten(alloc, writes.as_slice(), guards.as_slice())?;
+    Ok(Evaluated::Done {
+        reads,
+        writes,
+        guards,
+    })
 }

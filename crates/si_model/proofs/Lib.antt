@@ -1,2 +1,5 @@
-pub mod WriteLemmas
+pub mod EvaluationLemmas
+pub mod HeldLemmas
 pub mod RangeLemmas
+pub mod StepLemmas
+pub mod WriteLemmas

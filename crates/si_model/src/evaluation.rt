@@ -5,20 +5,11 @@ ghost use Rattle.si_model.specs.Rows.{key_at, item_key, item_at, rows_of, writes
 ghost use Rattle.si_model.specs.Evaluation.{field_of, with_field, can_change, changed, wrote, guarded, passes, found, writes_after, guards_after, unwritten, evaluation_of, OpFits, AreWide};
 
 use crate::evaluated::Evaluated;
-use crate::lookup::{add_items_between, value_at};
+use crate::lookup::{add_items_between, copied, value_at};
 use crate::op::Op;
 use crate::row::{Item, Items, Key, Row, Value};
 use lists::List;
 use std::alloc::{AllocError, Global};
-
-fn copied(value: &Option<Value>) -> Option<Value>
-    ensures { result ≡ value.now }
-{
-    match value {
-        Some(value) => Some(value.copy()),
-        None => None,
-    }
-}
 
 /// A field, counted from 1, and 0 where there is no value.
 fn field_at(value: &Option<Value>, field: u32) -> u64

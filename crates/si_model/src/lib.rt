@@ -5,6 +5,7 @@
 //! gives a committed state and `eval` an evaluation, exactly.
 #![tactic(auto)]
 
+mod committed;
 mod evaluated;
 mod evaluation;
 mod log;

@@ -10,6 +10,15 @@ use crate::row::{Item, Items, Row, Value};
 use std::alloc::{AllocError, Global};
 use std::collections::BTreeSet;
 
+pub(crate) fn copied(value: &Option<Value>) -> Option<Value>
+    ensures { result ≡ value.now }
+{
+    match value {
+        Some(value) => Some(value.copy()),
+        None => None,
+    }
+}
+
 fn value_of_row(rows: &[Row], table: u32, key: u64) -> Option<Value>
     ensures { result ≡ rows_of rows.now (key_at table key) }
 {
@@ -27,10 +36,7 @@ pub(crate) fn value_at(writes: &[Item], rows: &[Row], table: u32, key: u64) -> O
 {
     for item in writes {
         if item.table == table && item.key == key {
-            return match &item.value {
-                Some(value) => Some(value.copy()),
-                None => None,
-            };
+            return copied(&item.value);
         }
     }
     value_of_row(rows, table, key)

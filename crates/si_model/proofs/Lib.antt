@@ -2,4 +2,5 @@ pub mod EvaluationLemmas
 pub mod HeldLemmas
 pub mod RangeLemmas
 pub mod StepLemmas
+mod TransferExample
 pub mod WriteLemmas

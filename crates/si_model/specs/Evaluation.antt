@@ -117,35 +117,33 @@ reads_from widths rows ws (op ∷ ops) =
     let copy = overlay ws rows in
     found op copy ++ reads_from widths rows (writes_after widths op copy ws) ops
 
+-- the key that an operation other than a scan reads
+abbrev pub key_read : Op → Option Key
+key_read (Get t k) = Some (key_at t k)
+key_read (Add t k f up by) = Some (key_at t k)
+key_read (Need t k f least) = Some (key_at t k)
+key_read (Guard t k) = Some (key_at t k)
+key_read op = None
+
 -- the key that an operation writes
 abbrev pub key_written : Op → Option Key
-key_written (Get t k) = None
 key_written (Put t k v) = Some (key_at t k)
 key_written (Add t k f up by) = Some (key_at t k)
 key_written (Del t k) = Some (key_at t k)
-key_written (Need t k f least) = None
-key_written (Guard t k) = None
-key_written (Scan t low high) = None
+key_written op = None
 
 -- the key that an operation guards
 abbrev pub key_guarded : Op → Option Key
-key_guarded (Get t k) = None
-key_guarded (Put t k v) = None
-key_guarded (Add t k f up by) = None
-key_guarded (Del t k) = None
-key_guarded (Need t k f least) = None
 key_guarded (Guard t k) = Some (key_at t k)
-key_guarded (Scan t low high) = None
+key_guarded op = None
 
 -- the key that an operation writes or guards, which so needs a position
 abbrev pub key_claimed : Op → Option Key
-key_claimed (Get t k) = None
 key_claimed (Put t k v) = Some (key_at t k)
 key_claimed (Add t k f up by) = Some (key_at t k)
 key_claimed (Del t k) = Some (key_at t k)
-key_claimed (Need t k f least) = None
 key_claimed (Guard t k) = Some (key_at t k)
-key_claimed (Scan t low high) = None
+key_claimed op = None
 
 abbrev pub is_key : Key → Option Key → Bool
 is_key key None = false

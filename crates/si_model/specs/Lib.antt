@@ -1,5 +1,16 @@
+pub mod Lists
 pub mod Rows
 pub mod Evaluation
 pub mod EvaluationLaws
 pub mod Held
 pub mod State
+pub mod History
+pub mod Tells
+pub mod View
+pub mod Setting
+pub mod Answers
+pub mod Knowledge
+pub mod Causes
+pub mod Tries
+pub mod Audit
+pub mod Run

@@ -1,0 +1,14 @@
+//! Shapes of stores: how many workers and tables there are, how large they are, and which form their headers have.
+//!
+//! So far the crate has the types, the greatest commit number of each form, and the name of a table by its number.
+#![tactic(auto)]
+
+mod form;
+mod name;
+mod shape;
+#[cfg(test)]
+mod tests;
+
+pub use form::{Form, greatest};
+pub use name::TableName;
+pub use shape::{Shape, Table, name_at};

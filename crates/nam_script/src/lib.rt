@@ -1,0 +1,6 @@
+//! Scripts and the text that spells them.
+#![tactic(auto)]
+
+mod script;
+
+pub use script::{Script, ScriptTxn, Stint, Turns};

@@ -1,0 +1,91 @@
+-- A log seen as a list of its events, each with its own items.
+use Rattle.std.specs.Prelude.{ℕ, ◌-◌, Bool, true, false, if◌then◌else◌, List, [], ◌∷◌, take, drop, slice_index_or, Option, Some, None, is_some, unwrap_or}
+use Rattle.si_model.specs.declared.row.Item.{Item}
+use Rattle.si_model.specs.declared.op.Op.{Op}
+use Rattle.si_model.specs.declared.log.Lock.{Lock}
+use Rattle.si_model.specs.declared.log.Attempt.{Attempt}
+use Rattle.si_model.specs.declared.log.Outcome.{Outcome}
+use Rattle.si_model.specs.declared.log.Outcome.TheVariants.{Commit, Cut}
+use Rattle.si_model.specs.declared.log.Event.{Event}
+use Rattle.si_model.specs.declared.log.Event.TheVariants.{Tried, Collected}
+use Rattle.si_model.specs.declared.log.Log.{Log}
+
+-- one event with what it owns: the operations of its transaction, its reads, locks and writes, and its snapshot
+pub record Tell : Type 0 where
+  pub event : Event
+  pub ops : List Op
+  pub reads : List Item
+  pub locks : List Lock
+  pub writes : List Item
+  pub snap : List ℕ
+
+-- the prefix of an event that got a snapshot
+abbrev pub prefix_in : Event → Option ℕ
+prefix_in (Tried a) = a.prefix
+prefix_in (Collected b prefix entries cut) = Some prefix
+prefix_in event = None
+
+-- the attempt that an event is
+abbrev pub attempt_in : Event → Option Attempt
+attempt_in (Tried a) = Some a
+attempt_in event = None
+
+abbrev pub reads_in : Event → ℕ
+reads_in e = elim (attempt_in e) [ None ↦ 0 | Some a ↦ a.reads ]
+
+abbrev pub locks_in : Event → ℕ
+locks_in e = elim (attempt_in e) [ None ↦ 0 | Some a ↦ a.locks ]
+
+abbrev pub writes_in : Event → ℕ
+writes_in e = elim (attempt_in e) [ None ↦ 0 | Some a ↦ a.writes ]
+
+-- how many snapshots the event owns
+abbrev pub snaps_in : Event → ℕ
+snaps_in e = if is_some (prefix_in e) then 1 else 0
+
+-- the operations of an event's transaction; transaction x stands at place x - 1
+abbrev pub ops_in : List (List Op) → Event → List Op
+ops_in jobs e = elim (attempt_in e) [ None ↦ [] | Some a ↦ slice_index_or jobs (a.txn - 1) [] ]
+
+-- each event takes its items from the front of the flat lists
+abbrev pub tells_from : List (List Op) → List Event → List Item → List Lock → List Item → List (List ℕ) → List Tell
+tells_from jobs [] rs ls ws ss = []
+tells_from jobs (e ∷ es) rs ls ws ss =
+    record {
+      event = e;
+      ops = ops_in jobs e;
+      reads = take (reads_in e) rs;
+      locks = take (locks_in e) ls;
+      writes = take (writes_in e) ws;
+      snap = slice_index_or (take (snaps_in e) ss) 0 [];
+    } ∷ tells_from jobs es (drop (reads_in e) rs) (drop (locks_in e) ls) (drop (writes_in e) ws) (drop (snaps_in e) ss)
+
+-- what a log tells, where transaction x has the operations at place x - 1 of the jobs
+abbrev pub tells_of : List (List Op) → Log → List Tell
+tells_of jobs log = tells_from jobs log.events log.reads log.locks log.writes log.snaps
+
+-- the prefix of an event, and 0 where it got none
+abbrev pub prefix_of : Tell → ℕ
+prefix_of t = unwrap_or (prefix_in t.event) 0
+
+-- the number of a commit
+abbrev pub number_in : Outcome → Option ℕ
+number_in (Commit number) = Some number
+number_in outcome = None
+
+-- the number that an event commits
+abbrev pub commit_in : Event → Option ℕ
+commit_in e = elim (attempt_in e) [ None ↦ None | Some a ↦ number_in a.outcome ]
+
+-- the worker's last number after these events, which come after the number last
+abbrev pub last_number : ℕ → List Tell → ℕ
+last_number last [] = last
+last_number last (t ∷ ts) = last_number (unwrap_or (commit_in t.event) last) ts
+
+abbrev pub is_cut : Outcome → Bool
+is_cut Cut = true
+is_cut outcome = false
+
+-- is the event a cut attempt
+abbrev pub is_cut_attempt : Event → Bool
+is_cut_attempt e = elim (attempt_in e) [ None ↦ false | Some a ↦ is_cut a.outcome ]

@@ -1,0 +1,34 @@
+-- What the first entries of an event's prefix say. Answers, causes and knowledge are stated over a view, whoever makes it.
+use Rattle.std.specs.Prelude.{ℕ, Bool, List, length, take}
+use Rattle.si_model.specs.declared.row.Key.{Key}
+use Rattle.si_model.specs.declared.log.Stamp.{Stamp}
+use Rattle.si_model.specs.declared.report.CommitLine.{CommitLine}
+use Rattle.si_model.specs.Rows.{Rows}
+use Rattle.si_model.specs.State.{state_at}
+use Rattle.si_model.specs.History.{entries_at, newest_writer, has_stamp, versions_after}
+use Rattle.si_model.specs.Tells.{Tell, prefix_of}
+
+pub record View : Type 0 where
+  -- all entries that there are
+  pub all : List CommitLine
+  -- the rows after the first entries
+  pub value : Tell → Rows
+  -- the stamp of the last of them that writes the key
+  pub newest : Tell → Key → Stamp
+  -- the published number of each worker after them
+  pub entries : Tell → List ℕ
+  -- is the stamp of one of them
+  pub has : Tell → Stamp → Bool
+  -- how many of them write the key after the version
+  pub later : Tell → Key → Stamp → ℕ
+
+-- by a history: the first entries are as many as the prefix says
+abbrev pub by_history : Rows → ℕ → ℕ → List CommitLine → View
+by_history rows workers start history = record {
+  all = history;
+  value = λ t. state_at rows (take (prefix_of t) history);
+  newest = λ t key. newest_writer key (take (prefix_of t) history);
+  entries = λ t. entries_at workers start (take (prefix_of t) history);
+  has = λ t s. has_stamp (take (prefix_of t) history) s;
+  later = λ t key s. length (versions_after key s (take (prefix_of t) history));
+}

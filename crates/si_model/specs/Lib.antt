@@ -1,6 +1,8 @@
 pub mod Lists
 pub mod Rows
 pub mod Evaluation
+pub mod EvaluationLaws
+pub mod Held
 pub mod State
 pub mod History
 pub mod Tells

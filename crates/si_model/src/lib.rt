@@ -5,8 +5,11 @@
 //! gives a committed state and `eval` an evaluation, exactly.
 #![tactic(auto)]
 
+mod committed;
 mod evaluated;
+mod evaluation;
 mod log;
+mod lookup;
 mod op;
 mod report;
 mod row;

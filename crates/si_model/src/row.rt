@@ -5,8 +5,8 @@ use lists::{List, ShortList};
 /// The words of a row, one for each field of its table.
 pub type Value = ShortList<u64, 8>;
 
-/// A table, numbered from 0 in script order, and a key in it.
-#[derive(Clone, Copy, Debug, PartialEq, Eq)]
+/// A table, numbered from 0 in script order, and a key in it. The order is by table and then by key.
+#[derive(Clone, Copy, Debug, PartialEq, Eq, PartialOrd, Ord)]
 pub struct Key {
     pub table: u32,
     pub key: u64,

@@ -1,0 +1,95 @@
+//! The committed state: the rows after the first entries of a history.
+
+ghost use Rattle.std.specs.Prelude.{◌≡◌, ◌≤◌, length, take, IfOk, OnOk, if◌then◌else◌};
+ghost use Rattle.si_model.specs.declared.row.Key.{Key};
+ghost use Rattle.si_model.specs.Held.{held_at};
+ghost use Rattle.si_model.specs.Rows.{same_key, rows_of, overlay, ListsRows};
+ghost use Rattle.si_model.specs.State.{state_at};
+
+use crate::lookup::copied;
+use crate::report::CommitLine;
+use crate::row::{Item, Key, Row, Value};
+use std::alloc::{AllocError, Global};
+use std::collections::BTreeMap;
+
+/// What the rows hold. Where several have one key, the first counts.
+#[tactic(auto, using(crate::proofs::HeldLemmas::under_rows))]
+fn held_by(alloc: Global, rows: &[Row]) -> Result<BTreeMap<Key, Value>, AllocError>
+    ensures { IfOk result (λ held. (key : Key) → held_at held key ≡ rows_of rows.now key) }
+{
+    let mut held = BTreeMap::new(alloc);
+    for row in rows.iter().rev() {
+        let key = Key {
+            table: row.table,
+            key: row.key,
+        };
+        held.insert(key, row.value.copy())?;
+    }
+    Ok(held)
+}
+
+/// Gives a key a value, or makes it absent.
+fn hold(
+    held: &mut BTreeMap<Key, Value>,
+    key: Key,
+    value: Option<Value>,
+) -> Result<(), AllocError>
+    ensures { OnOk result ((k : Key) → held_at held.new k ≡ (if same_key key k then value else held_at held.old k)) }
+{
+    match value {
+        Some(value) => {
+            held.insert(key, value)?;
+        }
+        None => {
+            held.remove(&key);
+        }
+    }
+    Ok(())
+}
+
+/// Puts a write set over what is held. Where it writes a key several times, the first counts.
+#[tactic(auto, using(crate::proofs::HeldLemmas::under_writes))]
+fn write_over(held: &mut BTreeMap<Key, Value>, writes: &[Item]) -> Result<(), AllocError>
+    ensures { OnOk result ((key : Key) → held_at held.new key ≡ overlay writes.now (held_at held.old) key) }
+{
+    for item in writes.iter().rev() {
+        let key = Key {
+            table: item.table,
+            key: item.key,
+        };
+        hold(held, key, copied(&item.value))?;
+    }
+    Ok(())
+}
+
+/// The rows that are held, in order of tables and keys.
+fn listed(alloc: Global, held: BTreeMap<Key, Value>) -> Result<Vec<Row>, AllocError>
+    ensures { IfOk result (λ rows. ListsRows rows.items (held_at held)) }
+{
+    let mut rows = Vec::new(alloc);
+    for (key, value) in held {
+        rows.push(Row {
+            table: key.table,
+            key: key.key,
+            value,
+        })?;
+    }
+    Ok(rows)
+}
+
+/// The rows after the first `p` entries of a history, ordered by table and key.
+pub fn state(
+    alloc: Global,
+    rows: &[Row],
+    history: &[CommitLine],
+    p: usize,
+) -> Result<Vec<Row>, AllocError>
+    requires { p ≤ length history.now }
+    ensures { IfOk result (λ rows'. ListsRows rows'.items (state_at (rows_of rows.now) (take p history.now))) }
+{
+    let mut held = held_by(alloc, rows)?;
+    for line in &history[..p] {
+        write_over(&mut held, line.writes.as_slice())?;
+    }
+    listed(alloc, held)
+}

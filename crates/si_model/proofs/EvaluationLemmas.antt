@@ -112,7 +112,7 @@ module _ (widths : List ℕ) (rows : Rows) (wide : AreWide widths rows) where
       let rest = evaluation_from widths rows (n + 1) (writes_after widths op copy ws) (guards_after op gs) ops in
       cond_both (passes op copy) (with_reads (found op copy) rest) (Declined n (found op copy)) (λ e. AllByRecursion (IsWide widths) (reads_of e))
       (λ passed. rw (reads_of-with_reads (found op copy) rest) (all_append (IsWide widths) (found op copy) (reads_of rest) (wide-found widths op copy copy_wide)
-        (wide-reads_from (n + 1) (writes_after widths op copy ws) (guards_after op gs) ops fit.1 (wide-writes_after widths op copy ws fit.0 copy_wide written))))
+      (wide-reads_from (n + 1) (writes_after widths op copy ws) (guards_after op gs) ops fit.1 (wide-writes_after widths op copy ws fit.0 copy_wide written))))
       (λ stopped. wide-found widths op copy copy_wide)
 
 -- each item that operations read has its table's width

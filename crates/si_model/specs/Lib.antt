@@ -3,6 +3,7 @@ pub mod Rows
 pub mod Evaluation
 pub mod EvaluationLaws
 pub mod Held
+pub mod Committed
 pub mod State
 pub mod History
 pub mod Tells

@@ -29,11 +29,7 @@ fn held_by(alloc: Global, rows: &[Row]) -> Result<BTreeMap<Key, Value>, AllocErr
 }
 
 /// Gives a key a value, or makes it absent.
-fn hold(
-    held: &mut BTreeMap<Key, Value>,
-    key: Key,
-    value: Option<Value>,
-) -> Result<(), AllocError>
+fn hold(held: &mut BTreeMap<Key, Value>, key: Key, value: Option<Value>) -> Result<(), AllocError>
     ensures { OnOk result ((k : Key) → held_at held.new k ≡ (if same_key key k then value else held_at held.old k)) }
 {
     match value {
@@ -75,6 +71,49 @@ fn listed(alloc: Global, held: BTreeMap<Key, Value>) -> Result<Vec<Row>, AllocEr
         })?;
     }
     Ok(rows)
+}
+
+/// The committed rows, by key, while one write set after another is put over them.
+#[derive(Drop)]
+pub struct CommittedRows {
+    held: BTreeMap<Key, Value>,
+}
+
+impl CommittedRows {
+    ghost use Rattle.si_model.specs.Committed.{rows_held};
+
+    /// The loaded rows. Where several have one key, the first counts.
+    pub fn load(alloc: Global, rows: &[Row]) -> Result<CommittedRows, AllocError>
+        ensures { IfOk result (λ c. (key : Key) → rows_held c key ≡ rows_of rows.now key) }
+    {
+        let held = held_by(alloc, rows)?;
+        Ok(CommittedRows { held })
+    }
+
+    /// What a key holds.
+    pub fn value(&self, key: Key) -> Option<Value>
+        ensures { result ≡ rows_held self.now key }
+    {
+        match self.held.get(&key) {
+            Some(value) => Some(value.copy()),
+            None => None,
+        }
+    }
+
+    /// Puts a write set over the rows. Where memory is not found, some of it may stand over them.
+    pub fn write(&mut self, writes: &[Item]) -> Result<(), AllocError>
+        ensures { OnOk result ((key : Key) → rows_held self.new key ≡ overlay writes.now (rows_held self.old) key) }
+    {
+        write_over(&mut self.held, writes)
+    }
+
+    /// The rows, ordered by table and key.
+    pub fn into_rows(self, alloc: Global) -> Result<Vec<Row>, AllocError>
+        ensures { IfOk result (λ listed. ListsRows listed.items (rows_held self)) }
+    {
+        let CommittedRows { held } = self;
+        listed(alloc, held)
+    }
 }
 
 /// The rows after the first `p` entries of a history, ordered by table and key.

@@ -14,7 +14,9 @@ mod op;
 mod report;
 mod row;
 
+pub use committed::{CommittedRows, state};
 pub use evaluated::Evaluated;
+pub use evaluation::eval;
 pub use log::{Attempt, Event, Finish, Lock, Log, MoveEnd, Outcome, Snapshot, Stamp};
 pub use op::{Op, Policy};
 pub use report::{AuditRow, Closed, CommitLine, Report};

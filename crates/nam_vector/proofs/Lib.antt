@@ -1,3 +1,3 @@
-pub mod ListLemmas
 pub mod SnapLemmas
+pub mod OrderLemmas
 pub mod SerialLemmas

@@ -6,12 +6,12 @@ use Rattle.nam_verbs.specs.declared.now.Now.{Now}
 use Rattle.nam_verbs.specs.declared.now.Now.TheVariants.{At, Over}
 use Rattle.nam_verbs.specs.Machine.{driven}
 use Rattle.nam_verbs.proofs.MachineLemmas.{driven-none}
+use Rattle.nam_verbs.proofs.TestLemmas.{by_equal}
 use Rattle.nam_vector.specs.declared.snap.SnapPlace.{SnapPlace}
 use Rattle.nam_vector.specs.declared.snap.SnapPlace.TheVariants.{First, Second}
 use Rattle.nam_vector.specs.declared.snap.SnapEnd.{SnapEnd}
 use Rattle.nam_vector.specs.declared.snap.SnapEnd.TheVariants.{Done, Again}
 use Rattle.nam_vector.specs.Snap.{Snapping, snapping, next_verb, after_found, end_of, verbs_left}
-use Rattle.nam_vector.proofs.ListLemmas.{by_test}
 
 module _ (workers : ℕ) (words : List ℕ) (within : workers ≤ length words) where
   -- a snapshot of the vector, and where it stands
@@ -28,10 +28,10 @@ module _ (workers : ℕ) (words : List ℕ) (within : workers ≤ length words) 
   second_is_done : (fuel : ℕ) (seen : List ℕ) (at : ℕ) → seen ≡ take workers words → at < workers → workers - at ≤ fuel → IsDoneFrom fuel (At (Second seen at))
   second_is_done zero seen at entries some enough = absurd (omega arith)
   second_is_done (suc fuel) seen at entries some enough =
-      by_test (IsDoneFrom fuel) (slice_index words at) (slice_index seen at) (if at + 1 == workers then Over (Done seen) else At (Second seen (at + 1))) (Over (Again (at + 1) (slice_index seen at) (slice_index words at)))
-      (λ same. by_test (IsDoneFrom fuel) (at + 1) workers (Over (Done seen)) (At (Second seen (at + 1)))
-          (λ last. is_done fuel seen entries)
-          (λ more. second_is_done fuel seen (at + 1) entries (omega arith) (omega arith)))
+      by_equal (IsDoneFrom fuel) (slice_index words at) (slice_index seen at) (if at + 1 == workers then Over (Done seen) else At (Second seen (at + 1))) (Over (Again (at + 1) (slice_index seen at) (slice_index words at)))
+      (λ same. by_equal (IsDoneFrom fuel) (at + 1) workers (Over (Done seen)) (At (Second seen (at + 1)))
+      (λ last. is_done fuel seen entries)
+      (λ more. second_is_done fuel seen (at + 1) entries (omega arith) (omega arith)))
       (λ other. absurd (other (rw entries (sym (get_or-take workers words at 0 some)))))
 
   first_is_done : (fuel : ℕ) (got : List ℕ) → got ≡ take (length got) words → length got < workers → workers + (workers - length got) ≤ fuel → IsDoneFrom fuel (At (First got))
@@ -41,7 +41,7 @@ module _ (workers : ℕ) (words : List ℕ) (within : workers ≤ length words) 
       let seen = got ++ word ∷ [] in
       let long : length seen ≡ length got + 1 = length-append got (word ∷ []) in
       let longer : seen ≡ take (length got + 1) words = ap (λ (g : List ℕ). g ++ word ∷ []) front ∙ sym (take_more words (length got) 0 (omega arith)) in
-      by_test (IsDoneFrom fuel) (length got + 1) workers (At (Second seen 0)) (At (First seen))
+      by_equal (IsDoneFrom fuel) (length got + 1) workers (At (Second seen 0)) (At (First seen))
       (λ last. second_is_done fuel seen 0 (rw last at longer) (omega arith) (omega arith))
       (λ more. first_is_done fuel seen (rw long longer) (omega arith) (omega arith))
 

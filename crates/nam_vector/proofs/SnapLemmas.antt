@@ -1,18 +1,24 @@
 -- what a snapshot makes of the words that its verbs find
-use Rattle.std.proofs.Common.{◌≡◌, ◌≢◌, ℕ, zero, suc, ◌+◌, ◌-◌, ◌<◌, ◌≤◌, Bool, true, false, Option, Some, None, List, [], ◌∷◌, ◌++◌, length, get_or, take, drop, refl, sym, ◌∙◌, ap, subst, arith}
+use Rattle.std.proofs.Common.{◌≡◌, ◌≢◌, ℕ, ◌+◌, ◌<◌, ◌≤◌, Some, List, [], ◌∷◌, ◌++◌, length, take, drop, refl, sym, ◌∙◌, ap, subst, arith}
 use Rattle.std.specs.Prelude.{◌==◌, if◌then◌else◌, slice_index}
-use Rattle.std.proofs.lemmas.List.{append_assoc, append-nil, length-append, drop_more, drop_all}
-use Rattle.nam_vector.proofs.ListLemmas.{by_test, halves}
+use Rattle.std.proofs.lemmas.List.{append_assoc, append-nil, length-append, take_at, drop_at, drop_more, drop_all, get_or_at}
 use Rattle.nam_verbs.specs.declared.now.Now.{Now}
 use Rattle.nam_verbs.specs.declared.now.Now.TheVariants.{At, Over}
 use Rattle.nam_verbs.specs.Machine.{EndsBy}
+use Rattle.nam_verbs.proofs.TestLemmas.{by_equal}
 use Rattle.nam_vector.specs.declared.snap.SnapPlace.{SnapPlace}
 use Rattle.nam_vector.specs.declared.snap.SnapPlace.TheVariants.{First, Second}
 use Rattle.nam_vector.specs.declared.snap.SnapEnd.{SnapEnd}
 use Rattle.nam_vector.specs.declared.snap.SnapEnd.TheVariants.{Done, Again}
-use Rattle.nam_vector.specs.SnapPlace.{after_word}
 use Rattle.nam_vector.specs.Snap.{next_verb, after_found, end_of}
-use Rattle.nam_vector.specs.SnapLaw.{BothPassesFound, EntryDiffers}
+use Rattle.nam_vector.specs.SnapLaw.{BothPassesFound, EntryDiffers, NeverFall}
+
+-- two lists that begin with as many elements
+halves : (n : ℕ) (front rest front' rest' : List ℕ) → length front ≡ n → length front' ≡ n → front ++ rest ≡ front' ++ rest' → (front ≡ front') × (rest ≡ rest')
+halves n front rest front' rest' long long' same = (
+  sym (take_at front rest n long) ∙ ap (take n) same ∙ take_at front' rest' n long',
+  sym (drop_at front rest n long) ∙ ap (drop n) same ∙ drop_at front' rest' n long',
+)
 
 -- the second pass found some of the entries again that it had yet to find, and then another
 pub record Differs (at : ℕ) (entries words : List ℕ) (worker first second : ℕ) : Type 0 where
@@ -49,18 +55,18 @@ one_less : (seen entries : List ℕ) (at entry word : ℕ) (words : List ℕ) (e
 one_less seen entries at entry word words (Done result) same ends = (ends.0, cc (ends.1))
 one_less seen entries at entry word words (Again worker first second) same ends =
     let fewer : (front : List ℕ) → entry ∷ entries ≡ front ++ first ∷ ends.later → word ∷ words ≡ front ++ second ∷ [] → worker ≡ at + length front + 1
-            → Differs (at + 1) entries words worker first second =
-        elim [
-          [] ↦ λ before passed place. absurd (ends.differs (cc))
-          | x ∷ front ↦ λ before passed place. record {
-            same = front;
-            later = ends.later;
-            before = cc;
-            passed = cc;
-            place = omega arith;
-            differs = ends.differs;
-          }
-        ] in
+    → Differs (at + 1) entries words worker first second =
+    elim [
+      | [] ↦ λ before passed place. absurd (ends.differs (cc))
+      | x ∷ front ↦ λ before passed place. record {
+        same = front;
+        later = ends.later;
+        before = cc;
+        passed = cc;
+        place = omega arith;
+        differs = ends.differs;
+      }
+    ] in
     fewer ends.same ends.before ends.passed ends.place
 
 -- the second pass finds at least one word where it has an entry to find
@@ -78,11 +84,11 @@ other_found : (seen entries : List ℕ) (at entry word : ℕ) (words : List ℕ)
 other_found seen entries at entry word words (Done result) other ends = let is = ends.1 in absurd (other (cc))
 other_found seen entries at entry word words (Again worker first second) other ends =
     let none : (front : List ℕ) → entry ∷ entries ≡ front ++ first ∷ ends.later → word ∷ words ≡ front ++ second ∷ [] → worker ≡ at + length front + 1
-            → (Again (at + 1) entry word ≡ Again worker first second) × (words ≡ []) =
-        elim [
-          [] ↦ λ before passed place. let here : worker ≡ at + 1 = omega arith in (cc, cc)
-          | x ∷ front ↦ λ before passed place. absurd (other (cc))
-        ] in
+    → (Again (at + 1) entry word ≡ Again worker first second) × (words ≡ []) =
+    elim [
+      | [] ↦ λ before passed place. let here : worker ≡ at + 1 = omega arith in (cc, cc)
+      | x ∷ front ↦ λ before passed place. absurd (other (cc))
+    ] in
     none ends.same ends.before ends.passed ends.place
 
 module _ (workers : ℕ) where
@@ -107,15 +113,15 @@ module _ (workers : ℕ) where
       let entries = drop (at + 1) seen in
       let before : drop at seen ≡ entry ∷ entries = drop_more seen at 0 (omega arith) in
       let Claim = λ (state : Now SnapPlace SnapEnd). EndsFrom state words end → SecondEnds seen (entry ∷ entries) at (word ∷ words) end in
-      rw before (by_test Claim word entry (if at + 1 == workers then Over (Done seen) else At (Second seen (at + 1))) (Over (Again (at + 1) entry word))
-      (λ same. by_test Claim (at + 1) workers (Over (Done seen)) (At (Second seen (at + 1)))
-          (λ last over. let is = over_is (Done seen) words end over in
-              one_more seen entries at entry word words end same
-              (subst (SecondEnds seen entries (at + 1) words) is.0 (refl, is.1 ∙ sym (drop_all (at + 1) seen (omega arith)))))
-          (λ more goes. one_more seen entries at entry word words end same (second_ends seen (at + 1) words end long (omega arith) goes)))
+      rw before (by_equal Claim word entry (if at + 1 == workers then Over (Done seen) else At (Second seen (at + 1))) (Over (Again (at + 1) entry word))
+      (λ same. by_equal Claim (at + 1) workers (Over (Done seen)) (At (Second seen (at + 1)))
+      (λ last over. let is = over_is (Done seen) words end over in
+      one_more seen entries at entry word words end same
+      (subst (SecondEnds seen entries (at + 1) words) is.0 (refl, is.1 ∙ sym (drop_all (at + 1) seen (omega arith)))))
+      (λ more goes. one_more seen entries at entry word words end same (second_ends seen (at + 1) words end long (omega arith) goes)))
       (λ other over. let is = over_is (Again (at + 1) entry word) words end over in
-          subst (SecondEnds seen (entry ∷ entries) at (word ∷ words)) is.0
-          (record { same = []; later = entries; before = refl; passed = ap (λ ws. word ∷ ws) is.1; place = omega arith; differs = λ eq. other (sym eq) }))
+      subst (SecondEnds seen (entry ∷ entries) at (word ∷ words)) is.0
+      (record { same = []; later = entries; before = refl; passed = ap (λ ws. word ∷ ws) is.1; place = omega arith; differs = λ eq. other (sym eq) }))
       (ends.0.1, ends.1))
 
   second_ends_by : (seen : List ℕ) (at : ℕ) (words : List ℕ) (end : SnapEnd) → length seen ≡ workers → at < workers → SecondEnds seen (drop at seen) at words end → EndsFrom (At (Second seen at)) words end
@@ -125,12 +131,12 @@ module _ (workers : ℕ) where
       let entries = drop (at + 1) seen in
       let found : SecondEnds seen (entry ∷ entries) at (word ∷ words) end = rw (drop_more seen at 0 (omega arith)) at ends in
       let Claim = λ (state : Now SnapPlace SnapEnd). EndsFrom state words end in
-      let next = by_test Claim word entry (if at + 1 == workers then Over (Done seen) else At (Second seen (at + 1))) (Over (Again (at + 1) entry word))
-          (λ same. let later = one_less seen entries at entry word words end same found in
-              by_test Claim (at + 1) workers (Over (Done seen)) (At (Second seen (at + 1)))
-              (λ last. let is = all_found seen (at + 1) words end (rw (drop_all (at + 1) seen (omega arith)) at later) in is_over (Done seen) words end is.0 is.1)
-              (λ more. second_ends_by seen (at + 1) words end long (omega arith) later))
-          (λ other. let is = other_found seen entries at entry word words end other found in is_over (Again (at + 1) entry word) words end is.0 is.1) in
+      let next = by_equal Claim word entry (if at + 1 == workers then Over (Done seen) else At (Second seen (at + 1))) (Over (Again (at + 1) entry word))
+      (λ same. let later = one_less seen entries at entry word words end same found in
+      by_equal Claim (at + 1) workers (Over (Done seen)) (At (Second seen (at + 1)))
+      (λ last. let is = all_found seen (at + 1) words end (rw (drop_all (at + 1) seen (omega arith)) at later) in is_over (Done seen) words end is.0 is.1)
+      (λ more. second_ends_by seen (at + 1) words end long (omega arith) later))
+      (λ other. let is = other_found seen entries at entry word words end other found in is_over (Again (at + 1) entry word) words end is.0 is.1) in
       ((refl, next.0), next.1)
 
   -- a pass over the whole vector, and then the second pass
@@ -170,7 +176,7 @@ module _ (workers : ℕ) where
       let seen = got ++ word ∷ [] in
       let long = length-append got (word ∷ []) in
       let Claim = λ (state : Now SnapPlace SnapEnd). EndsFrom state words end → Ends workers (seen ++ words) end in
-      rw (← append_assoc got (word ∷ []) words) (by_test Claim (length got + 1) workers (At (Second seen 0)) (At (First seen))
+      rw (← append_assoc got (word ∷ []) words) (by_equal Claim (length got + 1) workers (At (Second seen 0)) (At (First seen))
       (λ last goes. whole_pass seen words end (omega arith) (second_ends seen 0 words end (omega arith) (omega arith) goes))
       (λ more goes. first_ends words seen end (omega arith) goes)
       (ends.0.1, ends.1))
@@ -182,7 +188,21 @@ module _ (workers : ℕ) where
       let long = length-append got (word ∷ []) in
       let found : Ends workers (seen ++ words) end = rw (append_assoc got (word ∷ []) words) ends in
       let Claim = λ (state : Now SnapPlace SnapEnd). EndsFrom state words end in
-      let next = by_test Claim (length got + 1) workers (At (Second seen 0)) (At (First seen))
-          (λ last. second_ends_by seen 0 words end (omega arith) (omega arith) (pass_is_whole seen words end (omega arith) found))
-          (λ more. first_ends_by words seen end (omega arith) found) in
+      let next = by_equal Claim (length got + 1) workers (At (Second seen 0)) (At (First seen))
+      (λ last. second_ends_by seen 0 words end (omega arith) (omega arith) (pass_is_whole seen words end (omega arith) found))
+      (λ more. first_ends_by words seen end (omega arith) found) in
       ((refl, next.0), next.1)
+
+  -- an entry that differs is above what it was, where no entry falls
+  pub entry_rises : (words : List ℕ) (worker first second : ℕ) → NeverFall workers words → EntryDiffers workers words worker first second → first < second
+  entry_rises words worker first second never ends =
+      let pass = ends.same ++ first ∷ ends.later in
+      let k = length ends.same in
+      let all = ap length ends.passes ∙ length-append pass (ends.same ++ second ∷ []) in
+      let again = length-append ends.same (second ∷ []) in
+      let once = length-append ends.same (first ∷ ends.later) in
+      let rises : slice_index words k ≤ slice_index words (k + workers) = never k (omega (arith, ends.whole)) in
+      let before : slice_index words k ≡ first = rw (ends.passes, append_assoc) (get_or_at ends.same first (ends.later ++ (ends.same ++ second ∷ [])) 0 k refl) in
+      let after : slice_index words (k + workers) ≡ second =
+      rw ends.passes (rw (← append_assoc) (get_or_at (pass ++ ends.same) second [] 0 (k + workers) (length-append pass ends.same ∙ omega (arith, ends.whole)))) in
+      let differs = ends.differs in omega arith

@@ -14,14 +14,9 @@ use std::mem::replace;
 #[derive(Debug, Drop)]
 pub enum SnapPlace {
     /// The first pass, which has got these entries.
-    First {
-        got: Snapshot,
-    },
+    First { got: Snapshot },
     /// The second pass, which has found the first `at` entries of the first pass again.
-    Second {
-        seen: Snapshot,
-        at: u32,
-    },
+    Second { seen: Snapshot, at: u32 },
 }
 
 /// How a snapshot ended.
@@ -184,11 +179,13 @@ impl Machine for Snap {
         match &self.state {
             Now::At(_) => None,
             Now::Over(SnapEnd::Done(seen)) => Some(SnapEnd::Done(seen.copy())),
-            Now::Over(SnapEnd::Again {
-                worker,
-                first,
-                second,
-            }) => Some(SnapEnd::Again {
+            Now::Over(
+                SnapEnd::Again {
+                    worker,
+                    first,
+                    second,
+                },
+            ) => Some(SnapEnd::Again {
                 worker: *worker,
                 first: *first,
                 second: *second,

@@ -74,12 +74,12 @@ pub record LogFits (workers : ℕ) (widths : List ℕ) (l : Log) : Type 0 where
 abbrev pub EntryFits : List ℕ → CommitLine → Type 0
 EntryFits widths c = AllByRecursion (ItemFits widths) c.writes
 
-abbrev pub RowFits : List ℕ → AuditRow → Type 0
-RowFits widths a = HasWidth widths a.table a.value
+abbrev pub AuditRowFits : List ℕ → AuditRow → Type 0
+AuditRowFits widths a = HasWidth widths a.table a.value
 
 -- the report has a log for each worker, and speaks of the script's tables
 pub record FitsScript (s : Script) (r : Report) : Type 0 where
   pub workers : length r.logs ≡ s.shape.workers
   pub history : AllByRecursion (EntryFits (widths_of s.shape.tables)) r.history
   pub logs : AllByRecursion (LogFits s.shape.workers (widths_of s.shape.tables)) r.logs
-  pub audit : AllByRecursion (RowFits (widths_of s.shape.tables)) r.audit
+  pub audit : AllByRecursion (AuditRowFits (widths_of s.shape.tables)) r.audit

@@ -61,11 +61,7 @@ fn push_refusal(
 }
 
 /// Appends the line of an attempt, without those of its reads and locks.
-pub fn push_attempt(
-    out: &mut String,
-    tables: &[Table],
-    attempt: &Attempt,
-) -> Result<(), AllocError>
+pub fn push_attempt(out: &mut String, tables: &[Table], attempt: &Attempt) -> Result<(), AllocError>
     ensures { OnOk result (string_bytes out.new ≡ string_bytes out.old ++ attempt_line tables.now attempt.now) }
 {
     write!(out, "t {} try {} prefix ", attempt.txn, attempt.nth)?;

@@ -40,13 +40,9 @@ fn push_rows(out: &mut String, tables: &[Table], audit: &[AuditRow]) -> Result<(
 }
 
 /// Appends the length of an audit and its rows.
-pub fn push_audit(
-    out: &mut String,
-    tables: &[Table],
-    audit: &[AuditRow],
-) -> Result<(), AllocError>
+pub fn push_audit(out: &mut String, tables: &[Table], audit: &[AuditRow]) -> Result<(), AllocError>
     ensures { OnOk result (string_bytes out.new ≡ string_bytes out.old ++ audit_text tables.now audit.now) }
 {
-    write!(out, "audit {}\n", audit.len())?;
+    writeln!(out, "audit {}", audit.len())?;
     push_rows(out, tables, audit)
 }

@@ -69,7 +69,7 @@ fn push_move(
 {
     write!(out, "move {bucket}")?;
     push_lock(out, tables, moved)?;
-    write!(out, " {}\n", move_end(how))
+    writeln!(out, " {}", move_end(how))
 }
 
 /// Appends the line of a collect that got a snapshot.
@@ -84,15 +84,10 @@ fn push_collect(
 {
     write!(out, "collect {bucket} prefix {prefix}")?;
     push_words(out, entries)?;
-    write!(out, " {}\n", collect_end(cut))
+    writeln!(out, " {}", collect_end(cut))
 }
 
-fn push_tidy_cut(
-    out: &mut String,
-    tables: &[Table],
-    table: u32,
-    key: u64,
-) -> Result<(), AllocError>
+fn push_tidy_cut(out: &mut String, tables: &[Table], table: u32, key: u64) -> Result<(), AllocError>
     ensures { OnOk result (string_bytes out.new ≡ string_bytes out.old ++ tidy_cut_line tables.now table key) }
 {
     out.push_str("tidy")?;
@@ -106,7 +101,7 @@ fn push_line(out: &mut String, tables: &[Table], event: &Event) -> Result<(), Al
 {
     match event {
         Event::Tried(attempt) => push_attempt(out, tables, attempt),
-        Event::NoRoom { bucket } => write!(out, "noroom {bucket}\n"),
+        Event::NoRoom { bucket } => writeln!(out, "noroom {bucket}"),
         Event::Moved {
             bucket,
             table,
@@ -132,11 +127,11 @@ fn push_line(out: &mut String, tables: &[Table], event: &Event) -> Result<(), Al
             worker,
             first,
             second,
-        } => write!(out, "collect {bucket} again {worker} {first} {second}\n"),
-        Event::CollectCut { bucket } => write!(out, "collect {bucket} cut\n"),
+        } => writeln!(out, "collect {bucket} again {worker} {first} {second}"),
+        Event::CollectCut { bucket } => writeln!(out, "collect {bucket} cut"),
         Event::TidyCut { table, key } => push_tidy_cut(out, tables, *table, *key),
         Event::TailCut => out.push_str("tail cut\n"),
-        Event::Finished { how } => write!(out, "medic {}\n", finish(*how)),
+        Event::Finished { how } => writeln!(out, "medic {}", finish(*how)),
     }
 }
 

@@ -13,8 +13,12 @@ use std::fmt::Write;
 fn push_commit(out: &mut String, place: usize, entry: &CommitLine) -> Result<(), AllocError>
     ensures { OnOk result (string_bytes out.new ≡ string_bytes out.old ++ commit_line place entry.now) }
 {
-    write!(out, "c {place} worker {} number {}", entry.worker, entry.number)?;
-    write!(out, " prefix {} txn {}\n", entry.prefix, entry.txn)
+    write!(
+        out,
+        "c {place} worker {} number {}",
+        entry.worker, entry.number
+    )?;
+    writeln!(out, " prefix {} txn {}", entry.prefix, entry.txn)
 }
 
 /// Appends an entry and its write set.
@@ -52,6 +56,6 @@ pub fn push_history(
 ) -> Result<(), AllocError>
     ensures { OnOk result (string_bytes out.new ≡ string_bytes out.old ++ history_text tables.now history.now) }
 {
-    write!(out, "history {}\n", history.len())?;
+    writeln!(out, "history {}", history.len())?;
     push_entries(out, tables, history)
 }

@@ -10,5 +10,7 @@ mod history;
 mod item;
 mod log;
 mod report;
+#[cfg(test)]
+mod tests;
 
 pub use report::report_text;

@@ -33,7 +33,7 @@ fn push_log(out: &mut String, tables: &[Table], worker: usize, log: &Log) -> Res
     requires { CountsFit log.now }
     ensures { OnOk result (string_bytes out.new ≡ string_bytes out.old ++ log_text tables.now worker log.now) }
 {
-    write!(out, "worker {worker} events {}\n", log.events.len())?;
+    writeln!(out, "worker {worker} events {}", log.events.len())?;
     push_events(out, tables, log)
 }
 

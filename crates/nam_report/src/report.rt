@@ -16,11 +16,7 @@ use std::alloc::{AllocError, Global};
 /// # Errors
 ///
 /// Where memory is not found.
-pub fn report_text(
-    alloc: Global,
-    script: &Script,
-    report: &Report,
-) -> Result<Vec<u8>, AllocError>
+pub fn report_text(alloc: Global, script: &Script, report: &Report) -> Result<Vec<u8>, AllocError>
     requires { FitsScript script.now report.now }
     ensures { IfOk result (λ text. text.items ≡ report_text script.now.shape.tables report.now) }
 {

@@ -27,6 +27,10 @@ pub record SinkState : Type 0 where
 abbrev pub write_count : SinkState → ℕ → ℕ
 write_count sink given = min (min given sink.piece) (sink.room - length sink.taken)
 
--- the sink after a call that took n of these bytes: to take none is a fault
+-- the calls after one that took n bytes: to take none is a fault
+abbrev pub after_taking : Calls → ℕ → Calls
+after_taking calls n = if n == 0 then after_fault calls else after_call calls
+
+-- the sink after a call that took n of these bytes
 abbrev pub after_write : SinkState → ℕ → List ℕ → SinkState
-after_write sink n bytes = record sink { taken = sink.taken ++ take n bytes; calls = (if n == 0 then after_fault sink.calls else after_call sink.calls) }
+after_write sink n bytes = record sink { taken = sink.taken ++ take n bytes; calls = after_taking sink.calls n }

@@ -58,7 +58,8 @@ impl MemSink {
 
     /// What was taken.
     pub fn bytes(&self) -> &[u8]
-        ensures { result.now ≡ self.now.taken }
+        ensures value { result.now ≡ self.now.taken }
+        ensures fits { length result.now ≤ self.now.room }
     {
         self.bytes.as_slice()
     }
@@ -86,6 +87,7 @@ impl Sink for MemSink {
             self.calls.raise();
             return Ok(0);
         }
+        // The room is reserved.
         self.bytes.extend_from_slice(&from[..count]).unwrap();
         Ok(count)
     }

@@ -46,7 +46,8 @@ impl<W: Write> Sink for StdSink<W> {
         requires { 0 < length from.now }
         ensures within { WritesAtMost result from.now }
         ensures passes { WriteAppends (W.contents self.old.stream) (W.contents self.new.stream) result from.now }
-        ensures ok { IfOk result (λ n. self.new.faults ≡ (if n == 0 then one_more self.old.faults else self.old.faults)) }
+        ensures ok { IfOk result (λ n.
+            self.new.faults ≡ (if n == 0 then one_more self.old.faults else self.old.faults)) }
         ensures err { OnErr result (self.new.faults ≡ one_more self.old.faults) }
         ensures counted { self.old.faults ≤ self.new.faults }
     {

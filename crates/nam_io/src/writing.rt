@@ -8,7 +8,8 @@ ghost use Rattle.nam_io.specs.Told.{AppendsFront};
 use crate::failed::Failed;
 use crate::sink::Sink;
 
-/// Writes all of the bytes. A write of 0 bytes ends it as a fault does; then a front of the bytes went out.
+/// Writes all of the bytes. It ends with `Failed` where the sink fails or takes 0 bytes; then a front of them went
+/// out.
 pub fn write_all<K: Sink>(sink: &mut K, bytes: &[u8]) -> Result<(), Failed>
     ensures all { OnOk result (Appends (K.taken sink.old) (K.taken sink.new) bytes.now) }
     ensures front { OnErr result (AppendsFront (K.taken sink.old) (K.taken sink.new) bytes.now) }

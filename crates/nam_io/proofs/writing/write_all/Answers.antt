@@ -1,4 +1,4 @@
-use Rattle.std.proofs.Common.{arith, rules}
+use Rattle.std.proofs.Common.{arith}
 use Rattle.std.proofs.lemmas.List.{take_rest}
 use Rattle.nam_io.proofs.ToldLemmas.{AppendsBefore-more}
 use Rattle.nam_io.proofs.writing.write_all.Goals as goal

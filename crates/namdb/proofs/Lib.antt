@@ -2,3 +2,4 @@ mod HistoryLemmas
 mod SerialLemmas
 mod SerialRunLemmas
 mod WholeRunLemmas
+mod EvaluateLemmas

@@ -1,4 +1,7 @@
 //! The program `namdb`.
 #![tactic(auto)]
 
+mod evaluate;
+mod stamps;
+
 fn main() {}

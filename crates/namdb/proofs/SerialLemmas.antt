@@ -3,7 +3,7 @@ use Rattle.std.proofs.Common.{◌≡◌, ℕ, ◌+◌, ◌≤◌, Bool, true, fa
 use Rattle.std.specs.Prelude.{◌==◌, unwrap_or}
 use Rattle.std.specs.List.{AllByRecursion}
 use Rattle.std.proofs.Math.Seq.{take-length, drop-length, take-append_seam}
-use Rattle.std.proofs.lemmas.Bool.{eqb-true}
+use Rattle.std.proofs.lemmas.Bool.{eqb-true, eqb-false}
 use Rattle.si_model.specs.declared.row.Key.{Key}
 use Rattle.si_model.specs.declared.row.Item.{Item}
 use Rattle.si_model.specs.declared.log.Outcome.{Outcome}
@@ -34,21 +34,30 @@ pub listed_middle : {A : Type 0} (xs ys : List A) (x : A) → Listed x (xs ++ x 
 listed_middle [] ys x = inl refl
 listed_middle (z ∷ xs) ys x = inr (listed_middle xs ys x)
 
-spent_or_committed : (P : Outcome → Type 0) (greatest last : ℕ) (b : Bool) → (last == greatest) ≡ b → (last ≡ greatest → P Spent) → P (Commit (last + 1)) → P (cond b Spent (Commit (last + 1)))
+spent_or_committed : (P : Outcome → Type 0) (greatest last : ℕ) (b : Bool) → (last == greatest) ≡ b → (last ≡ greatest → P Spent) → ((last ≡ greatest → ⊥) → P (Commit (last + 1))) → P (cond b Spent (Commit (last + 1)))
 spent_or_committed P greatest last true e spent commit = spent (eqb-true last greatest e)
-spent_or_committed P greatest last false e spent commit = commit
+spent_or_committed P greatest last false e spent commit = commit (eqb-false last greatest e)
 
 -- an attempt is declined, reads only, has no number left, or commits
+pub by_ending : (P : Evaluated → Outcome → Type 0) (greatest last : ℕ) (e : Evaluated) →
+    ((op : ℕ) (reads : List Item) → P (Declined op reads) (outcome_of greatest last (Declined op reads))) →
+    ((reads : List Item) (guards : List Key) → P (Done reads [] guards) (outcome_of greatest last (Done reads [] guards))) →
+    ((reads ws : List Item) (w : Item) (guards : List Key) → last ≡ greatest → P (Done reads (w ∷ ws) guards) Spent) →
+    ((reads ws : List Item) (w : Item) (guards : List Key) → (last ≡ greatest → ⊥) → P (Done reads (w ∷ ws) guards) (Commit (last + 1))) →
+    P e (outcome_of greatest last e)
+by_ending P greatest last (Declined op reads) declined read spent commit = declined op reads
+by_ending P greatest last (Done reads [] guards) declined read spent commit = read reads guards
+by_ending P greatest last (Done reads (w ∷ ws) guards) declined read spent commit =
+    spent_or_committed (P (Done reads (w ∷ ws) guards)) greatest last (last == greatest) refl (spent reads ws w guards) (commit reads ws w guards)
+
+-- the same where it doesn't matter that a number is left
 pub by_outcome : (P : Evaluated → Outcome → Type 0) (greatest last : ℕ) (e : Evaluated) →
     ((op : ℕ) (reads : List Item) → P (Declined op reads) (outcome_of greatest last (Declined op reads))) →
     ((reads : List Item) (guards : List Key) → P (Done reads [] guards) (outcome_of greatest last (Done reads [] guards))) →
     ((reads ws : List Item) (w : Item) (guards : List Key) → last ≡ greatest → P (Done reads (w ∷ ws) guards) Spent) →
     ((reads ws : List Item) (w : Item) (guards : List Key) → P (Done reads (w ∷ ws) guards) (Commit (last + 1))) →
     P e (outcome_of greatest last e)
-by_outcome P greatest last (Declined op reads) declined read spent commit = declined op reads
-by_outcome P greatest last (Done reads [] guards) declined read spent commit = read reads guards
-by_outcome P greatest last (Done reads (w ∷ ws) guards) declined read spent commit =
-    spent_or_committed (P (Done reads (w ∷ ws) guards)) greatest last (last == greatest) refl (spent reads ws w guards) (commit reads ws w guards)
+by_outcome P greatest last e declined read spent commit = by_ending P greatest last e declined read spent (λ reads ws w guards left. commit reads ws w guards)
 
 last_number-append : (n : ℕ) (ts : List Tell) (t : Tell) → last_number n (ts ++ t ∷ []) ≡ unwrap_or (commit_in t.event) (last_number n ts)
 last_number-append n [] t = refl

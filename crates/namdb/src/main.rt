@@ -3,5 +3,6 @@
 
 mod evaluate;
 mod stamps;
+mod store;
 
 fn main() {}

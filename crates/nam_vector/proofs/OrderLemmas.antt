@@ -24,6 +24,7 @@ module _ (workers : ℕ) where
   IsAfter n (At (Second seen at)) = (n ≡ workers + at) × (length seen ≡ workers) × (at < workers)
   IsAfter n (Over end) = n ≤ workers + workers
 
+  -- one more word is taken
   one_word : (n : ℕ) (place : SnapPlace) (word : ℕ) → IsAfter n (At place) → IsAfter (n + 1) (after_word workers place word)
   one_word n (First got) word is =
       let long = length-append got (word ∷ []) in
@@ -37,6 +38,7 @@ module _ (workers : ℕ) where
       (λ more. (omega arith, is.1, omega arith)))
       (λ other. omega arith)
 
+  -- all words are taken
   all_words : (n : ℕ) (state : Now SnapPlace SnapEnd) (words : List ℕ) → IsAfter n state → Takes next_verb after_found (record { workers = workers; state = state }) words
       → IsAfter (n + length words) (after_words after_found (record { workers = workers; state = state }) words).state
   all_words n state [] is takes = let same : n ≡ n + length {A = ℕ} [] = omega arith in subst (λ n. IsAfter n state) same is
@@ -49,11 +51,13 @@ module _ (workers : ℕ) where
   pub stands_after : 1 ≤ workers → (words : List ℕ) → SnapTakes workers words → IsAfter (length words) (after_words after_found (snapping workers) words).state
   stands_after least words takes = rw zero-add at (all_words 0 (At begin) words (refl, least) takes)
 
+  -- no snapshot takes more than two words for each entry
   pub is_bounded : (n : ℕ) (state : Now SnapPlace SnapEnd) → IsAfter n state → n ≤ 2 * workers
   is_bounded n (At (First got)) is = omega arith
   is_bounded n (At (Second seen at)) is = omega arith
   is_bounded n (Over end) is = omega arith
 
+  -- the verb that stands reads the next entry
   pub reads_next : (n : ℕ) (state : Now SnapPlace SnapEnd) → IsAfter n state → IfSome (verb_now verb_at state) (λ verb. verb ≡ Read (n % workers))
   reads_next n (At (First got)) is = ap Read (is.0 ∙ sym (mod-eq_of_lt is.1))
   reads_next n (At (Second seen at)) is = ap Read (sym (rw is.0 (add-mod_left workers at) ∙ mod-eq_of_lt is.2))

@@ -22,9 +22,11 @@ module _ (workers : ℕ) (words : List ℕ) (within : workers ≤ length words) 
   abbrev IsDoneFrom : ℕ → Now SnapPlace SnapEnd → Type 0
   IsDoneFrom fuel state = driven next_verb after_found fuel (snap_at state) words ≡ (snap_at (Over (Done (take workers words))), words)
 
+  -- a snapshot that is done stays so
   is_done : (fuel : ℕ) (seen : List ℕ) → seen ≡ take workers words → IsDoneFrom fuel (Over (Done seen))
   is_done fuel seen entries = rw entries (driven-none next_verb after_found fuel (snap_at (Over (Done (take workers words)))) words refl)
 
+  -- the second pass finds every entry again
   second_is_done : (fuel : ℕ) (seen : List ℕ) (at : ℕ) → seen ≡ take workers words → at < workers → workers - at ≤ fuel → IsDoneFrom fuel (At (Second seen at))
   second_is_done zero seen at entries some enough = absurd (omega arith)
   second_is_done (suc fuel) seen at entries some enough =
@@ -34,6 +36,7 @@ module _ (workers : ℕ) (words : List ℕ) (within : workers ≤ length words) 
       (λ more. second_is_done fuel seen (at + 1) entries (omega arith) (omega arith)))
       (λ other. absurd (other (rw entries (sym (get_or-take workers words at 0 some)))))
 
+  -- the first pass gets the front of the vector, word after word
   first_is_done : (fuel : ℕ) (got : List ℕ) → got ≡ take (length got) words → length got < workers → workers + (workers - length got) ≤ fuel → IsDoneFrom fuel (At (First got))
   first_is_done zero got front some enough = absurd (omega arith)
   first_is_done (suc fuel) got front some enough =

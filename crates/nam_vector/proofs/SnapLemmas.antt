@@ -39,7 +39,7 @@ abbrev Ends : ℕ → List ℕ → SnapEnd → Type 0
 Ends workers words (Done seen) = BothPassesFound workers words seen
 Ends workers words (Again worker first second) = EntryDiffers workers words worker first second
 
--- the last entry, and those before the last, are found again
+-- one more entry is found again before the rest
 one_more : (seen entries : List ℕ) (at entry word : ℕ) (words : List ℕ) (end : SnapEnd) → word ≡ entry → SecondEnds seen entries (at + 1) words end → SecondEnds seen (entry ∷ entries) at (word ∷ words) end
 one_more seen entries at entry word words (Done result) same later = (later.0, cc)
 one_more seen entries at entry word words (Again worker first second) same later = record {
@@ -51,6 +51,7 @@ one_more seen entries at entry word words (Again worker first second) same later
   differs = later.differs;
 }
 
+-- the rest, after an entry that is found again
 one_less : (seen entries : List ℕ) (at entry word : ℕ) (words : List ℕ) (end : SnapEnd) → word ≡ entry → SecondEnds seen (entry ∷ entries) at (word ∷ words) end → SecondEnds seen entries (at + 1) words end
 one_less seen entries at entry word words (Done result) same ends = (ends.0, cc (ends.1))
 one_less seen entries at entry word words (Again worker first second) same ends =
@@ -101,6 +102,7 @@ module _ (workers : ℕ) where
   over_is over [] end ends = let is = ends.1 in (cc, refl)
   over_is over (word ∷ words) end ends = let none = ends.0.0 in absurd (cc)
 
+  -- a snapshot that is over ends with no further word
   is_over : (over : SnapEnd) (words : List ℕ) (end : SnapEnd) → over ≡ end → words ≡ [] → EndsFrom (Over over) words end
   is_over over [] end is none = (tt, ap Some is)
   is_over over (word ∷ words) end is none = absurd (cc)
@@ -124,6 +126,7 @@ module _ (workers : ℕ) where
       (record { same = []; later = entries; before = refl; passed = ap (λ ws. word ∷ ws) is.1; place = omega arith; differs = λ eq. other (sym eq) }))
       (ends.0.1, ends.1))
 
+  -- the words by which the second pass ends so
   second_ends_by : (seen : List ℕ) (at : ℕ) (words : List ℕ) (end : SnapEnd) → length seen ≡ workers → at < workers → SecondEnds seen (drop at seen) at words end → EndsFrom (At (Second seen at)) words end
   second_ends_by seen at [] end long within ends = absurd (nothing_ends seen (slice_index seen at) (drop (at + 1) seen) at end (rw (drop_more seen at 0 (omega arith)) at ends))
   second_ends_by seen at (word ∷ words) end long within ends =
@@ -151,6 +154,7 @@ module _ (workers : ℕ) where
     differs = ends.differs;
   }
 
+  -- the second pass, after a pass over the whole vector
   pass_is_whole : (seen words : List ℕ) (end : SnapEnd) → length seen ≡ workers → Ends workers (seen ++ words) end → SecondEnds seen seen 0 words end
   pass_is_whole seen words (Done result) long ends =
       let is = halves workers seen words result result long ends.whole ends.passes in (sym is.0, is.1 ∙ sym is.0)
@@ -164,6 +168,7 @@ module _ (workers : ℕ) where
         differs = ends.differs;
       }
 
+  -- fewer words than entries end nothing
   too_few : (words : List ℕ) (end : SnapEnd) → length words < workers → Ends workers words end → ⊥
   too_few words (Done result) few ends = omega (arith, ends.whole, ap length ends.passes ∙ length-append result result)
   too_few words (Again worker first second) few ends =
@@ -181,6 +186,7 @@ module _ (workers : ℕ) where
       (λ more goes. first_ends words seen end (omega arith) goes)
       (ends.0.1, ends.1))
 
+  -- the words by which a first pass that has got these entries ends so
   pub first_ends_by : (words got : List ℕ) (end : SnapEnd) → length got < workers → Ends workers (got ++ words) end → EndsFrom (At (First got)) words end
   first_ends_by [] got end within ends = absurd (too_few got end within (rw append-nil at ends))
   first_ends_by (word ∷ words) got end within ends =

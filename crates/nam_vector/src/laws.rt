@@ -22,7 +22,7 @@ pub fn again_law()
     ensures rises { RiseLaw }
 {}
 
-/// A number is published exactly where one verb was done.
+/// A number is published exactly where one word was found, by its one write.
 pub fn publish_law()
     ensures { PublishLaw }
 {}

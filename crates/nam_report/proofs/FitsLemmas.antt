@@ -1,12 +1,12 @@
 -- Logs fit as they grow.
-use Rattle.std.proofs.Common.{◌≡◌, ◌+◌, ℕ, List, [], ◌∷◌, ◌++◌, length, refl, sym, ap, ◌∙◌, arith, length-append}
+use Rattle.std.proofs.Common.{◌≡◌, ◌+◌, ℕ, List, [], ◌∷◌, ◌++◌, length, arith, length-append}
 use Rattle.std.specs.List.{AllByRecursion}
 use Rattle.si_model.specs.declared.row.Item.{Item}
 use Rattle.si_model.specs.declared.log.Lock.{Lock}
 use Rattle.si_model.specs.declared.log.Event.{Event}
 use Rattle.si_model.specs.declared.log.Log.{Log}
 use Rattle.nam_report.specs.Text.{reads_of, locks_of}
-use Rattle.nam_report.specs.Fits.{ItemFits, LockFits, EventFits, total, CountsFit, LogFits}
+use Rattle.nam_report.specs.Fits.{ItemFits, LockFits, EventFits, total, LogFits}
 
 pub total-append : (owned : Event → ℕ) (es : List Event) (e : Event) → total owned (es ++ e ∷ []) ≡ total owned es + owned e
 total-append owned [] e = omega arith

@@ -31,7 +31,7 @@ pub fn locks_of(event: &Event) -> u32
     }
 }
 
-fn move_end(how: MoveEnd) -> &'static str
+fn move_end_word(how: MoveEnd) -> &'static str
     ensures { result.now ≡ move_end_text how }
 {
     match how {
@@ -41,7 +41,7 @@ fn move_end(how: MoveEnd) -> &'static str
     }
 }
 
-fn finish(how: Finish) -> &'static str
+fn finish_word(how: Finish) -> &'static str
     ensures { result.now ≡ finish_text how }
 {
     match how {
@@ -51,7 +51,7 @@ fn finish(how: Finish) -> &'static str
     }
 }
 
-fn collect_end(cut: bool) -> &'static str
+fn collect_end_word(cut: bool) -> &'static str
     ensures { result.now ≡ collect_end_text cut }
 {
     if cut { "cut" } else { "done" }
@@ -69,7 +69,7 @@ fn push_move(
 {
     write!(out, "move {bucket}")?;
     push_lock(out, tables, moved)?;
-    writeln!(out, " {}", move_end(how))
+    writeln!(out, " {}", move_end_word(how))
 }
 
 /// Appends the line of a collect that got a snapshot.
@@ -84,7 +84,7 @@ fn push_collect(
 {
     write!(out, "collect {bucket} prefix {prefix}")?;
     push_words(out, entries)?;
-    writeln!(out, " {}", collect_end(cut))
+    writeln!(out, " {}", collect_end_word(cut))
 }
 
 fn push_tidy_cut(out: &mut String, tables: &[Table], table: u32, key: u64) -> Result<(), AllocError>
@@ -131,7 +131,7 @@ fn push_line(out: &mut String, tables: &[Table], event: &Event) -> Result<(), Al
         Event::CollectCut { bucket } => writeln!(out, "collect {bucket} cut"),
         Event::TidyCut { table, key } => push_tidy_cut(out, tables, *table, *key),
         Event::TailCut => out.push_str("tail cut\n"),
-        Event::Finished { how } => writeln!(out, "medic {}", finish(*how)),
+        Event::Finished { how } => writeln!(out, "medic {}", finish_word(*how)),
     }
 }
 

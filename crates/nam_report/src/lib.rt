@@ -1,6 +1,6 @@
 //! The text of a report.
 //!
-//! A report that fits its script has one text, line by line, and `report_text` gives exactly that.
+//! A report that fits its script, in its tables, widths and counts, has one text. `report_text` gives exactly that.
 #![tactic(auto)]
 
 mod attempt;

@@ -11,11 +11,13 @@ use nam_script::Script;
 use si_model::Report;
 use std::alloc::{AllocError, Global};
 
-/// The text of a report on a run of the script.
+/// The text of a report on a run of the script: the history with each entry's writes, each worker's events with the
+/// reads and locks of its attempts, and the audit. Each line ends with a newline, its fields are parted by one space,
+/// numbers are decimal, tables go by their names, and what is absent is a dash.
 ///
 /// # Errors
 ///
-/// Where memory is not found.
+/// Only where memory is not found.
 pub fn report_text(alloc: Global, script: &Script, report: &Report) -> Result<Vec<u8>, AllocError>
     requires { FitsScript script.now report.now }
     ensures { IfOk result (λ text. text.items ≡ report_text script.now.shape.tables report.now) }

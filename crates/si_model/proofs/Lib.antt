@@ -1,1 +1,11 @@
-mod TransferExample
+pub mod ExampleWords
+pub mod TransferExample
+pub mod FirstCommitterWinsExample
+pub mod WriteSkewExample
+pub mod SnapshotAgainExample
+pub mod DeclinedExample
+pub mod GuardForbidsSkewExample
+pub mod ReaderTooOldExample
+pub mod RangeLemmas
+pub mod ScanWithOwnWritesExample
+pub mod NotRunsExample

@@ -2,5 +2,14 @@ pub mod EvaluationLemmas
 pub mod HeldLemmas
 pub mod RangeLemmas
 pub mod StepLemmas
-mod TransferExample
 pub mod WriteLemmas
+mod ExampleWords
+mod TransferExample
+mod FirstCommitterWinsExample
+mod WriteSkewExample
+mod SnapshotAgainExample
+mod DeclinedExample
+mod GuardForbidsSkewExample
+mod ReaderTooOldExample
+mod ScanWithOwnWritesExample
+mod NotRunsExample

@@ -3,3 +3,4 @@ mod SerialLemmas
 mod SerialRunLemmas
 mod WholeRunLemmas
 mod EvaluateLemmas
+mod StoreLemmas

@@ -17,13 +17,3 @@ pub record IsStore (s : Setting) (store : Store) : Type 0 where
   pub rows : (key : Key) → rows_held store.rows key ≡ state_at (rows_of s.rows) store.history key
   pub stamps : (key : Key) → stamp_held store.stamps key ≡ newest_writer key store.history
   pub numbers : (j : ℕ) → s.start + count_of j store.history ≤ s.greatest
-
--- the log with one event more
-abbrev pub log_with : Log → Tell → Log
-log_with log t = record {
-  events = log.events ++ t.event ∷ [];
-  reads = log.reads ++ t.reads;
-  locks = log.locks ++ t.locks;
-  writes = log.writes ++ t.writes;
-  snaps = log.snaps ++ t.snap ∷ [];
-}

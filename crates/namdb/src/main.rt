@@ -1,6 +1,7 @@
 //! The program `namdb`.
 #![tactic(auto)]
 
+mod attempt;
 mod evaluate;
 mod stamps;
 mod store;

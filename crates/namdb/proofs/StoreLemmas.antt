@@ -1,6 +1,6 @@
 -- What a store holds after an attempt.
-use Rattle.std.proofs.Common.{◌≡◌, ℕ, zero, suc, ◌+◌, ◌-◌, ◌<◌, ◌≤◌, Bool, true, false, cond, List, [], ◌∷◌, ◌++◌, length, map, refl, ap, sym, ◌∙◌, subst, arith, append-nil, append_assoc, add-zero}
-use Rattle.std.specs.Prelude.{slice_set, slice_index, if◌then◌else◌, replicate}
+use Rattle.std.proofs.Common.{◌≡◌, ℕ, zero, suc, ◌+◌, ◌-◌, ◌<◌, ◌≤◌, Bool, true, false, cond, List, [], ◌∷◌, ◌++◌, length, map, refl, ap, sym, ◌∙◌, subst, arith, append-nil, append_assoc, add-zero, inl, inr}
+use Rattle.std.specs.Prelude.{slice_set, slice_index, if◌then◌else◌, replicate, ◌==◌}
 use Rattle.std.specs.List.{flat_map}
 use Rattle.std.specs.BTreeMap.{BTreeMap}
 use Rattle.si_model.specs.declared.row.Key.{Key}
@@ -8,12 +8,20 @@ use Rattle.si_model.specs.declared.row.Item.{Item}
 use Rattle.si_model.specs.declared.log.Stamp.{Stamp}
 use Rattle.si_model.specs.declared.log.Log.{Log}
 use Rattle.si_model.specs.declared.report.CommitLine.{CommitLine}
-use Rattle.si_model.specs.Rows.{Rows, same_key, item_key, writes_key, overlay}
+use Rattle.std.proofs.lemmas.Bool.{cases_Bool, eqb-true, eqb-false}
+use Rattle.si_model.specs.declared.evaluated.Evaluated.{Evaluated}
+use Rattle.si_model.specs.Committed.{rows_held}
+use Rattle.si_model.specs.Setting.{Setting}
+use Rattle.si_model.specs.Rows.{Rows, rows_of, same_key, item_key, writes_key, overlay}
 use Rattle.si_model.specs.State.{state_at}
-use Rattle.si_model.specs.History.{count_of, entries_from, entries_at, newest_from, newest_writer, stamp_of, keys_of}
+use Rattle.si_model.specs.History.{count_of, entries_from, entries_at, newest_from, newest_writer, stamp_of, stamp_at, loader, keys_of}
 use Rattle.si_model.specs.Tells.{Tell}
 use Rattle.namdb.specs.Stamps.{lock_held, stamp_held}
-use Rattle.namdb.specs.Serial.{lock_on}
+use Rattle.namdb.specs.declared.store.Store.{Store}
+use Rattle.namdb.specs.Store.{IsStore}
+use Rattle.namdb.specs.Serial.{lock_on, writes_by, entry_by, vector_by, number_by, evaluated_after, outcome_after, entry_after}
+use Rattle.namdb.proofs.HistoryLemmas.{entries_at-own, count_of-own, count_of-other}
+use Rattle.namdb.proofs.SerialLemmas.{by_outcome, by_ending}
 
 -- the locks of a write set, and then of guards
 pub locked_keys : (stamps : BTreeMap Key Stamp) (ws : List Item) (gs : List Key) → map (λ i. lock_held stamps (item_key i)) ws ++ map (lock_held stamps) gs ≡ map (lock_held stamps) (keys_of ws gs)
@@ -58,3 +66,69 @@ entries_at-none (suc n) i start = ap (λ ns. (start + 0) ∷ ns) (entries_at-non
 pub map_locks : (stamps : BTreeMap Key Stamp) (es : List CommitLine) (keys : List Key) → ((key : Key) → stamp_held stamps key ≡ newest_writer key es) → map (lock_held stamps) keys ≡ map (lock_on es) keys
 map_locks stamps es [] same = refl
 map_locks stamps es (key ∷ keys) same = ap (λ s. record { table = key.table; key = key.key; stamp = s } ∷ map (lock_held stamps) keys) (same key) ∙ ap (λ ls. lock_on es key ∷ ls) (map_locks stamps es keys same)
+
+module _ (s : Setting) (j : ℕ) (history : List CommitLine) (x : ℕ) where
+  abbrev evaluated : Evaluated
+  evaluated = evaluated_after s j history x
+
+  abbrev line : List Item → CommitLine
+  line ws = record { worker = j; number = s.start + count_of j history + 1; prefix = length history; txn = x; writes = ws }
+
+  -- the vector has the published numbers
+  vector_after : 1 ≤ j → j ≤ s.workers → vector_by j (outcome_after s j history x) (entries_at s.workers s.start history) ≡ entries_at s.workers s.start (history ++ entry_after s j history x)
+  vector_after low high =
+      let same = ap (entries_at s.workers s.start) (sym (append-nil history)) in
+      by_outcome (λ e o. vector_by j o (entries_at s.workers s.start history) ≡ entries_at s.workers s.start (history ++ entry_by j x (length history) (writes_by e o) o)) s.greatest (s.start + count_of j history) evaluated
+      (λ op reads. same)
+      (λ reads guards. same)
+      (λ reads ws w guards l. same)
+      (λ reads ws w guards. entries_at-own s.workers s.start history (line (w ∷ ws)) low high)
+
+  -- the rows are the state
+  rows_after : (rows : Rows) → ((key : Key) → rows key ≡ state_at (rows_of s.rows) history key) → (key : Key) → overlay (writes_by evaluated (outcome_after s j history x)) rows key ≡ state_at (rows_of s.rows) (history ++ entry_after s j history x) key
+  rows_after rows held key =
+      let same = held key ∙ ap (λ h. state_at (rows_of s.rows) h key) (sym (append-nil history)) in
+      by_outcome (λ e o. overlay (writes_by e o) rows key ≡ state_at (rows_of s.rows) (history ++ entry_by j x (length history) (writes_by e o) o) key) s.greatest (s.start + count_of j history) evaluated
+      (λ op reads. same)
+      (λ reads guards. same)
+      (λ reads ws w guards l. same)
+      (λ reads ws w guards. overlay_at (w ∷ ws) rows (state_at (rows_of s.rows) history) key (held key) ∙ ap (λ f. f key) (sym (state_more (rows_of s.rows) history (line (w ∷ ws)))))
+
+  -- the stamps are the newest writers'
+  stamps_after : (stamps : Key → Stamp) → ((key : Key) → stamps key ≡ newest_writer key history) → (key : Key) →
+      (if writes_key (writes_by evaluated (outcome_after s j history x)) key then stamp_at j (number_by (outcome_after s j history x)) else stamps key) ≡ newest_writer key (history ++ entry_after s j history x)
+  stamps_after stamps held key =
+      let same = held key ∙ ap (newest_writer key) (sym (append-nil history)) in
+      by_outcome (λ e o. (if writes_key (writes_by e o) key then stamp_at j (number_by o) else stamps key) ≡ newest_writer key (history ++ entry_by j x (length history) (writes_by e o) o)) s.greatest (s.start + count_of j history) evaluated
+      (λ op reads. same)
+      (λ reads guards. same)
+      (λ reads ws w guards l. same)
+      (λ reads ws w guards. ap (λ z. cond (writes_key (w ∷ ws) key) (stamp_at j (s.start + count_of j history + 1)) z) (held key) ∙ sym (newest_more loader key history (line (w ∷ ws))))
+
+  -- no number is above the greatest
+  numbers_after : ((i : ℕ) → s.start + count_of i history ≤ s.greatest) → (i : ℕ) → s.start + count_of i (history ++ entry_after s j history x) ≤ s.greatest
+  numbers_after within i =
+      let same = subst (λ h. s.start + count_of i h ≤ s.greatest) (sym (append-nil history)) (within i) in
+      by_ending (λ e o. s.start + count_of i (history ++ entry_by j x (length history) (writes_by e o) o) ≤ s.greatest) s.greatest (s.start + count_of j history) evaluated
+      (λ op reads. same)
+      (λ reads guards. same)
+      (λ reads ws w guards l. same)
+      (λ reads ws w guards left.
+      elim (cases_Bool (i == j)) [
+        | inl e ↦ let own = eqb-true i j e in omega (arith, count_of-own j history (line (w ∷ ws)) refl, ap (λ k. count_of k (history ++ line (w ∷ ws) ∷ [])) own, ap (λ k. count_of k history) own, within j, left)
+        | inr e ↦ omega (arith, count_of-other i history (line (w ∷ ws)) (λ q. eqb-false i j e (sym q)), within i)
+      ])
+
+  -- what a store holds after the attempt
+  pub store_after : (old new : Store) → old.history ≡ history → IsStore s old → 1 ≤ j → j ≤ s.workers →
+      new.history ≡ history ++ entry_after s j history x →
+      new.vector ≡ vector_by j (outcome_after s j history x) old.vector →
+      ((key : Key) → rows_held new.rows key ≡ overlay (writes_by evaluated (outcome_after s j history x)) (rows_held old.rows) key) →
+      ((key : Key) → stamp_held new.stamps key ≡ (if writes_key (writes_by evaluated (outcome_after s j history x)) key then stamp_at j (number_by (outcome_after s j history x)) else stamp_held old.stamps key)) →
+      IsStore s new
+  store_after old new is store low high grown vector rows stamps = record {
+    vector = vector ∙ ap (vector_by j (outcome_after s j history x)) (store.vector ∙ ap (entries_at s.workers s.start) is) ∙ vector_after low high ∙ ap (entries_at s.workers s.start) (sym grown);
+    rows = λ key. rows key ∙ rows_after (rows_held old.rows) (λ k. store.rows k ∙ ap (λ h. state_at (rows_of s.rows) h k) is) key ∙ ap (λ h. state_at (rows_of s.rows) h key) (sym grown);
+    stamps = λ key. stamps key ∙ stamps_after (stamp_held old.stamps) (λ k. store.stamps k ∙ ap (newest_writer k) is) key ∙ ap (newest_writer key) (sym grown);
+    numbers = λ i. subst (λ h. s.start + count_of i h ≤ s.greatest) (sym grown) (numbers_after (λ k. subst (λ h. s.start + count_of k h ≤ s.greatest) is (store.numbers k)) i);
+  }

@@ -5,7 +5,7 @@ ghost use Rattle.std.specs.List.{AllByRecursion};
 ghost use Rattle.si_model.specs.declared.row.Key.{Key};
 ghost use Rattle.si_model.specs.Rows.{writes_key, overlay};
 ghost use Rattle.si_model.specs.Committed.{rows_held};
-ghost use Rattle.si_model.specs.Evaluation.{evaluation_of, OpFits, AreWide};
+ghost use Rattle.si_model.specs.Evaluation.{evaluation_of, reads_of, OpFits, AreWide};
 ghost use Rattle.si_model.specs.History.{stamp_at};
 ghost use Rattle.nam_script.specs.Limits.{is_plain};
 ghost use Rattle.namdb.specs.Stamps.{stamp_held, lock_held};
@@ -103,4 +103,65 @@ fn end_done(
         writes,
         seen,
     )
+}
+
+/// What is the same for all attempts of a run.
+#[derive(Drop)]
+pub struct Plan {
+    pub workers: u32,
+    pub greatest: u64,
+    pub widths: Vec<u32>,
+}
+
+/// A worker's one attempt at a transaction: a snapshot, the evaluation on the committed rows, and the commit.
+pub fn attempt(
+    alloc: Global,
+    plan: &Plan,
+    store: &mut Store,
+    log: &mut Log,
+    worker: u32,
+    txn: u32,
+    ops: &[Op],
+) -> Result<(), AllocError>
+    requires worker { (1 ≤ worker) × (worker ≤ plan.now.workers) × (plan.now.workers ≤ 16) }
+    requires vector { length store.old.vector ≡ plan.now.workers }
+    requires number { slice_index store.old.vector (worker - 1) ≤ plan.now.greatest }
+    requires plain { AllByRecursion (λ op. IsTrue (is_plain op)) ops.now }
+    requires fit { AllByRecursion (OpFits plan.now.widths.items) ops.now }
+    requires wide { AreWide plan.now.widths.items (rows_held store.old.rows) }
+    requires short { length ops.now < 2 ^ 32 }
+    ensures log { let e = evaluation_of plan.now.widths.items (rows_held store.old.rows) ops.now in let o = outcome_of plan.now.greatest (slice_index store.old.vector (worker - 1)) e in let locks = locks_with (lock_held store.old.stamps) e o in OnOk result (log.new ≡ log_with log.old (Event.Tried (attempt_by txn (length store.old.history) e locks o)) (reads_of e) locks (writes_by e o) store.old.vector) }
+    ensures history { let e = evaluation_of plan.now.widths.items (rows_held store.old.rows) ops.now in let o = outcome_of plan.now.greatest (slice_index store.old.vector (worker - 1)) e in OnOk result (store.new.history ≡ store.old.history ++ entry_by worker txn (length store.old.history) (writes_by e o) o) }
+    ensures vector { let e = evaluation_of plan.now.widths.items (rows_held store.old.rows) ops.now in let o = outcome_of plan.now.greatest (slice_index store.old.vector (worker - 1)) e in OnOk result (store.new.vector ≡ vector_by worker o store.old.vector) }
+    ensures rows { let e = evaluation_of plan.now.widths.items (rows_held store.old.rows) ops.now in let o = outcome_of plan.now.greatest (slice_index store.old.vector (worker - 1)) e in OnOk result ((key : Key) → rows_held store.new.rows key ≡ overlay (writes_by e o) (rows_held store.old.rows) key) }
+    ensures stamps { let e = evaluation_of plan.now.widths.items (rows_held store.old.rows) ops.now in let o = outcome_of plan.now.greatest (slice_index store.old.vector (worker - 1)) e in OnOk result ((key : Key) → stamp_held store.new.stamps key ≡ (if writes_key (writes_by e o) key then stamp_at worker (number_by o) else stamp_held store.old.stamps key)) }
+{
+    let seen = take_snapshot(&mut store.vector, plan.workers);
+    let turn = Turn {
+        worker,
+        txn,
+        prefix: store.history.len() as u64,
+        last: *seen.at(worker as usize - 1),
+        greatest: plan.greatest,
+    };
+    match evaluate(alloc, plan.widths.as_slice(), &store.rows, ops)? {
+        Evaluated::Declined { op, reads } => {
+            let none = List::new(alloc);
+            let nothing = List::new(alloc);
+            list_attempt(
+                log,
+                turn,
+                Outcome::Declined { op },
+                reads,
+                none,
+                nothing,
+                seen,
+            )
+        }
+        Evaluated::Done {
+            reads,
+            writes,
+            guards,
+        } => end_done(alloc, store, log, turn, reads, writes, guards, seen),
+    }
 }

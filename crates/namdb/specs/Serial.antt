@@ -130,6 +130,10 @@ module _ (s : Setting) (j : ℕ) where
   history_after history [] = history
   history_after history (x ∷ xs) = history_after (history ++ entry_after history x) xs
 
+-- the number of a transaction, where it is worker j's
+abbrev pub own_txn : ℕ → ℕ → ℕ → List ℕ
+own_txn j owner x = if owner == j then x ∷ [] else []
+
 -- the log that tells this
 abbrev pub log_of : List Tell → Log
 log_of ts = record { events = map (λ t. t.event) ts; reads = flat_map (λ t. t.reads) ts; locks = flat_map (λ t. t.locks) ts; writes = flat_map (λ t. t.writes) ts; snaps = map (λ t. t.snap) ts }

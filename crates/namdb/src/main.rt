@@ -3,6 +3,7 @@
 
 mod attempt;
 mod evaluate;
+mod serial;
 mod stamps;
 mod store;
 

@@ -2,5 +2,6 @@ mod HistoryLemmas
 mod SerialLemmas
 mod SerialRunLemmas
 mod WholeRunLemmas
+mod SerialFitsLemmas
 mod EvaluateLemmas
 mod StoreLemmas

@@ -5,3 +5,4 @@ mod WholeRunLemmas
 mod SerialFitsLemmas
 mod EvaluateLemmas
 mod StoreLemmas
+mod ServeLemmas

@@ -1,6 +1,6 @@
 -- The report of a serial run fits its script: its items have their tables' widths, and its logs count what they hold.
 use Rattle.std.proofs.Common.{◌≡◌, ℕ, zero, suc, ◌+◌, ◌-◌, Bool, true, false, List, [], ◌∷◌, ◌++◌, length, map, refl, ap, sym, ◌∙◌, subst, arith, length-append, Option, Some, None, inl, inr}
-use Rattle.std.specs.Prelude.{IfSome, IsTrue, not, filter, slice_index, slice_index_or, replicate}
+use Rattle.std.specs.Prelude.{IfSome, IsTrue, not, filter, slice_index, slice_index_or, replicate, MatchOption}
 use Rattle.std.specs.List.{AllByRecursion}
 use Rattle.std.proofs.lemmas.Bool.{cases_Bool, cond_both}
 use Rattle.std.proofs.lemmas.Bool.Decides.{nat_tests}
@@ -15,7 +15,7 @@ use Rattle.si_model.specs.declared.report.Report.{Report}
 use Rattle.si_model.specs.declared.evaluated.Evaluated.{Evaluated}
 use Rattle.si_model.specs.declared.evaluated.Evaluated.TheVariants.{Done, Declined}
 use Rattle.si_model.specs.Rows.{Rows, key_at, same_key, key_before, row_key, item_key, item_at, rows_of, writes_key, overlay, present, items_from, AreInOrder, ListsRows}
-use Rattle.si_model.specs.Evaluation.{field_of, with_field, changed, wrote, guarded, passes, found, writes_after, guards_after, with_reads, evaluation_from, OpFits}
+use Rattle.si_model.specs.Evaluation.{field_of, with_field, changed, wrote, guarded, passes, found, writes_after, guards_after, with_reads, evaluation_from, OpFits, AreWide}
 use Rattle.si_model.specs.State.{state_at}
 use Rattle.si_model.specs.History.{count_of, keys_of}
 use Rattle.si_model.specs.Tells.{Tell}
@@ -30,11 +30,12 @@ use Rattle.nam_report.proofs.FitsLemmas.{AllByRecursion-append}
 use Rattle.namdb.specs.Plain.{setting_of}
 use Rattle.namdb.specs.Serial.{lock_on, writes_by, entry_by, ops_of, evaluated_after, tell_after, entry_after, tells_after, history_after, log_of, logs_after, end_after, audit_of}
 use Rattle.namdb.proofs.SerialLemmas.{by_outcome, told}
+use Rattle.namdb.proofs.WholeRunLemmas.{length-logs_after}
 
 -- ---- rows
 
 -- each key that holds a value is of a table, and its value has the table's width
-abbrev AreFit : List ℕ → Rows → Type 0
+abbrev pub AreFit : List ℕ → Rows → Type 0
 AreFit widths rows = (key : Key) → IfSome (rows key) (λ v. NamesTable widths key.table × (length v ≡ slice_index widths key.table))
 
 -- a value that is of a table's width, if there is one
@@ -51,6 +52,10 @@ fit_value widths t (Some v) table wide = (table, wide)
 wide_value : (widths : List ℕ) (t : ℕ) (value : Option (List ℕ)) → IsFit widths t value → IfSome value (λ v. length v ≡ slice_index widths t)
 wide_value widths t None fit = tt
 wide_value widths t (Some v) fit = fit.1
+
+wide_match : (widths : List ℕ) (t : ℕ) (value : Option (List ℕ)) → IsFit widths t value → MatchOption value (Unit {0}) (λ v. length v ≡ slice_index widths t)
+wide_match widths t None fit = tt
+wide_match widths t (Some v) fit = fit.1
 
 fit-overlay : (widths : List ℕ) (ws : List Item) (rows : Rows) → AllByRecursion (ItemFits widths) ws → AreFit widths rows → AreFit widths (overlay ws rows)
 fit-overlay widths [] rows written fit key = fit key
@@ -198,11 +203,15 @@ fit-ops widths (ops ∷ jobs) zero fits = fits.0
 fit-ops widths (ops ∷ jobs) (suc place) fits = fit-ops widths jobs place fits.1
 
 module _ (s : Setting) (rows_fit : AllByRecursion (RowFits s.widths) s.rows) (jobs_fit : AllByRecursion (AllByRecursion (OpFits s.widths)) s.jobs) where
-  abbrev HistoryFits : List CommitLine → Type 0
+  abbrev pub HistoryFits : List CommitLine → Type 0
   HistoryFits history = AllByRecursion (EntryFits s.widths) history
 
-  fit-state : (history : List CommitLine) → HistoryFits history → AreFit s.widths (state_at (rows_of s.rows) history)
+  pub fit-state : (history : List CommitLine) → HistoryFits history → AreFit s.widths (state_at (rows_of s.rows) history)
   fit-state history fits = fit-state_at s.widths (rows_of s.rows) history (fit-rows_of s.widths s.rows rows_fit) fits
+
+  -- so their values are wide
+  pub wide-state : (history : List CommitLine) → HistoryFits history → AreWide s.widths (state_at (rows_of s.rows) history)
+  wide-state history fits key = wide_match s.widths key.table (state_at (rows_of s.rows) history key) (fit-state history fits key)
 
   fit-evaluated : (j : ℕ) (history : List CommitLine) (x : ℕ) → HistoryFits history → EvaluatedFits s.widths (evaluated_after s j history x)
   fit-evaluated j history x fits = fit-evaluation_from s.widths (state_at (rows_of s.rows) history) (fit-state history fits) 1 [] [] (ops_of s x) (fit-ops s.widths s.jobs (x - 1) jobs_fit) tt tt
@@ -216,7 +225,7 @@ module _ (s : Setting) (rows_fit : AllByRecursion (RowFits s.widths) s.rows) (jo
       (λ reads ws w guards e. record { event = tt; reads = e.0; locks = fit-locks s.widths history (keys_of (w ∷ ws) guards) (fit-keys s.widths (w ∷ ws) guards e.1 e.2); reads_count = refl; locks_count = refl })
       (fit-evaluated j history x fits)
 
-  fit-entry : (j : ℕ) (history : List CommitLine) (x : ℕ) → HistoryFits history → HistoryFits (history ++ entry_after s j history x)
+  pub fit-entry : (j : ℕ) (history : List CommitLine) (x : ℕ) → HistoryFits history → HistoryFits (history ++ entry_after s j history x)
   fit-entry j history x fits =
       AllByRecursion-append (EntryFits s.widths) history (entry_after s j history x) fits
       (by_outcome (λ e o. EvaluatedFits s.widths e → HistoryFits (entry_by j x (length history) (writes_by e o) o)) s.greatest (s.start + count_of j history) (evaluated_after s j history x)
@@ -246,10 +255,6 @@ module _ (s : Setting) (rows_fit : AllByRecursion (RowFits s.widths) s.rows) (jo
   fit-end j history zero fits = fits
   fit-end j history (suc n) fits = fit-end (suc j) (history_after s j history (txns_of j s.owners)) n (fit-history j history (txns_of j s.owners) fits)
 
-length-logs_after : (s : Setting) (j : ℕ) (history : List CommitLine) (n : ℕ) → length (logs_after s j history n) ≡ n
-length-logs_after s j history zero = refl
-length-logs_after s j history (suc n) = ap suc (length-logs_after s (suc j) (history_after s j history (txns_of j s.owners)) n)
-
 -- ---- the audit
 
 -- rows that all come after a key hold nothing there
@@ -278,7 +283,7 @@ fit-audit widths (r ∷ rs) ordered fit =
 fit-listed : (widths : List ℕ) (rows : List Row) (state : Rows) → ListsRows rows state → AreFit widths state → AllByRecursion (AuditRowFits widths) (audit_of rows)
 fit-listed widths rows state lists fit = fit-audit widths rows lists.ordered (λ key. subst (IsFit widths key.table) (sym (lists.same key)) (fit key))
 
-fit-jobs : (workers : ℕ) (widths : List ℕ) (txns : List ScriptTxn) → AllByRecursion (TxnFits workers widths) txns → AllByRecursion (AllByRecursion (OpFits widths)) (map (λ x. x.ops) txns)
+pub fit-jobs : (workers : ℕ) (widths : List ℕ) (txns : List ScriptTxn) → AllByRecursion (TxnFits workers widths) txns → AllByRecursion (AllByRecursion (OpFits widths)) (map (λ x. x.ops) txns)
 fit-jobs workers widths [] fits = tt
 fit-jobs workers widths (x ∷ xs) fits = (fits.0.ops, fit-jobs workers widths xs fits.1)
 

@@ -1,6 +1,6 @@
 //! The serial run: one worker after another, each transaction tried once.
 
-ghost use Rattle.std.specs.Prelude.{◌≡◌, ℕ, ◌+◌, ◌<◌, ◌≤◌, length, map, slice_index, IfOk, OnOk};
+ghost use Rattle.std.specs.Prelude.{◌≡◌, ℕ, ◌+◌, ◌<◌, ◌≤◌, [], length, map, slice_index, IfOk, OnOk};
 ghost use Rattle.si_model.specs.Run.{IsRun};
 ghost use Rattle.si_model.specs.Setting.{txns_of};
 ghost use Rattle.nam_catalog.specs.Tables.{widths_of};
@@ -61,7 +61,15 @@ fn serve(
     if txn.worker != worker {
         return Ok(());
     }
-    attempt(alloc, plan, store, log, worker, place as u32 + 1, txn.ops.as_slice())?;
+    attempt(
+        alloc,
+        plan,
+        store,
+        log,
+        worker,
+        place as u32 + 1,
+        txn.ops.as_slice(),
+    )?;
     Ok(())
 }
 

@@ -36,10 +36,8 @@ fn sign(up: bool) -> &'static str
 fn push_opening(out: &mut String, shape: &Shape, policy: Policy) -> Result<(), AllocError>
     ensures { OnOk result (string_bytes out.new ≡ string_bytes out.old ++ opening_text shape.now policy) }
 {
-    let form = form_word(shape.form);
-    let workers = shape.workers;
-    let tries = policy.tries;
-    write!(out, "namdb 1\nheader {form}\nworkers {workers}\ntries {tries}\n")?;
+    write!(out, "namdb 1\nheader {}\n", form_word(shape.form))?;
+    write!(out, "workers {}\ntries {}\n", shape.workers, policy.tries)?;
     Ok(())
 }
 
@@ -47,10 +45,16 @@ fn push_store(out: &mut String, shape: &Shape, policy: Policy) -> Result<(), All
     ensures { OnOk result (string_bytes out.new ≡ string_bytes out.old ++ store_text shape.now policy) }
 {
     let tidy = switch_word(policy.tidy);
-    let start = shape.start;
-    let buckets = shape.buckets;
-    let cells = shape.cells;
-    write!(out, "tidy {tidy}\nstart {start}\noverflow {buckets} {cells}\n")?;
+    let Shape {
+        start,
+        buckets,
+        cells,
+        ..
+    } = shape;
+    write!(
+        out,
+        "tidy {tidy}\nstart {start}\noverflow {buckets} {cells}\n"
+    )?;
     Ok(())
 }
 
@@ -58,19 +62,23 @@ fn push_table(out: &mut String, table: &Table) -> Result<(), AllocError>
     ensures { OnOk result (string_bytes out.new ≡ string_bytes out.old ++ table_text table.now) }
 {
     let name = table.name.as_str();
-    let width = table.width;
-    let capacity = table.capacity;
-    let ring = table.ring;
-    write!(out, "table {name} width {width} capacity {capacity} ring {ring}\n")?;
+    let Table {
+        width,
+        capacity,
+        ring,
+        ..
+    } = table;
+    write!(
+        out,
+        "table {name} width {width} capacity {capacity} ring {ring}\n"
+    )?;
     Ok(())
 }
 
 fn push_row(out: &mut String, tables: &[Table], row: &Row) -> Result<(), AllocError>
     ensures { OnOk result (string_bytes out.new ≡ string_bytes out.old ++ row_text tables.now row.now) }
 {
-    let name = name_at(tables, row.table);
-    let key = row.key;
-    write!(out, "row {name} {key}")?;
+    write!(out, "row {} {}", name_at(tables, row.table), row.key)?;
     push_words(out, row.value.as_slice())?;
     write!(out, "\n")?;
     Ok(())
@@ -80,19 +88,11 @@ fn push_op(out: &mut String, tables: &[Table], op: &Op) -> Result<(), AllocError
     ensures { OnOk result (string_bytes out.new ≡ string_bytes out.old ++ op_text tables.now op.now) }
 {
     match op {
-        Op::Get { table, key } => {
-            let name = name_at(tables, *table);
-            let key = *key;
-            write!(out, "get {name} {key}\n")?;
-            Ok(())
-        }
+        Op::Get { table, key } => write!(out, "get {} {key}\n", name_at(tables, *table))?,
         Op::Put { table, key, value } => {
-            let name = name_at(tables, *table);
-            let key = *key;
-            write!(out, "put {name} {key}")?;
+            write!(out, "put {} {key}", name_at(tables, *table))?;
             push_words(out, value.as_slice())?;
             write!(out, "\n")?;
-            Ok(())
         }
         Op::Add {
             table,
@@ -101,55 +101,32 @@ fn push_op(out: &mut String, tables: &[Table], op: &Op) -> Result<(), AllocError
             up,
             by,
         } => {
-            let name = name_at(tables, *table);
-            let key = *key;
-            let field = *field;
-            let sign = sign(*up);
-            let by = *by;
-            write!(out, "add {name} {key} {field} ")?;
-            write!(out, "{sign}{by}\n")?;
-            Ok(())
+            write!(out, "add {} {key} {field} ", name_at(tables, *table))?;
+            write!(out, "{}{by}\n", sign(*up))?;
         }
-        Op::Del { table, key } => {
-            let name = name_at(tables, *table);
-            let key = *key;
-            write!(out, "del {name} {key}\n")?;
-            Ok(())
-        }
+        Op::Del { table, key } => write!(out, "del {} {key}\n", name_at(tables, *table))?,
         Op::Need {
             table,
             key,
             field,
             least,
-        } => {
-            let name = name_at(tables, *table);
-            let key = *key;
-            let field = *field;
-            let least = *least;
-            write!(out, "need {name} {key} {field} {least}\n")?;
-            Ok(())
-        }
-        Op::Guard { table, key } => {
-            let name = name_at(tables, *table);
-            let key = *key;
-            write!(out, "guard {name} {key}\n")?;
-            Ok(())
-        }
+        } => write!(
+            out,
+            "need {} {key} {field} {least}\n",
+            name_at(tables, *table)
+        )?,
+        Op::Guard { table, key } => write!(out, "guard {} {key}\n", name_at(tables, *table))?,
         Op::Scan { table, low, high } => {
-            let name = name_at(tables, *table);
-            let low = *low;
-            let high = *high;
-            write!(out, "scan {name} {low} {high}\n")?;
-            Ok(())
+            write!(out, "scan {} {low} {high}\n", name_at(tables, *table))?
         }
     }
+    Ok(())
 }
 
 fn push_txn(out: &mut String, tables: &[Table], txn: &ScriptTxn) -> Result<(), AllocError>
     ensures { OnOk result (string_bytes out.new ≡ string_bytes out.old ++ txn_text tables.now txn.now) }
 {
-    let worker = txn.worker;
-    write!(out, "txn {worker}\n")?;
+    write!(out, "txn {}\n", txn.worker)?;
     for op in txn.ops.as_slice() {
         push_op(out, tables, op)?;
     }
@@ -224,8 +201,6 @@ fn push_turns(out: &mut String, turns: &Turns) -> Result<(), AllocError>
             Ok(())
         }
         Turns::Seed { seed, picks } => {
-            let seed = *seed;
-            let picks = *picks;
             write!(out, "seed {seed} {picks}\n")?;
             Ok(())
         }

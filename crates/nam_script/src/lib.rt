@@ -1,7 +1,13 @@
 //! Scripts and the text that spells them.
 #![tactic(auto)]
 
+mod fields;
+mod lines;
 mod printing;
+mod reading;
+mod refusal;
 mod script;
 
+pub use printing::print;
+pub use refusal::{Kind, ParseEnd};
 pub use script::{Script, ScriptTxn, Stint, Turns};

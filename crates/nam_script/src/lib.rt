@@ -3,11 +3,13 @@
 
 mod fields;
 mod lines;
+mod parsing;
 mod printing;
 mod reading;
 mod refusal;
 mod script;
 
+pub use parsing::parse;
 pub use printing::print;
 pub use refusal::{Kind, ParseEnd};
 pub use script::{Script, ScriptTxn, Stint, Turns};

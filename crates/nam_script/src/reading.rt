@@ -10,7 +10,7 @@ use crate::lines::Lines;
 use crate::refusal::{Kind, ParseEnd};
 use crate::script::{Script, ScriptTxn, Turns};
 use lists::{List, ShortList};
-use nam_catalog::{Form, Shape, Table};
+use nam_catalog::{Form, Shape, Table, TableName};
 use si_model::{Op, Policy, Row, Value};
 use std::alloc::Global;
 use std::collections::BTreeSet;
@@ -34,12 +34,13 @@ pub struct Settings {
 }
 
 /// What operations may name: the table, and the keys of its rows.
+#[derive(Drop)]
 struct Loaded<'a> {
     table: &'a Table,
     keys: &'a BTreeSet<u64>,
 }
 
-/// The number, which is in its limits.
+/// The number, where it is in its limits.
 fn limited(number: Number, least: u32, greatest: u32) -> Result<u32, Kind>
     ensures { IfOk result (λ n. (least ≤ n) × (n ≤ greatest)) }
 {
@@ -158,14 +159,11 @@ fn row_of(line: &str, table: &Table, keys: &BTreeSet<u64>) -> Result<Row, Kind>
     if keys.contains(&key) {
         return Err(Kind::Twice);
     }
-    if words.len() != 1 {
+    let [Some(word)] = words.as_slice() else {
         return Err(Kind::Size);
-    }
-    let Some(word) = *words.at(0) else {
-        return Err(Kind::Range);
     };
     let mut value = Value::new();
-    value.push(word);
+    value.push(*word);
     Ok(Row {
         table: 0,
         key,
@@ -190,4 +188,229 @@ fn read_rows(
         rows.push(row)?;
     }
     Ok((rows, keys))
+}
+
+/// The key of an operation, where a row of the named table has it.
+fn loaded_key(name: &TableName, key: Number, rows: &Loaded) -> Result<u64, Kind> {
+    if name.as_str() != rows.table.name.as_str() {
+        return Err(Kind::Name);
+    }
+    match key {
+        Some(key) if rows.keys.contains(&key) => Ok(key),
+        _ => Err(Kind::Range),
+    }
+}
+
+fn get_of(fields: &mut Fields, rows: &Loaded) -> Result<Op, Kind>
+    ensures { IfOk result IsOp }
+{
+    let name = fields.name()?;
+    let key = fields.number()?;
+    fields.end()?;
+    let key = loaded_key(&name, key, rows)?;
+    Ok(Op::Get { table: 0, key })
+}
+
+fn add_of(fields: &mut Fields, rows: &Loaded) -> Result<Op, Kind>
+    ensures { IfOk result IsOp }
+{
+    let name = fields.name()?;
+    let key = fields.number()?;
+    let field = fields.number()?;
+    let (up, by) = fields.change()?;
+    fields.end()?;
+    let key = loaded_key(&name, key, rows)?;
+    let field = limited(field, 1, 1)?;
+    let Some(by) = by else {
+        return Err(Kind::Range);
+    };
+    Ok(Op::Add {
+        table: 0,
+        key,
+        field,
+        up,
+        by,
+    })
+}
+
+fn need_of(fields: &mut Fields, rows: &Loaded) -> Result<Op, Kind>
+    ensures { IfOk result IsOp }
+{
+    let name = fields.name()?;
+    let key = fields.number()?;
+    let field = fields.number()?;
+    let least = fields.number()?;
+    fields.end()?;
+    let key = loaded_key(&name, key, rows)?;
+    let field = limited(field, 1, 1)?;
+    let Some(least) = least else {
+        return Err(Kind::Range);
+    };
+    Ok(Op::Need {
+        table: 0,
+        key,
+        field,
+        least,
+    })
+}
+
+fn op_of(line: &str, rows: &Loaded) -> Result<Op, Kind>
+    ensures { IfOk result IsOp }
+{
+    let mut fields = Fields::new(line);
+    let word = fields.next()?;
+    if word == "get" {
+        get_of(&mut fields, rows)
+    } else if word == "add" {
+        add_of(&mut fields, rows)
+    } else if word == "need" {
+        need_of(&mut fields, rows)
+    } else {
+        Err(Kind::Word)
+    }
+}
+
+/// Notes the key that an operation writes, and tells whether a transaction may still write it.
+fn note_key(written: &mut ShortList<u64, MAX_TXN_KEYS>, op: &Op) -> bool {
+    let Op::Add { key, .. } = op else {
+        return true;
+    };
+    if written.as_slice().contains(key) {
+        return true;
+    }
+    if written.len() == MAX_TXN_KEYS {
+        return false;
+    }
+    written.push(*key);
+    true
+}
+
+/// The operations of a transaction, up to its last line. There is room for so many more in the script.
+fn read_ops(
+    alloc: Global,
+    lines: &mut Lines,
+    rows: &Loaded,
+    room: usize,
+) -> Result<List<Op>, ParseEnd>
+    ensures ops { IfOk result (AllByRecursion IsOp) }
+    ensures few { IfOk result (λ ops. (length ops ≤ 32) × (length ops ≤ room)) }
+    ensures shorter { IfOk result (λ _. length lines.new.rest.now < length lines.old.rest.now) }
+{
+    let mut ops = List::new(alloc);
+    let mut written = ShortList::new();
+    loop {
+        let line = lines.next()?;
+        if line == "end" {
+            break;
+        }
+        let op = lines.checked(op_of(line, rows))?;
+        if ops.len() == MAX_TXN_OPS || ops.len() == room || !note_key(&mut written, &op) {
+            return Err(lines.bad(Kind::Size));
+        }
+        ops.push(op)?;
+    }
+    if ops.is_empty() {
+        return Err(lines.bad(Kind::Word));
+    }
+    Ok(ops)
+}
+
+fn read_txn(
+    alloc: Global,
+    lines: &mut Lines,
+    workers: u32,
+    rows: &Loaded,
+    room: usize,
+) -> Result<ScriptTxn, ParseEnd>
+    ensures txn { IfOk result (IsTxn workers) }
+    ensures few { IfOk result (λ x. length x.ops ≤ room) }
+    ensures shorter { IfOk result (λ _. length lines.new.rest.now < length lines.old.rest.now) }
+{
+    let line = lines.next()?;
+    let worker = lines.checked(number_of(line, "txn", 1, workers))?;
+    let ops = read_ops(alloc, lines, rows, room)?;
+    Ok(ScriptTxn { worker, ops })
+}
+
+fn read_txns(
+    alloc: Global,
+    lines: &mut Lines,
+    workers: u32,
+    rows: &Loaded,
+) -> Result<List<ScriptTxn>, ParseEnd>
+    ensures txns { IfOk result (AllByRecursion (IsTxn workers)) }
+    ensures few { IfOk result (λ txns. length txns ≤ 8192) }
+{
+    let mut txns = List::new(alloc);
+    let mut room = MAX_OPS;
+    while lines.begins_with("txn") {
+        let txn = read_txn(alloc, lines, workers, rows, room)?;
+        if txns.len() == MAX_TXNS {
+            return Err(lines.bad(Kind::Size));
+        }
+        room -= txn.ops.len();
+        txns.push(txn)?;
+    }
+    Ok(txns)
+}
+
+/// No line is left.
+fn read_end(lines: &mut Lines) -> Result<(), ParseEnd> {
+    if lines.is_at_end() {
+        return Ok(());
+    }
+    lines.next()?;
+    Err(lines.bad(Kind::Word))
+}
+
+fn script_of(
+    alloc: Global,
+    settings: Settings,
+    table: Table,
+    rows: List<Row>,
+    txns: List<ScriptTxn>,
+) -> Script
+    requires settings { IsSettled settings }
+    requires table { table.width ≡ 1 }
+    requires rows { AllByRecursion IsRow rows }
+    requires txns { AllByRecursion (IsTxn settings.workers) txns }
+    requires few { length txns ≤ 8192 }
+    ensures { IsPlain result }
+{
+    let mut tables = ShortList::new();
+    tables.push(table);
+    Script {
+        shape: Shape {
+            form: Form::Narrow,
+            workers: settings.workers,
+            tables,
+            buckets: settings.buckets,
+            cells: settings.cells,
+            start: settings.start as u64,
+        },
+        policy: Policy {
+            tries: settings.tries,
+            tidy: false,
+        },
+        rows,
+        txns,
+        turns: Turns::List(List::new(alloc)),
+    }
+}
+
+/// The script of a text.
+pub fn read_script(alloc: Global, text: &[u8]) -> Result<Script, ParseEnd>
+    ensures { IfOk result IsPlain }
+{
+    let mut lines = Lines::new(text);
+    let settings = read_settings(&mut lines)?;
+    let table = read_table(&mut lines)?;
+    let (rows, keys) = read_rows(alloc, &mut lines, &table)?;
+    let loaded = Loaded {
+        table: &table,
+        keys: &keys,
+    };
+    let txns = read_txns(alloc, &mut lines, settings.workers, &loaded)?;
+    read_end(&mut lines)?;
+    Ok(script_of(alloc, settings, table, rows, txns))
 }

@@ -1,3 +1,3 @@
 pub mod Limits
 pub mod Text
-pub mod Draft
+pub mod Parts

@@ -1,16 +1,25 @@
 //! The lines of a text.
 
-ghost use Rattle.std.specs.Prelude.{◌≡◌, ◌<◌, [], length, IsTrue, ◌↔◌, IfOk, Ok};
+ghost use Rattle.std.specs.Prelude.{◌≡◌, ◌<◌, length, IfOk, Ok};
 
 use crate::refusal::{Kind, ParseEnd};
+use std::marker::Model;
 use std::str;
 
-/// The lines that are still to be read, each ended by a newline.
+/// The lines that are still to be read, each ended by a newline. Contracts see the bytes that are left.
 #[derive(Drop)]
 pub struct Lines<'a> {
     rest: &'a [u8],
-    /// The number of the line that was read last. It stands still at the end of its type.
+    /// The number of the line that was read last, from 1. It stands still at the end of its type.
     number: u32,
+}
+
+impl<'a> Model for Lines<'a> {
+    ghost use Rattle.std.specs.Prelude.{List, ℕ};
+
+    ghost Value = { List ℕ };
+
+    ghost view = { λ l. l.rest.now };
 }
 
 impl<'a> Lines<'a> {
@@ -32,7 +41,7 @@ impl<'a> Lines<'a> {
 
     /// The next line, without its newline.
     pub fn next(&mut self) -> Result<&'a str, ParseEnd>
-        ensures { IfOk result (λ _. length self.new.rest.now < length self.old.rest.now) }
+        ensures { IfOk result (λ _. length self.new < length self.old) }
     {
         self.number = self.number.saturating_add(1);
         let Some(end) = self.rest.iter().position(|byte| *byte == b'\n') else {
@@ -54,7 +63,7 @@ impl<'a> Lines<'a> {
         }
     }
 
-    /// What was read from the last line, or its refusal.
+    /// What the last line gave, or its refusal.
     pub fn checked<T>(&self, read: Result<T, Kind>) -> Result<T, ParseEnd>
         ensures { IfOk result (λ x. read ≡ Ok x) }
     {

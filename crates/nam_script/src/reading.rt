@@ -3,7 +3,7 @@
 ghost use Rattle.std.specs.Prelude.{◌≡◌, ◌<◌, ◌≤◌, [], ◌∷◌, ℕ, List, length, IfOk, IfSome, Some};
 ghost use Rattle.std.specs.List.{AllByRecursion};
 ghost use Rattle.nam_script.specs.Limits.{IsPlain};
-ghost use Rattle.nam_script.specs.Draft.{IsSettled, IsRow, IsOp, IsTxn};
+ghost use Rattle.nam_script.specs.Parts.{IsSettled, IsRow, IsOp, IsTxn};
 
 use crate::fields::{Fields, Number};
 use crate::lines::Lines;
@@ -294,7 +294,7 @@ fn read_ops(
 ) -> Result<List<Op>, ParseEnd>
     ensures ops { IfOk result (AllByRecursion IsOp) }
     ensures few { IfOk result (λ ops. (length ops ≤ 32) × (length ops ≤ room)) }
-    ensures shorter { IfOk result (λ _. length lines.new.rest.now < length lines.old.rest.now) }
+    ensures shorter { IfOk result (λ _. length lines.new < length lines.old) }
 {
     let mut ops = List::new(alloc);
     let mut written = ShortList::new();
@@ -324,7 +324,7 @@ fn read_txn(
 ) -> Result<ScriptTxn, ParseEnd>
     ensures txn { IfOk result (IsTxn workers) }
     ensures few { IfOk result (λ x. length x.ops ≤ room) }
-    ensures shorter { IfOk result (λ _. length lines.new.rest.now < length lines.old.rest.now) }
+    ensures shorter { IfOk result (λ _. length lines.new < length lines.old) }
 {
     let line = lines.next()?;
     let worker = lines.checked(number_of(line, "txn", 1, workers))?;

@@ -1,6 +1,6 @@
 use Rattle.std.proofs.Common.{ℕ, ◌≤◌, length}
 use Rattle.std.specs.List.{AllByRecursion}
-use Rattle.nam_script.specs.Draft.{IsOp}
+use Rattle.nam_script.specs.Parts.{IsOp}
 use Rattle.nam_script.proofs.reading.read_ops.Given as goal
 
 abbrev pub invariant-loop-ops : goal.invariant-loop-ops
@@ -8,9 +8,9 @@ invariant-loop-ops l = record {
   ops : AllByRecursion IsOp l.ops;
   few : length l.ops ≤ 32;
   room : length l.ops ≤ l.room;
-  shorter : length l.lines.rest.now ≤ length l.initial.lines.rest.now;
+  shorter : length l.lines ≤ length l.initial.lines;
 }
 
 -- each operation takes bytes off the text
 abbrev pub decreases-loop-ops : goal.decreases-loop-ops
-decreases-loop-ops l = length l.lines.rest.now
+decreases-loop-ops l = length l.lines

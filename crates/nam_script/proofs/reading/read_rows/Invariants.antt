@@ -1,6 +1,6 @@
 use Rattle.std.proofs.Common.{ℕ, length}
 use Rattle.std.specs.List.{AllByRecursion}
-use Rattle.nam_script.specs.Draft.{IsRow}
+use Rattle.nam_script.specs.Parts.{IsRow}
 use Rattle.nam_script.proofs.reading.read_rows.Given as goal
 
 abbrev pub invariant-loop-lines : goal.invariant-loop-lines
@@ -8,4 +8,4 @@ invariant-loop-lines l = AllByRecursion IsRow l.rows
 
 -- each row takes bytes off the text
 abbrev pub decreases-loop-lines : goal.decreases-loop-lines
-decreases-loop-lines l = length l.lines.rest.now
+decreases-loop-lines l = length l.lines

@@ -1,6 +1,6 @@
 use Rattle.std.proofs.Common.{ℕ, ◌≤◌, length}
 use Rattle.std.specs.List.{AllByRecursion}
-use Rattle.nam_script.specs.Draft.{IsTxn}
+use Rattle.nam_script.specs.Parts.{IsTxn}
 use Rattle.nam_script.proofs.reading.read_txns.Given as goal
 
 abbrev pub invariant-loop-alloc : goal.invariant-loop-alloc
@@ -11,4 +11,4 @@ invariant-loop-alloc l = record {
 
 -- each transaction takes bytes off the text
 abbrev pub decreases-loop-alloc : goal.decreases-loop-alloc
-decreases-loop-alloc l = length l.lines.rest.now
+decreases-loop-alloc l = length l.lines

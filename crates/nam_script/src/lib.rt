@@ -8,6 +8,8 @@ mod printing;
 mod reading;
 mod refusal;
 mod script;
+#[cfg(test)]
+mod tests;
 
 pub use parsing::parse;
 pub use printing::print;

@@ -5,7 +5,7 @@ use Rattle.si_model.specs.declared.row.Row.{Row}
 use Rattle.si_model.specs.declared.op.Op.{Op}
 use Rattle.si_model.specs.Evaluation.{OpFits}
 use Rattle.nam_script.specs.declared.script.ScriptTxn.{ScriptTxn}
-use Rattle.nam_script.specs.declared.reading.Settings.{Settings}
+use Rattle.nam_script.specs.declared.settings.Settings.{Settings}
 use Rattle.nam_script.specs.Limits.{RowFits, TxnFits, is_plain}
 
 -- the numbers are in their limits

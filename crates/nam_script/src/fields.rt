@@ -68,19 +68,19 @@ impl<'a> Fields<'a> {
     }
 
     pub fn number(&mut self) -> Result<Number, Kind> {
-        number(self.next()?)
+        spelt_number(self.next()?)
     }
 
     /// A sign and a number: is it added, and the number. There is no -0.
     pub fn change(&mut self) -> Result<(bool, Number), Kind> {
         let field = self.next()?;
         if let Some(digits) = field.strip_prefix('+') {
-            return Ok((true, number(digits)?));
+            return Ok((true, spelt_number(digits)?));
         }
         let Some(digits) = field.strip_prefix('-') else {
             return Err(Kind::Word);
         };
-        match number(digits)? {
+        match spelt_number(digits)? {
             Some(0) => Err(Kind::Word),
             by => Ok((false, by)),
         }
@@ -115,11 +115,32 @@ fn is_name(field: &str) -> bool
 }
 
 /// The number that decimal digits spell, without a leading zero.
-fn number(field: &str) -> Result<Number, Kind> {
+fn spelt_number(field: &str) -> Result<Number, Kind> {
     let bytes = field.as_bytes();
     let has_leading_zero = bytes.len() > 1 && bytes[0] == b'0';
     if bytes.is_empty() || has_leading_zero || !bytes.iter().all(|byte| byte.is_ascii_digit()) {
         return Err(Kind::Word);
     }
     Ok(field.parse::<u64>().ok())
+}
+
+/// The number, where it is in its limits.
+pub fn limited(number: Number, least: u32, greatest: u32) -> Result<u32, Kind>
+    ensures { IfOk result (λ n. (least ≤ n) × (n ≤ greatest)) }
+{
+    match number {
+        Some(n) if n >= least as u64 && n <= greatest as u64 => Ok(n as u32),
+        _ => Err(Kind::Range),
+    }
+}
+
+/// The number in a line of one word and one number.
+pub fn number_of(line: &str, word: &str, least: u32, greatest: u32) -> Result<u32, Kind>
+    ensures { IfOk result (λ n. (least ≤ n) × (n ≤ greatest)) }
+{
+    let mut fields = Fields::new(line);
+    fields.word(word)?;
+    let number = fields.number()?;
+    fields.end()?;
+    limited(number, least, greatest)
 }

@@ -36,7 +36,7 @@ pub fn parse(alloc: Global, bytes: &[u8]) -> Result<Script, ParseEnd>
     ensures { IfOk result (λ s. (bytes.now ≡ script_text s) × IsPlain s) }
 {
     let script = read_script(alloc, bytes)?;
-    // That the bytes are the script's one spelling is known by printing it, and not by how they were read.
+    // How the bytes were read says nothing of their spelling: the script's one text does.
     let text = print(alloc, &script)?;
     if text.as_slice() == bytes {
         return Ok(script);

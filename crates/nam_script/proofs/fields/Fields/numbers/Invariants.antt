@@ -1,4 +1,4 @@
-use Rattle.std.proofs.Common.{ℕ, ◌≤◌, ◌-◌, length}
+use Rattle.std.proofs.Common.{◌≤◌, ◌-◌, length}
 use Rattle.nam_script.proofs.fields.Fields.numbers.Given as goal
 
 abbrev pub invariant-loop-self : goal.invariant-loop-self

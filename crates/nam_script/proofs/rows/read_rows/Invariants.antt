@@ -1,7 +1,7 @@
-use Rattle.std.proofs.Common.{ℕ, length}
+use Rattle.std.proofs.Common.{length}
 use Rattle.std.specs.List.{AllByRecursion}
 use Rattle.nam_script.specs.Parts.{IsRow}
-use Rattle.nam_script.proofs.reading.read_rows.Given as goal
+use Rattle.nam_script.proofs.rows.read_rows.Given as goal
 
 abbrev pub invariant-loop-lines : goal.invariant-loop-lines
 invariant-loop-lines l = AllByRecursion IsRow l.rows

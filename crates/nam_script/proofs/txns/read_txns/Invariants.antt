@@ -1,7 +1,7 @@
-use Rattle.std.proofs.Common.{ℕ, ◌≤◌, length}
+use Rattle.std.proofs.Common.{◌≤◌, length}
 use Rattle.std.specs.List.{AllByRecursion}
 use Rattle.nam_script.specs.Parts.{IsTxn}
-use Rattle.nam_script.proofs.reading.read_txns.Given as goal
+use Rattle.nam_script.proofs.txns.read_txns.Given as goal
 
 abbrev pub invariant-loop-alloc : goal.invariant-loop-alloc
 invariant-loop-alloc l = record {

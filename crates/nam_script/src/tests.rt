@@ -277,8 +277,8 @@ fn a_text_that_ends_too_early_is_cut(rt: HostRuntime) {
     assert!(rt; refuses(rt.alloc(), no_newline, 15, Kind::Cut));
 }
 
-/// The lines of a script with 17 rows, up to those of the operations of its transaction.
-const MANY_ROWS: &str = "\
+/// The lines before the rows of a large script.
+const LARGE: &str = "\
 namdb 1
 header narrow
 workers 1
@@ -289,30 +289,43 @@ overflow 1 1
 table t width 1 capacity 17 ring 1
 ";
 
-/// A script with 17 rows and a transaction that writes so many keys and reads so many times.
-fn large_txn(alloc: Global, adds: u32, gets: u32) -> Result<String, AllocError> {
-    let mut text = String::from_str(alloc, MANY_ROWS)?;
+/// A script with 17 rows and so many transactions, each of which writes so many keys and reads so many times.
+fn large_script(alloc: Global, txns: u32, adds: u32, gets: u32) -> Result<String, AllocError> {
+    let mut text = String::from_str(alloc, LARGE)?;
     for key in 0..17 {
         write!(&mut text, "row t {key} 0\n")?;
     }
-    write!(&mut text, "txn 1\n")?;
-    for key in 0..adds {
-        write!(&mut text, "add t {key} 1 +1\n")?;
+    for _ in 0..txns {
+        write!(&mut text, "txn 1\n")?;
+        for key in 0..adds {
+            write!(&mut text, "add t {key} 1 +1\n")?;
+        }
+        for _ in 0..gets {
+            write!(&mut text, "get t 0\n")?;
+        }
+        write!(&mut text, "end\n")?;
     }
-    for _ in 0..gets {
-        write!(&mut text, "get t 0\n")?;
-    }
-    write!(&mut text, "end\n")?;
     Ok(text)
 }
 
 #[test]
-fn a_transaction_has_limits(rt: HostRuntime) -> Result<(), Fail> {
-    let largest = large_txn(rt.alloc(), 16, 16)?;
-    parse(rt.alloc(), largest.as_bytes())?;
-    let many_operations = large_txn(rt.alloc(), 16, 17)?;
-    assert!(rt; refuses(rt.alloc(), many_operations.as_str(), 59, Kind::Size));
-    let many_keys = large_txn(rt.alloc(), 17, 0)?;
-    assert!(rt; refuses(rt.alloc(), many_keys.as_str(), 43, Kind::Size));
+fn a_script_has_limits(rt: HostRuntime) -> Result<(), Fail> {
+    for (txns, adds, gets) in [(1, 16, 16), (8_192, 4, 4)] {
+        let largest = large_script(rt.alloc(), txns, adds, gets)?;
+        parse(rt.alloc(), largest.as_bytes())?;
+    }
+    let beyond = [
+        (1, 16, 17, 59),
+        (1, 17, 0, 43),
+        (8_193, 0, 1, 24_602),
+        (2_049, 0, 32, 69_659),
+    ];
+    for (txns, adds, gets, line) in beyond {
+        let text = large_script(rt.alloc(), txns, adds, gets)?;
+        assert!(rt;
+            refuses(rt.alloc(), text.as_str(), line, Kind::Size),
+            "line {line}"
+        );
+    }
     Ok(())
 }

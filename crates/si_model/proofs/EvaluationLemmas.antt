@@ -8,13 +8,14 @@ use Rattle.std.proofs.lemmas.Bool.Decides.{nat_tests}
 use Rattle.std.proofs.lemmas.List.{length-set, length-replicate, length-append}
 use Rattle.std.proofs.lemmas.List.Elements.{recursion_from_All}
 use Rattle.si_model.specs.declared.row.Key.{Key}
+use Rattle.si_model.specs.declared.row.Row.{Row}
 use Rattle.si_model.specs.declared.row.Item.{Item}
 use Rattle.si_model.specs.declared.op.Op.{Op}
 use Rattle.si_model.specs.declared.op.Op.TheVariants.{Get, Put, Add, Del, Need, Guard, Scan}
 use Rattle.si_model.specs.declared.evaluated.Evaluated.{Evaluated}
 use Rattle.si_model.specs.declared.evaluated.Evaluated.TheVariants.{Done, Declined}
 use Rattle.si_model.specs.declared.report.CommitLine.{CommitLine}
-use Rattle.si_model.specs.Rows.{key_at, same_key, item_key, item_at, Rows, writes_key, overlay, present, items_from, items_between}
+use Rattle.si_model.specs.Rows.{key_at, same_key, row_key, item_key, item_at, Rows, rows_of, writes_key, overlay, present, items_from, items_between}
 use Rattle.si_model.specs.Evaluation.{field_of, with_field, changed, wrote, guarded, passes, found, writes_after, guards_after, unwritten, with_reads, evaluation_from, evaluation_of, reads_of, all_pass, reads_from, key_written, key_guarded, is_key, ops_write, keys_from, written_keys, guard_keys, OpFits, AreWide}
 use Rattle.si_model.specs.EvaluationLaws.{IsWide, is_scan, writes_from}
 use Rattle.si_model.specs.State.{state_at}
@@ -48,6 +49,14 @@ AreWide-overlay widths (w ∷ ws) rows written wide key =
     cond_both (same_key (item_key w) key) w.value (overlay ws rows key) (λ v. MatchOption v (Unit {0}) (λ x. length x ≡ slice_index widths key.table))
     (λ same. subst (λ (k : Key). MatchOption w.value (Unit {0}) (λ x. length x ≡ slice_index widths k.table)) (same_key_says (item_key w) key same) written.0)
     (λ other. AreWide-overlay widths ws rows written.1 wide key)
+
+-- a list of rows of their tables' widths
+pub AreWide-rows_of : (widths : List ℕ) (rows : List Row) → AllByRecursion (λ r. length r.value ≡ slice_index widths r.table) rows → AreWide widths (rows_of rows)
+AreWide-rows_of widths [] wide key = tt
+AreWide-rows_of widths (r ∷ rs) wide key =
+    cond_both (same_key (row_key r) key) (Some r.value) (rows_of rs key) (λ v. MatchOption v (Unit {0}) (λ x. length x ≡ slice_index widths key.table))
+    (λ same. subst (λ (k : Key). length r.value ≡ slice_index widths k.table) (same_key_says (row_key r) key same) wide.0)
+    (λ other. AreWide-rows_of widths rs wide.1 key)
 
 wide-wrote : (widths : List ℕ) (ws : List Item) (i : Item) → AllByRecursion (IsWide widths) ws → IsWide widths i → AllByRecursion (IsWide widths) (wrote ws i)
 wide-wrote widths [] i written new = (new, tt)
@@ -112,7 +121,7 @@ module _ (widths : List ℕ) (rows : Rows) (wide : AreWide widths rows) where
       let rest = evaluation_from widths rows (n + 1) (writes_after widths op copy ws) (guards_after op gs) ops in
       cond_both (passes op copy) (with_reads (found op copy) rest) (Declined n (found op copy)) (λ e. AllByRecursion (IsWide widths) (reads_of e))
       (λ passed. rw (reads_of-with_reads (found op copy) rest) (all_append (IsWide widths) (found op copy) (reads_of rest) (wide-found widths op copy copy_wide)
-        (wide-reads_from (n + 1) (writes_after widths op copy ws) (guards_after op gs) ops fit.1 (wide-writes_after widths op copy ws fit.0 copy_wide written))))
+      (wide-reads_from (n + 1) (writes_after widths op copy ws) (guards_after op gs) ops fit.1 (wide-writes_after widths op copy ws fit.0 copy_wide written))))
       (λ stopped. wide-found widths op copy copy_wide)
 
 -- each item that operations read has its table's width
@@ -256,6 +265,10 @@ module _ (widths : List ℕ) (rows : Rows) (ops : List Op) (reads writes : List 
   -- each item that is written has its table's width
   pub done-wide : All (OpFits widths) ops → AreWide widths rows → AllByRecursion (IsWide widths) writes
   done-wide fit wide = rw done-writes (wide-writes_from widths rows wide [] ops (recursion_from_All (OpFits widths) ops fit) tt)
+
+  -- and so have the rows under the write set
+  pub done-overlay : All (OpFits widths) ops → AreWide widths rows → AreWide widths (overlay writes rows)
+  done-overlay fit wide = AreWide-overlay widths writes rows (done-wide fit wide) wide
 
   -- the keys are those that the operations write, each once
   pub done-keys : map item_key writes ≡ written_keys ops

@@ -72,8 +72,8 @@ listing copy table end (suc n) low (k ∷ ks) ends rise has =
           let same : k ≡ low = omega (arith, rise.0) in
           let rise_on : RiseFrom (low + 1) end ks = subst (λ z. RiseFrom (z + 1) end ks) same rise.2 in
           let rest = listing copy table end n (low + 1) ks (omega arith) rise_on (λ key from below some.
-            let all = has key (omega arith) below some in
-            grind (arith, nat_tests)) in
+          let all = has key (omega arith) below some in
+          grind (arith, nat_tests)) in
           subst (λ z. items_at copy table (z ∷ ks) ≡ items_from copy table low (suc n)) (sym same) (ap (λ is. present (key_at table low) (copy (key_at table low)) ++ is) rest ∙ sym (step copy table low n))
     ]
 

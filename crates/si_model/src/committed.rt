@@ -29,11 +29,7 @@ fn held_by(alloc: Global, rows: &[Row]) -> Result<BTreeMap<Key, Value>, AllocErr
 }
 
 /// Gives a key a value, or makes it absent.
-fn hold(
-    held: &mut BTreeMap<Key, Value>,
-    key: Key,
-    value: Option<Value>,
-) -> Result<(), AllocError>
+fn hold(held: &mut BTreeMap<Key, Value>, key: Key, value: Option<Value>) -> Result<(), AllocError>
     ensures { OnOk result ((k : Key) → held_at held.new k ≡ (if same_key key k then value else held_at held.old k)) }
 {
     match value {
@@ -85,7 +81,7 @@ pub fn state(
     p: usize,
 ) -> Result<Vec<Row>, AllocError>
     requires { p ≤ length history.now }
-    ensures { IfOk result (λ rows'. ListsRows rows'.items (state_at (rows_of rows.now) (take p history.now))) }
+    ensures { IfOk result (λ listed. ListsRows listed.items (state_at (rows_of rows.now) (take p history.now))) }
 {
     let mut held = held_by(alloc, rows)?;
     for line in &history[..p] {

@@ -99,11 +99,7 @@ fn is_written(writes: &[Item], key: Key) -> bool
 }
 
 /// The guarded keys that aren't written.
-fn unwritten(
-    alloc: Global,
-    writes: &[Item],
-    guards: &[Key],
-) -> Result<List<Key>, AllocError>
+fn unwritten(alloc: Global, writes: &[Item], guards: &[Key]) -> Result<List<Key>, AllocError>
     ensures { IfOk result (λ keys. keys ≡ unwritten writes.now guards.now) }
 {
     let mut keys = List::new(alloc);

@@ -13,8 +13,12 @@ mod lookup;
 mod op;
 mod report;
 mod row;
+#[cfg(test)]
+mod tests;
 
+pub use committed::state;
 pub use evaluated::Evaluated;
+pub use evaluation::eval;
 pub use log::{Attempt, Event, Finish, Lock, Log, MoveEnd, Outcome, Snapshot, Stamp};
 pub use op::{Op, Policy};
 pub use report::{AuditRow, Closed, CommitLine, Report};

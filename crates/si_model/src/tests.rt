@@ -131,53 +131,63 @@ fn evaluated(
     String::from_str(alloc, "unfit")
 }
 
-/// Each operation once, a scan of the own writes, and a guard that is written.
-#[test]
-fn all_operations_are_done(rt: HostRuntime) -> Result<(), AllocError> {
-    let alloc = rt.alloc();
-    let rows = vec![in alloc; row(0, 3, &[30]), row(0, 0, &[105]), row(1, 0, &[1, 2])]?;
-    let ops = vec![in alloc;
+fn add(key: u64, up: bool, by: u64) -> Op {
+    Op::Add {
+        table: 0,
+        key,
+        field: 1,
+        up,
+        by,
+    }
+}
+
+fn put(key: u64, word: u64) -> Op {
+    Op::Put {
+        table: 0,
+        key,
+        value: value(&[word]),
+    }
+}
+
+fn scan(low: u64, high: u64) -> Op {
+    Op::Scan {
+        table: 0,
+        low,
+        high,
+    }
+}
+
+fn all_operations() -> [Op; 10] {
+    [
         Op::Get { table: 0, key: 0 },
-        Op::Put {
-            table: 0,
-            key: 1,
-            value: value(&[7])
-        },
-        Op::Add {
-            table: 0,
-            key: 0,
-            field: 1,
-            up: true,
-            by: 7
-        },
+        put(1, 7),
+        add(0, true, 7),
         Op::Add {
             table: 1,
             key: 5,
             field: 2,
             up: true,
-            by: 9
+            by: 9,
         },
         Op::Del { table: 0, key: 3 },
         Op::Need {
             table: 0,
             key: 0,
             field: 1,
-            least: 112
+            least: 112,
         },
         Op::Guard { table: 1, key: 0 },
         Op::Guard { table: 0, key: 1 },
-        Op::Scan {
-            table: 0,
-            low: 0,
-            high: 5
-        },
-        Op::Put {
-            table: 0,
-            key: 1,
-            value: value(&[8])
-        },
-    ]?;
-    let text = evaluated(alloc, &[1, 2], &ops, &rows)?;
+        scan(0, 5),
+        put(1, 8),
+    ]
+}
+
+/// A scan lists the own writes, and a guard of a written key is none.
+#[test]
+fn all_operations_are_done(rt: HostRuntime) -> Result<(), AllocError> {
+    let rows = [row(0, 3, &[30]), row(0, 0, &[105]), row(1, 0, &[1, 2])];
+    let text = evaluated(rt.alloc(), &[1, 2], &all_operations(), &rows)?;
     assert_eq!(rt;
         text.as_str(),
         "reads 0 0 105, 0 0 105, 1 5 -, 0 0 112, 1 0 1 2, 0 1 7, 0 0 112, 0 1 7, writes 0 1 8, 0 0 112, 1 5 0 9, 0 3 -, guards 1 0,"
@@ -185,41 +195,32 @@ fn all_operations_are_done(rt: HostRuntime) -> Result<(), AllocError> {
     Ok(())
 }
 
-/// What isn't enough, and what is more than a word or less than none, declines with the reads so far.
+/// What is too little, and what would be more than a word or less than none.
 #[test]
 fn operations_decline(rt: HostRuntime) -> Result<(), AllocError> {
-    let alloc = rt.alloc();
-    let rows = vec![in alloc; row(0, 0, &[5])]?;
+    let rows = [row(0, 0, &[5])];
     let need = Op::Need {
         table: 0,
         key: 0,
         field: 1,
         least: 6,
     };
-    let above = Op::Add {
-        table: 0,
-        key: 0,
-        field: 1,
-        up: true,
-        by: 18446744073709551615,
-    };
-    let below = Op::Add {
-        table: 0,
-        key: 1,
-        field: 1,
-        up: false,
-        by: 1,
-    };
-    let cases = vec![in alloc;
-        (need, "declined 2 reads 0 1 -, 0 0 5,"),
-        (above, "declined 2 reads 0 1 -, 0 0 5,"),
-        (below, "declined 2 reads 0 1 -, 0 1 -,"),
-    ]?;
-    for (op, want) in cases {
-        let ops = vec![in alloc; Op::Get { table: 0, key: 1 }, op]?;
-        let text = evaluated(alloc, &[1], &ops, &rows)?;
-        assert_eq!(rt; text.as_str(), want);
-    }
+    let text = evaluated(
+        rt.alloc(),
+        &[1],
+        &[Op::Get { table: 0, key: 1 }, need],
+        &rows,
+    )?;
+    assert_eq!(rt; text.as_str(), "declined 2 reads 0 1 -, 0 0 5,");
+    let text = evaluated(
+        rt.alloc(),
+        &[1],
+        &[add(0, true, 18446744073709551615)],
+        &rows,
+    )?;
+    assert_eq!(rt; text.as_str(), "declined 1 reads 0 0 5,");
+    let text = evaluated(rt.alloc(), &[1], &[add(1, false, 1)], &rows)?;
+    assert_eq!(rt; text.as_str(), "declined 1 reads 0 1 -,");
     Ok(())
 }
 
@@ -241,74 +242,53 @@ fn entry(writes: Vec<Item>) -> CommitLine {
     }
 }
 
+fn state_text(
+    alloc: Global,
+    rows: &[Row],
+    history: &[CommitLine],
+    p: usize,
+) -> Result<String, AllocError>
+    requires { p ≤ length history.now }
+{
+    let rows = state(alloc, rows, history, p)?;
+    text_of_rows(alloc, &rows)
+}
+
 /// An account of 100 gets 5, and then 7.
 #[test]
 fn a_change_is_evaluated_on_the_state(rt: HostRuntime) -> Result<(), AllocError> {
     let alloc = rt.alloc();
-    let rows = vec![in alloc; row(0, 0, &[100])]?;
-    let writes = vec![in alloc; item(0, Some(value(&[105])))]?;
-    let history = vec![in alloc; entry(writes)]?;
-    let before = state(alloc, &rows, &history, 0)?;
-    assert_eq!(rt; text_of_rows(alloc, &before)?.as_str(), " 0 0 100,");
+    let rows = [row(0, 0, &[100])];
+    let history = [entry(vec![in alloc; item(0, Some(value(&[105])))]?)];
+    let before = state_text(alloc, &rows, &history, 0)?;
+    assert_eq!(rt; before.as_str(), " 0 0 100,");
     let after = state(alloc, &rows, &history, 1)?;
-    assert_eq!(rt; text_of_rows(alloc, &after)?.as_str(), " 0 0 105,");
-    let ops = vec![in alloc;
-        Op::Add {
-            table: 0,
-            key: 0,
-            field: 1,
-            up: true,
-            by: 7
-        },
-    ]?;
-    let text = evaluated(alloc, &[1], &ops, &after)?;
+    let text = evaluated(alloc, &[1], &[add(0, true, 7)], &after)?;
     assert_eq!(rt; text.as_str(), "reads 0 0 105, writes 0 0 112, guards");
     Ok(())
 }
 
-/// A scan lists what was written before it, and what is on the state.
+/// A scan lists what was written before it, and what the state has.
 #[test]
 fn a_scan_is_evaluated_on_the_state(rt: HostRuntime) -> Result<(), AllocError> {
     let alloc = rt.alloc();
-    let rows = vec![in alloc; row(0, 3, &[30]), row(0, 1, &[10]), row(0, 7, &[70])]?;
-    let ops = vec![in alloc;
-        Op::Scan {
-            table: 0,
-            low: 1,
-            high: 3
-        },
-        Op::Put {
-            table: 0,
-            key: 2,
-            value: value(&[20])
-        },
+    let rows = [row(0, 3, &[30]), row(0, 1, &[10]), row(0, 7, &[70])];
+    let ops = [
+        scan(1, 3),
+        put(2, 20),
         Op::Del { table: 0, key: 1 },
-        Op::Scan {
-            table: 0,
-            low: 1,
-            high: 3
-        },
-    ]?;
+        scan(1, 3),
+    ];
     let text = evaluated(alloc, &[1], &ops, &rows)?;
     assert_eq!(rt;
         text.as_str(),
         "reads 0 1 10, 0 3 30, 0 2 20, 0 3 30, writes 0 2 20, 0 1 -, guards"
     );
-    let writes = vec![in alloc; item(2, Some(value(&[20]))), item(1, None)]?;
-    let history = vec![in alloc; entry(writes)]?;
+    let history = [entry(vec![in alloc; item(2, Some(value(&[20]))), item(1, None)]?)];
     let after = state(alloc, &rows, &history, 1)?;
-    assert_eq!(rt;
-        text_of_rows(alloc, &after)?.as_str(),
-        " 0 2 20, 0 3 30, 0 7 70,"
-    );
-    let ops = vec![in alloc;
-        Op::Scan {
-            table: 0,
-            low: 0,
-            high: 18446744073709551614
-        },
-    ]?;
-    let text = evaluated(alloc, &[1], &ops, &after)?;
+    let text = text_of_rows(alloc, &after)?;
+    assert_eq!(rt; text.as_str(), " 0 2 20, 0 3 30, 0 7 70,");
+    let text = evaluated(alloc, &[1], &[scan(0, 18446744073709551614)], &after)?;
     assert_eq!(rt;
         text.as_str(),
         "reads 0 2 20, 0 3 30, 0 7 70, writes guards"

@@ -1,7 +1,7 @@
 -- Laws of evaluation and of the committed state: widths are kept, reads are few, keys are those of the operations.
-use Rattle.std.proofs.Common.{◌≡◌, ℕ, zero, suc, ◌+◌, ◌-◌, ◌<◌, ◌≤◌, cond, Bool, true, false, not, ◌⊎◌, inl, inr, List, [], ◌∷◌, ◌++◌, length, get_or, take, drop, refl, ap, sym, ◌∙◌, subst, arith, Option, Some, None}
-use Rattle.std.specs.Prelude.{◌||◌, MatchOption, slice_index, slice_set, replicate, map, filter}
-use Rattle.std.specs.List.{All, AllByRecursion, list_any}
+use Rattle.std.proofs.Common.{◌≡◌, ℕ, zero, suc, ◌+◌, ◌-◌, ◌≤◌, cond, Bool, true, false, not, inl, inr, List, [], ◌∷◌, ◌++◌, length, refl, ap, sym, ◌∙◌, subst, arith, Option, Some, None}
+use Rattle.std.specs.Prelude.{◌||◌, MatchOption, slice_index, replicate, map, filter}
+use Rattle.std.specs.List.{All, AllByRecursion}
 use Rattle.std.proofs.Math.Path.{fun_ext}
 use Rattle.std.proofs.lemmas.Bool.{cases_Bool, cond_both, false≢true}
 use Rattle.std.proofs.lemmas.Bool.Decides.{nat_tests}
@@ -15,7 +15,7 @@ use Rattle.si_model.specs.declared.op.Op.TheVariants.{Get, Put, Add, Del, Need, 
 use Rattle.si_model.specs.declared.evaluated.Evaluated.{Evaluated}
 use Rattle.si_model.specs.declared.evaluated.Evaluated.TheVariants.{Done, Declined}
 use Rattle.si_model.specs.declared.report.CommitLine.{CommitLine}
-use Rattle.si_model.specs.Rows.{key_at, same_key, row_key, item_key, item_at, Rows, rows_of, writes_key, overlay, present, items_from, items_between}
+use Rattle.si_model.specs.Rows.{key_at, same_key, row_key, item_key, item_at, Rows, rows_of, writes_key, overlay, present, items_from}
 use Rattle.si_model.specs.Evaluation.{field_of, with_field, changed, wrote, guarded, passes, found, writes_after, guards_after, unwritten, with_reads, evaluation_from, evaluation_of, reads_of, all_pass, reads_from, key_written, key_guarded, is_key, ops_write, keys_from, written_keys, guard_keys, OpFits, AreWide}
 use Rattle.si_model.specs.EvaluationLaws.{IsWide, is_scan, writes_from}
 use Rattle.si_model.specs.State.{state_at}

@@ -1,5 +1,5 @@
 pub mod EvaluationLemmas
-pub mod HeldLemmas
+pub mod KeyedRowsLemmas
 pub mod RangeLemmas
 pub mod StepLemmas
 mod TransferExample

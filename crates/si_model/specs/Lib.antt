@@ -2,7 +2,7 @@ pub mod Lists
 pub mod Rows
 pub mod Evaluation
 pub mod EvaluationLaws
-pub mod Held
+pub mod KeyedRows
 pub mod State
 pub mod History
 pub mod Tells

@@ -8,6 +8,7 @@
 mod committed;
 mod evaluated;
 mod evaluation;
+mod field;
 mod log;
 mod lookup;
 mod op;

@@ -10,13 +10,11 @@ use crate::row::{Item, Items, Row, Value};
 use std::alloc::{AllocError, Global};
 use std::collections::BTreeSet;
 
+/// An equal value, if there is one.
 pub(crate) fn copied(value: &Option<Value>) -> Option<Value>
     ensures { result ≡ value.now }
 {
-    match value {
-        Some(value) => Some(value.copy()),
-        None => None,
-    }
+    value.as_ref().map(|value| value.copy())
 }
 
 fn value_of_row(rows: &[Row], table: u32, key: u64) -> Option<Value>

@@ -1,4 +1,4 @@
-ghost use Rattle.std.specs.Prelude.{◌≡◌, ◌<◌, ◌≤◌, ◌^◌, length, slice_index, All, IsTrue};
+ghost use Rattle.std.specs.Prelude.{◌≡◌, ◌<◌, ◌≤◌, length, slice_index, All, IsTrue};
 ghost use Rattle.si_model.specs.Evaluation.{OpFits};
 
 use crate::{CommitLine, Evaluated, Item, Op, Row, Value, eval, state};

@@ -81,6 +81,15 @@ impl<T: Drop> List<T> {
         Ok(())
     }
 
+    /// Appends the elements of another list. Where memory is not found, the list stays as it was.
+    pub fn append(&mut self, other: List<T>) -> Result<(), AllocError>
+        ensures ok { OnOk result (self.new ≡ self.old ++ other) }
+        ensures err { OnErr result (self.new ≡ self.old) }
+    {
+        let mut items = other.into_vec();
+        self.buffer.append(&mut items)
+    }
+
     /// Puts an element in the place of another.
     pub fn set(&mut self, place: usize, item: T)
         requires { place < length self.old }

@@ -13,9 +13,12 @@ fn a_list_grows_and_changes(rt: HostRuntime) -> Result<(), AllocError> {
         list.set(0, 9);
         assert_eq!(rt; *list.at(1), 8);
     }
+    let mut more: List<u64> = List::new(rt.alloc());
+    more.push(6)?;
+    list.append(more)?;
     let vector = list.into_vec();
-    assert!(rt; vector.as_slice() == [9, 8].as_slice());
-    assert_eq!(rt; List::from_vec(vector).len(), 2);
+    assert!(rt; vector.as_slice() == [9, 8, 6].as_slice());
+    assert_eq!(rt; List::from_vec(vector).len(), 3);
     Ok(())
 }
 

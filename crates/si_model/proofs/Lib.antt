@@ -1,6 +1,15 @@
 pub mod EvaluationLemmas
-pub mod KeyedRowsLemmas
+pub mod HeldLemmas
 pub mod RangeLemmas
 pub mod StepLemmas
-mod TransferExample
 pub mod WriteLemmas
+mod ExampleWords
+mod TransferExample
+mod FirstCommitterWinsExample
+mod WriteSkewExample
+mod SnapshotAgainExample
+mod DeclinedExample
+mod GuardForbidsSkewExample
+mod ReaderTooOldExample
+mod ScanWithOwnWritesExample
+mod NotRunsExample

@@ -2,7 +2,8 @@ pub mod Lists
 pub mod Rows
 pub mod Evaluation
 pub mod EvaluationLaws
-pub mod KeyedRows
+pub mod Held
+pub mod Committed
 pub mod State
 pub mod History
 pub mod Tells

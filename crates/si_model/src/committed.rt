@@ -2,8 +2,8 @@
 
 ghost use Rattle.std.specs.Prelude.{◌≡◌, ◌≤◌, length, take, IfOk, OnOk, if◌then◌else◌};
 ghost use Rattle.si_model.specs.declared.row.Key.{Key};
+ghost use Rattle.si_model.specs.Held.{held_at};
 ghost use Rattle.si_model.specs.Rows.{same_key, rows_of, overlay, ListsRows};
-ghost use Rattle.si_model.specs.KeyedRows.{rows_in};
 ghost use Rattle.si_model.specs.State.{state_at};
 
 use crate::lookup::copied;
@@ -12,62 +12,58 @@ use crate::row::{Item, Key, Row, Value};
 use std::alloc::{AllocError, Global};
 use std::collections::BTreeMap;
 
-/// The values of the rows. Where rows share a key, the first counts, so it is put in last.
-#[tactic(auto, using(crate::proofs::KeyedRowsLemmas::under_rows))]
-fn values_of(alloc: Global, rows: &[Row]) -> Result<BTreeMap<Key, Value>, AllocError>
-    ensures { IfOk result (λ values. (key : Key) → rows_in values key ≡ rows_of rows.now key) }
+/// What the rows hold. Where several have one key the first counts, so it is put in last.
+#[tactic(auto, using(crate::proofs::HeldLemmas::under_rows))]
+fn held_by(alloc: Global, rows: &[Row]) -> Result<BTreeMap<Key, Value>, AllocError>
+    ensures { IfOk result (λ held. (key : Key) → held_at held key ≡ rows_of rows.now key) }
 {
-    let mut values = BTreeMap::new(alloc);
+    let mut held = BTreeMap::new(alloc);
     for row in rows.iter().rev() {
         let key = Key {
             table: row.table,
             key: row.key,
         };
-        values.insert(key, row.value.copy())?;
+        held.insert(key, row.value.copy())?;
     }
-    Ok(values)
+    Ok(held)
 }
 
 /// Gives a key a value, or makes it absent.
-fn set_value(
-    values: &mut BTreeMap<Key, Value>,
-    key: Key,
-    value: Option<Value>,
-) -> Result<(), AllocError>
-    ensures { OnOk result ((k : Key) → rows_in values.new k ≡ (if same_key key k then value else rows_in values.old k)) }
+fn hold(held: &mut BTreeMap<Key, Value>, key: Key, value: Option<Value>) -> Result<(), AllocError>
+    ensures { OnOk result ((k : Key) → held_at held.new k ≡ (if same_key key k then value else held_at held.old k)) }
 {
     match value {
         Some(value) => {
-            values.insert(key, value)?;
+            held.insert(key, value)?;
         }
         None => {
-            values.remove(&key);
+            held.remove(&key);
         }
     }
     Ok(())
 }
 
-/// Writes a write set over the values. Where its items share a key, the first counts, so it is written last.
-#[tactic(auto, using(crate::proofs::KeyedRowsLemmas::under_writes))]
-fn write_over(values: &mut BTreeMap<Key, Value>, writes: &[Item]) -> Result<(), AllocError>
-    ensures { OnOk result ((key : Key) → rows_in values.new key ≡ overlay writes.now (rows_in values.old) key) }
+/// Puts a write set over what is held. Where it writes a key several times the first counts, so it is put in last.
+#[tactic(auto, using(crate::proofs::HeldLemmas::under_writes))]
+fn write_over(held: &mut BTreeMap<Key, Value>, writes: &[Item]) -> Result<(), AllocError>
+    ensures { OnOk result ((key : Key) → held_at held.new key ≡ overlay writes.now (held_at held.old) key) }
 {
     for item in writes.iter().rev() {
         let key = Key {
             table: item.table,
             key: item.key,
         };
-        set_value(values, key, copied(&item.value))?;
+        hold(held, key, copied(&item.value))?;
     }
     Ok(())
 }
 
-/// The rows of the values, in order of tables and keys.
-fn listed(alloc: Global, values: BTreeMap<Key, Value>) -> Result<Vec<Row>, AllocError>
-    ensures { IfOk result (λ rows. ListsRows rows.items (rows_in values)) }
+/// The rows that are held, in order of tables and keys.
+fn listed(alloc: Global, held: BTreeMap<Key, Value>) -> Result<Vec<Row>, AllocError>
+    ensures { IfOk result (λ rows. ListsRows rows.items (held_at held)) }
 {
     let mut rows = Vec::new(alloc);
-    for (key, value) in values {
+    for (key, value) in held {
         rows.push(Row {
             table: key.table,
             key: key.key,
@@ -75,6 +71,49 @@ fn listed(alloc: Global, values: BTreeMap<Key, Value>) -> Result<Vec<Row>, Alloc
         })?;
     }
     Ok(rows)
+}
+
+/// The committed rows, by key, while one write set after another is put over them.
+#[derive(Drop)]
+pub struct CommittedRows {
+    held: BTreeMap<Key, Value>,
+}
+
+impl CommittedRows {
+    ghost use Rattle.si_model.specs.Committed.{rows_held};
+
+    /// The loaded rows. Where several have one key, the first counts.
+    pub fn load(alloc: Global, rows: &[Row]) -> Result<CommittedRows, AllocError>
+        ensures { IfOk result (λ c. (key : Key) → rows_held c key ≡ rows_of rows.now key) }
+    {
+        let held = held_by(alloc, rows)?;
+        Ok(CommittedRows { held })
+    }
+
+    /// What a key holds.
+    pub fn value(&self, key: Key) -> Option<Value>
+        ensures { result ≡ rows_held self.now key }
+    {
+        match self.held.get(&key) {
+            Some(value) => Some(value.copy()),
+            None => None,
+        }
+    }
+
+    /// Puts a write set over the rows. Where memory is not found, some of it may stand over them.
+    pub fn write(&mut self, writes: &[Item]) -> Result<(), AllocError>
+        ensures { OnOk result ((key : Key) → rows_held self.new key ≡ overlay writes.now (rows_held self.old) key) }
+    {
+        write_over(&mut self.held, writes)
+    }
+
+    /// The rows, ordered by table and key.
+    pub fn into_rows(self, alloc: Global) -> Result<Vec<Row>, AllocError>
+        ensures { IfOk result (λ listed. ListsRows listed.items (rows_held self)) }
+    {
+        let CommittedRows { held } = self;
+        listed(alloc, held)
+    }
 }
 
 /// The rows after the first `p` entries of a history, each key once, ordered by table and key. Where rows share a
@@ -88,9 +127,9 @@ pub fn state(
     requires { p ≤ length history.now }
     ensures { IfOk result (λ listed. ListsRows listed.items (state_at (rows_of rows.now) (take p history.now))) }
 {
-    let mut values = values_of(alloc, rows)?;
+    let mut held = held_by(alloc, rows)?;
     for line in &history[..p] {
-        write_over(&mut values, line.writes.as_slice())?;
+        write_over(&mut held, line.writes.as_slice())?;
     }
-    listed(alloc, values)
+    listed(alloc, held)
 }

@@ -17,7 +17,7 @@ mod row;
 #[cfg(test)]
 mod tests;
 
-pub use committed::state;
+pub use committed::{CommittedRows, state};
 pub use evaluated::Evaluated;
 pub use evaluation::eval;
 pub use log::{Attempt, Event, Finish, Lock, Log, MoveEnd, Outcome, Snapshot, Stamp};

@@ -1,7 +1,7 @@
 ghost use Rattle.std.specs.Prelude.{◌≡◌, ◌<◌, ◌≤◌, length, slice_index, All, IsTrue};
 ghost use Rattle.si_model.specs.Evaluation.{OpFits};
 
-use crate::{CommitLine, Evaluated, Item, Op, Row, Value, eval, state};
+use crate::{CommitLine, CommittedRows, Evaluated, Item, Key, Op, Row, Value, eval, state};
 use lists::List;
 use std::alloc::{AllocError, Global};
 
@@ -293,5 +293,19 @@ fn a_scan_is_evaluated_on_the_state(rt: HostRuntime) -> Result<(), AllocError> {
         text.as_str(),
         "reads 0 2 20, 0 3 30, 0 7 70, writes guards"
     );
+    Ok(())
+}
+
+/// A write set over the loaded rows gives a key another value, and makes one absent.
+#[test]
+fn committed_rows_are_written_over(rt: HostRuntime) -> Result<(), AllocError> {
+    let alloc = rt.alloc();
+    let rows = [row(0, 3, &[30]), row(0, 1, &[10])];
+    let mut committed = CommittedRows::load(alloc, &rows)?;
+    committed.write(&[item(3, Some(value(&[31]))), item(1, None)])?;
+    assert!(rt; committed.value(Key { table: 0, key: 1 }).is_none());
+    let rows = committed.into_rows(alloc)?;
+    let text = text_of_rows(alloc, &rows)?;
+    assert_eq!(rt; text.as_str(), " 0 3 31,");
     Ok(())
 }

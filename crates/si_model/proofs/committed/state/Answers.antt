@@ -1,7 +1,7 @@
 use Rattle.std.proofs.Common.{◌≡◌, ◌<◌, ◌+◌, ◌∷◌, length, drop, take, ap, sym, ◌∙◌, arith}
 use Rattle.std.proofs.Math.Path.{fun_ext}
 use Rattle.std.proofs.lemmas.List.{drop_more}
-use Rattle.si_model.specs.KeyedRows.{rows_in}
+use Rattle.si_model.specs.Held.{held_at}
 use Rattle.si_model.specs.Rows.{overlay}
 use Rattle.si_model.specs.State.{state_at}
 use Rattle.si_model.proofs.committed.state.Goals as goal
@@ -13,5 +13,5 @@ loop-line-preserved c =
     let rest = drop (c.loop-line.line-index + 1) entries in
     let within : c.loop-line.line-index < length entries = omega arith in
     let one : drop c.loop-line.line-index entries ≡ line ∷ rest = drop_more entries c.loop-line.line-index line within ∙ ap (λ e. e ∷ rest) (sym c.line-item.is) in
-    let over : rows_in c.write_over.new.values ≡ overlay line.writes (rows_in c.loop-line.values) = fun_ext (λ key. c.in_ok-write_over.ensures key ∙ ap (λ ws. overlay ws (rows_in c.loop-line.values) key) c.as_slice.ensures) in
-    ap (λ rows. state_at rows rest) over ∙ ap (state_at (rows_in c.loop-line.values)) (sym one) ∙ c.loop-line.invariant
+    let over : held_at c.write_over.new.held ≡ overlay line.writes (held_at c.loop-line.held) = fun_ext (λ key. c.in_ok-write_over.ensures key ∙ ap (λ ws. overlay ws (held_at c.loop-line.held) key) c.as_slice.ensures) in
+    ap (λ rows. state_at rows rest) over ∙ ap (state_at (held_at c.loop-line.held)) (sym one) ∙ c.loop-line.invariant

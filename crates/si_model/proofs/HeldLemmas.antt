@@ -12,7 +12,7 @@ use Rattle.std.proofs.lemmas.Map.Keys.{sorted_head, sorted_tail}
 use Rattle.si_model.specs.declared.row.Key.{Key}
 use Rattle.si_model.specs.declared.row.Row.{Row}
 use Rattle.si_model.specs.declared.row.Item.{Item}
-use Rattle.si_model.specs.KeyedRows.{key_cmp}
+use Rattle.si_model.specs.Held.{key_cmp}
 use Rattle.si_model.specs.Rows.{same_key, key_before, row_key, item_key, Rows, rows_of, overlay, AreInOrder}
 
 pub is_at_key : (a b : Key) → is_at (key_cmp a) b ≡ same_key a b

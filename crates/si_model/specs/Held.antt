@@ -10,6 +10,6 @@ use Rattle.si_model.specs.Rows.{Rows}
 abbrev pub key_cmp : Key → Key → Ordering
 key_cmp a b = ordering_then (nat_cmp a.table b.table) (nat_cmp a.key b.key)
 
--- what the map holds at each key
-abbrev pub rows_in : BTreeMap Key (List ℕ) → Rows
-rows_in values key = get key_cmp values key
+-- what each key holds
+abbrev pub held_at : BTreeMap Key (List ℕ) → Rows
+held_at held key = get key_cmp held key

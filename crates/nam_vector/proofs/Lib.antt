@@ -1,0 +1,3 @@
+pub mod SnapLemmas
+pub mod OrderLemmas
+pub mod SerialLemmas

@@ -1,0 +1,5 @@
+pub mod SnapPlace
+pub mod Snap
+pub mod SnapLaw
+pub mod Publish
+pub mod PublishLaw

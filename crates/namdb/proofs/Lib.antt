@@ -1,0 +1,6 @@
+mod HistoryLemmas
+mod SerialLemmas
+mod SerialRunLemmas
+mod WholeRunLemmas
+mod EvaluateLemmas
+mod StoreLemmas

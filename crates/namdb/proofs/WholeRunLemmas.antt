@@ -116,7 +116,7 @@ module _ (s : Setting) (final : List CommitLine) (tss : List (List Tell)) (untid
         worker_runs (suc j) next n (omega arith) (omega (arith, all)) (λ i above. other_after s j i history xs (λ q. omega (arith, q, above)) ∙ none i (omega (arith, above))) longer,
       )
 
-length-logs_after : (s : Setting) (j : ℕ) (history : List CommitLine) (n : ℕ) → length (logs_after s j history n) ≡ n
+pub length-logs_after : (s : Setting) (j : ℕ) (history : List CommitLine) (n : ℕ) → length (logs_after s j history n) ≡ n
 length-logs_after s j history zero = refl
 length-logs_after s j history (suc n) = ap suc (length-logs_after s (suc j) (history_after s j history (txns_of j s.owners)) n)
 

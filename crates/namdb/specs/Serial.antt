@@ -1,5 +1,5 @@
 -- The run of a script that takes its workers one after another, worker 1 first.
-use Rattle.std.specs.Prelude.{ℕ, zero, suc, false, ◌+◌, ◌==◌, if◌then◌else◌, List, [], ◌∷◌, ◌++◌, length, map, slice_index_or, ◌-◌, Some}
+use Rattle.std.specs.Prelude.{ℕ, zero, suc, false, slice_set, unwrap_or, ◌-◌, ◌+◌, ◌==◌, if◌then◌else◌, List, [], ◌∷◌, ◌++◌, length, map, slice_index_or, ◌-◌, Some}
 use Rattle.std.specs.List.{flat_map}
 use Rattle.si_model.specs.declared.row.Key.{Key}
 use Rattle.si_model.specs.declared.row.Item.{Item}
@@ -8,6 +8,8 @@ use Rattle.si_model.specs.declared.op.Op.{Op}
 use Rattle.si_model.specs.declared.log.Lock.{Lock}
 use Rattle.si_model.specs.declared.log.Outcome.{Outcome}
 use Rattle.si_model.specs.declared.log.Outcome.TheVariants.{Commit, ReadOnly, Declined as DeclinedAt, Spent}
+use Rattle.si_model.specs.declared.log.Attempt.{Attempt}
+use Rattle.si_model.specs.declared.log.Event.{Event}
 use Rattle.si_model.specs.declared.log.Event.TheVariants.{Tried}
 use Rattle.si_model.specs.declared.log.Log.{Log}
 use Rattle.si_model.specs.declared.report.AuditRow.{AuditRow}
@@ -18,7 +20,7 @@ use Rattle.si_model.specs.Rows.{rows_of}
 use Rattle.si_model.specs.Evaluation.{evaluation_of, reads_of}
 use Rattle.si_model.specs.State.{state_at}
 use Rattle.si_model.specs.History.{count_of, entries_at, newest_writer, keys_of}
-use Rattle.si_model.specs.Tells.{Tell}
+use Rattle.si_model.specs.Tells.{Tell, number_in}
 use Rattle.si_model.specs.Setting.{Setting, txns_of}
 
 -- how an attempt ends, by its evaluation and its worker's last number
@@ -42,6 +44,50 @@ writes_by e outcome = []
 abbrev pub entry_by : ℕ → ℕ → ℕ → List Item → Outcome → List CommitLine
 entry_by j x prefix writes (Commit number) = record { worker = j; number = number; prefix = prefix; txn = x; writes = writes } ∷ []
 entry_by j x prefix writes outcome = []
+
+-- how many keys a done evaluation writes and guards
+abbrev pub claims_of : Evaluated → ℕ
+claims_of (Done reads writes guards) = length writes + length guards
+claims_of (Declined op reads) = 0
+
+-- the locks of a commit, where each key has such a lock
+abbrev pub locks_with : (Key → Lock) → Evaluated → Outcome → List Lock
+locks_with lock (Done reads writes guards) (Commit number) = map lock (keys_of writes guards)
+locks_with lock e outcome = []
+
+-- the first attempt at transaction x, which ended so
+abbrev pub attempt_by : ℕ → ℕ → Evaluated → List Lock → Outcome → Attempt
+attempt_by x prefix e locks outcome =
+    record { txn = x; nth = 1; prefix = Some prefix; reads = length (reads_of e); locks = length locks; writes = length (writes_by e outcome); outcome = outcome }
+
+-- the vector after an attempt of worker j
+abbrev pub vector_by : ℕ → Outcome → List ℕ → List ℕ
+vector_by j (Commit number) vector = slice_set vector (j - 1) number
+vector_by j outcome vector = vector
+
+-- the number that an outcome commits
+abbrev pub number_by : Outcome → ℕ
+number_by outcome = unwrap_or (number_in outcome) 0
+
+-- a log with one more event and its items
+abbrev pub log_with : Log → Event → List Item → List Lock → List Item → List ℕ → Log
+log_with log event reads locks writes snap = record {
+  events = log.events ++ event ∷ [];
+  reads = log.reads ++ reads;
+  locks = log.locks ++ locks;
+  writes = log.writes ++ writes;
+  snaps = log.snaps ++ snap ∷ [];
+}
+
+-- a log with all that is told
+abbrev pub log_grown : Log → List Tell → Log
+log_grown log ts = record {
+  events = log.events ++ map (λ t. t.event) ts;
+  reads = log.reads ++ flat_map (λ t. t.reads) ts;
+  locks = log.locks ++ flat_map (λ t. t.locks) ts;
+  writes = log.writes ++ flat_map (λ t. t.writes) ts;
+  snaps = log.snaps ++ map (λ t. t.snap) ts;
+}
 
 -- the operations of transaction x
 abbrev pub ops_of : Setting → ℕ → List Op
@@ -83,6 +129,10 @@ module _ (s : Setting) (j : ℕ) where
   abbrev pub history_after : List CommitLine → List ℕ → List CommitLine
   history_after history [] = history
   history_after history (x ∷ xs) = history_after (history ++ entry_after history x) xs
+
+-- the number of a transaction, where it is worker j's
+abbrev pub own_txn : ℕ → ℕ → ℕ → List ℕ
+own_txn j owner x = if owner == j then x ∷ [] else []
 
 -- the log that tells this
 abbrev pub log_of : List Tell → Log

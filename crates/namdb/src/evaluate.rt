@@ -1,11 +1,12 @@
 //! The evaluation of a transaction on the committed rows.
 
-ghost use Rattle.std.specs.Prelude.{◌≡◌, ◌++◌, ◌^◌, ◌<◌, All, IsTrue, length, IfOk, OnOk};
+ghost use Rattle.std.specs.Prelude.{◌≡◌, ◌++◌, ◌^◌, ◌<◌, ◌≤◌, All, IsTrue, length, IfOk, OnOk};
 ghost use Rattle.std.specs.List.{AllByRecursion};
 ghost use Rattle.si_model.specs.Committed.{rows_held};
-ghost use Rattle.si_model.specs.Evaluation.{evaluation_of, OpFits, AreWide};
+ghost use Rattle.si_model.specs.Evaluation.{evaluation_of, reads_of, OpFits, AreWide};
 ghost use Rattle.nam_script.specs.Limits.{is_plain};
 ghost use Rattle.namdb.specs.Plain.{key_of, row_at, rows_named};
+ghost use Rattle.namdb.specs.Serial.{claims_of};
 
 use si_model::{CommittedRows, Evaluated, Key, Op, Row, eval};
 use std::alloc::{AllocError, Global};
@@ -70,7 +71,9 @@ pub fn evaluate(
     requires fit { AllByRecursion (OpFits widths.now) ops.now }
     requires wide { AreWide widths.now (rows_held rows.now) }
     requires short { length ops.now < 2 ^ 32 }
-    ensures { IfOk result (λ e. e ≡ evaluation_of widths.now (rows_held rows.now) ops.now) }
+    ensures value { IfOk result (λ e. e ≡ evaluation_of widths.now (rows_held rows.now) ops.now) }
+    ensures few_reads { IfOk result (λ e. length (reads_of e) ≤ length ops.now) }
+    ensures few_keys { IfOk result (λ e. claims_of e ≤ length ops.now) }
 {
     let named = name_rows(alloc, rows, ops)?;
     eval(alloc, widths, ops, named.as_slice())

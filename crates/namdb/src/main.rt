@@ -1,7 +1,9 @@
 //! The program `namdb`.
 #![tactic(auto)]
 
+mod attempt;
 mod evaluate;
+mod serial;
 mod stamps;
 mod store;
 

@@ -1,8 +1,9 @@
-use Rattle.std.proofs.Common.{◌≡◌, IfOk, ap, sym, ◌∙◌, subst}
+use Rattle.std.proofs.Common.{◌≡◌, ◌≤◌, length, IfOk, ap, sym, ◌∙◌, subst}
 use Rattle.si_model.specs.Committed.{rows_held}
 use Rattle.si_model.specs.Rows.{rows_of}
-use Rattle.si_model.specs.Evaluation.{evaluation_of, AreWide}
-use Rattle.namdb.proofs.EvaluateLemmas.{evaluation_named, wide_named}
+use Rattle.si_model.specs.Evaluation.{evaluation_of, reads_of, AreWide}
+use Rattle.namdb.specs.Serial.{claims_of}
+use Rattle.namdb.proofs.EvaluateLemmas.{evaluation_named, wide_named, reads_few, claims_few, if_same}
 use Rattle.namdb.proofs.evaluate.evaluate.Goals as goal
 
 pub eval-requires-clause-wide : goal.eval-requires-clause-wide
@@ -13,5 +14,13 @@ eval-requires-clause-wide c =
 pub returns : goal.returns
 returns c =
     let named = c.as_slice.ensures.value ∙ c.in_ok-named.ensures in
-    let same = ap (λ items. evaluation_of c.args.widths.now (rows_of items) c.args.ops.now) named ∙ evaluation_named c.args.widths.now (rows_held c.args.rows.now) c.args.ops.now c.requires.plain in
-    subst (λ z. IfOk c.eval.result (λ e. e ≡ z)) same c.eval.ensures
+    let ops = c.args.ops.now in
+    let widths = c.args.widths.now in
+    let rows = rows_held c.args.rows.now in
+    let same = ap (λ items. evaluation_of widths (rows_of items) ops) named ∙ evaluation_named widths rows ops c.requires.plain in
+    let value = subst (λ z. IfOk c.eval.result (λ e. e ≡ z)) same c.eval.ensures in
+    record {
+      value = value;
+      few_reads = if_same c.eval.result (evaluation_of widths rows ops) (λ e. length (reads_of e) ≤ length ops) (reads_few widths rows ops c.requires.plain) value;
+      few_keys = if_same c.eval.result (evaluation_of widths rows ops) (λ e. claims_of e ≤ length ops) (claims_few widths rows ops) value;
+    }

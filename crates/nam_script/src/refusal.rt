@@ -1,0 +1,52 @@
+//! Why a text is no script.
+
+ghost use Rattle.std.specs.Prelude.{◌≡◌};
+ghost use Rattle.nam_script.specs.declared.refusal.ParseEnd.TheVariants.{Memory};
+
+use std::alloc::{AllocError, AllocFailed};
+use thiserror::Error;
+
+/// What is wrong with a line. A line that has several faults is refused by the first of these.
+#[derive(Clone, Copy, Debug, PartialEq, Eq)]
+pub enum Kind {
+    /// No newline ends the line, or the text ends before this line, where a script cannot end.
+    Cut,
+    /// The line may not stand here, or is misspelt.
+    Word,
+    /// The table is not known, or is named a second time.
+    Name,
+    /// A number is outside its limits, or a key is not one of those that may stand here.
+    Range,
+    /// A key of a table is loaded a second time.
+    Twice,
+    /// There are too many of something.
+    Size,
+    /// The line is not of the JSON form.
+    Json,
+}
+
+/// Why a script was not read.
+#[derive(Debug, Drop, PartialEq, Eq, Error)]
+pub enum ParseEnd {
+    /// The first line, counted from 1, that no script has here, and what is wrong with it.
+    #[error("a line is not of a script")]
+    Bad { line: u32, kind: Kind },
+    #[error("out of memory")]
+    Memory,
+}
+
+impl From<AllocError> for ParseEnd {
+    ghost from_gives = { λ _ e. e ≡ Memory };
+
+    fn from(_e: AllocError) -> ParseEnd {
+        ParseEnd::Memory
+    }
+}
+
+impl<T: Drop> From<AllocFailed<T>> for ParseEnd {
+    ghost from_gives = { λ _ e. e ≡ Memory };
+
+    fn from(_e: AllocFailed<T>) -> ParseEnd {
+        ParseEnd::Memory
+    }
+}

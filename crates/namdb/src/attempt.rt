@@ -1,0 +1,167 @@
+//! One attempt of the serial run.
+
+ghost use Rattle.std.specs.Prelude.{◌≡◌, ℕ, ◌+◌, ◌-◌, ◌^◌, ◌<◌, ◌≤◌, ◌++◌, [], ◌∷◌, IsTrue, length, slice_index, slice_set, OnOk, if◌then◌else◌};
+ghost use Rattle.std.specs.List.{AllByRecursion};
+ghost use Rattle.si_model.specs.declared.row.Key.{Key};
+ghost use Rattle.si_model.specs.Rows.{writes_key, overlay};
+ghost use Rattle.si_model.specs.Committed.{rows_held};
+ghost use Rattle.si_model.specs.Evaluation.{evaluation_of, reads_of, OpFits, AreWide};
+ghost use Rattle.si_model.specs.History.{stamp_at};
+ghost use Rattle.nam_script.specs.Limits.{is_plain};
+ghost use Rattle.namdb.specs.Stamps.{stamp_held, lock_held};
+ghost use Rattle.namdb.specs.Serial.{outcome_of, writes_by, entry_by, locks_with, attempt_by, vector_by, number_by, log_with};
+
+use crate::evaluate::evaluate;
+use crate::store::Store;
+use lists::List;
+use nam_vector::take_snapshot;
+use si_model::{Attempt, Evaluated, Event, Items, Key, Lock, Log, Op, Outcome, Snapshot};
+use std::alloc::{AllocError, Global};
+
+/// Whose attempt it is, at which transaction, and on how many entries of the history.
+#[derive(Clone, Copy)]
+pub struct Turn {
+    pub worker: u32,
+    pub txn: u32,
+    pub prefix: u64,
+    /// The last number of the worker, and the greatest that there is.
+    pub last: u64,
+    pub greatest: u64,
+}
+
+/// Lists a first attempt with its items and its snapshot.
+fn list_attempt(
+    log: &mut Log,
+    turn: Turn,
+    outcome: Outcome,
+    reads: Items,
+    locks: List<Lock>,
+    writes: Items,
+    seen: Snapshot,
+) -> Result<(), AllocError>
+    requires reads { length reads < 2 ^ 32 }
+    requires locks { length locks < 2 ^ 32 }
+    requires writes { length writes < 2 ^ 32 }
+    ensures { OnOk result (log.new ≡ log_with log.old (Event.Tried (record { txn = turn.txn; nth = 1; prefix = Some turn.prefix; reads = length reads; locks = length locks; writes = length writes; outcome = outcome })) reads locks writes seen) }
+{
+    let attempt = Attempt {
+        txn: turn.txn,
+        nth: 1,
+        prefix: Some(turn.prefix),
+        reads: reads.len() as u32,
+        locks: locks.len() as u32,
+        writes: writes.len() as u32,
+        outcome,
+    };
+    log.events.push(Event::Tried(attempt))?;
+    log.reads.append(reads)?;
+    log.locks.append(locks)?;
+    log.writes.append(writes)?;
+    log.snaps.push(seen)
+}
+
+/// Ends an attempt whose operations were all done: it reads only, or has no number left, or commits.
+fn end_done(
+    alloc: Global,
+    store: &mut Store,
+    log: &mut Log,
+    turn: Turn,
+    reads: Items,
+    writes: Items,
+    guards: List<Key>,
+    seen: Snapshot,
+) -> Result<(), AllocError>
+    requires worker { (1 ≤ turn.worker) × (turn.worker ≤ 16) }
+    requires entry { turn.worker ≤ length store.old.vector }
+    requires number { turn.last ≤ turn.greatest }
+    requires prefix { turn.prefix ≡ length store.old.history }
+    requires few_reads { length reads < 2 ^ 32 }
+    requires few_keys { length writes + length guards < 2 ^ 32 }
+    ensures log { let e = Evaluated.Done reads writes guards in let o = outcome_of turn.greatest turn.last e in let locks = locks_with (lock_held store.old.stamps) e o in OnOk result (log.new ≡ log_with log.old (Event.Tried (attempt_by turn.txn turn.prefix e locks o)) reads locks (writes_by e o) seen) }
+    ensures history { let e = Evaluated.Done reads writes guards in let o = outcome_of turn.greatest turn.last e in OnOk result (store.new.history ≡ store.old.history ++ entry_by turn.worker turn.txn turn.prefix (writes_by e o) o) }
+    ensures vector { let e = Evaluated.Done reads writes guards in let o = outcome_of turn.greatest turn.last e in OnOk result (store.new.vector ≡ vector_by turn.worker o store.old.vector) }
+    ensures rows { let e = Evaluated.Done reads writes guards in let o = outcome_of turn.greatest turn.last e in OnOk result ((key : Key) → rows_held store.new.rows key ≡ overlay (writes_by e o) (rows_held store.old.rows) key) }
+    ensures stamps { let e = Evaluated.Done reads writes guards in let o = outcome_of turn.greatest turn.last e in OnOk result ((key : Key) → stamp_held store.new.stamps key ≡ (if writes_key (writes_by e o) key then stamp_at turn.worker (number_by o) else stamp_held store.old.stamps key)) }
+{
+    let none = List::new(alloc);
+    let nothing = List::new(alloc);
+    if writes.is_empty() {
+        return list_attempt(log, turn, Outcome::ReadOnly, reads, none, nothing, seen);
+    }
+    if turn.last == turn.greatest {
+        return list_attempt(log, turn, Outcome::Spent, reads, none, nothing, seen);
+    }
+    let number = turn.last + 1;
+    let locks = store.locks(alloc, writes.as_slice(), guards.as_slice())?;
+    store.commit(alloc, turn.worker, number, turn.txn, writes.as_slice())?;
+    list_attempt(
+        log,
+        turn,
+        Outcome::Commit { number },
+        reads,
+        locks,
+        writes,
+        seen,
+    )
+}
+
+/// What is the same for all attempts of a run.
+#[derive(Drop)]
+pub struct Plan {
+    pub workers: u32,
+    pub greatest: u64,
+    pub widths: Vec<u32>,
+}
+
+/// A worker's one attempt at a transaction: a snapshot, the evaluation on the committed rows, and the commit.
+pub fn attempt(
+    alloc: Global,
+    plan: &Plan,
+    store: &mut Store,
+    log: &mut Log,
+    worker: u32,
+    txn: u32,
+    ops: &[Op],
+) -> Result<(), AllocError>
+    requires worker { (1 ≤ worker) × (worker ≤ plan.now.workers) × (plan.now.workers ≤ 16) }
+    requires vector { length store.old.vector ≡ plan.now.workers }
+    requires number { slice_index store.old.vector (worker - 1) ≤ plan.now.greatest }
+    requires plain { AllByRecursion (λ op. IsTrue (is_plain op)) ops.now }
+    requires fit { AllByRecursion (OpFits plan.now.widths.items) ops.now }
+    requires wide { AreWide plan.now.widths.items (rows_held store.old.rows) }
+    requires short { length ops.now < 2 ^ 32 }
+    ensures log { let e = evaluation_of plan.now.widths.items (rows_held store.old.rows) ops.now in let o = outcome_of plan.now.greatest (slice_index store.old.vector (worker - 1)) e in let locks = locks_with (lock_held store.old.stamps) e o in OnOk result (log.new ≡ log_with log.old (Event.Tried (attempt_by txn (length store.old.history) e locks o)) (reads_of e) locks (writes_by e o) store.old.vector) }
+    ensures history { let e = evaluation_of plan.now.widths.items (rows_held store.old.rows) ops.now in let o = outcome_of plan.now.greatest (slice_index store.old.vector (worker - 1)) e in OnOk result (store.new.history ≡ store.old.history ++ entry_by worker txn (length store.old.history) (writes_by e o) o) }
+    ensures vector { let e = evaluation_of plan.now.widths.items (rows_held store.old.rows) ops.now in let o = outcome_of plan.now.greatest (slice_index store.old.vector (worker - 1)) e in OnOk result (store.new.vector ≡ vector_by worker o store.old.vector) }
+    ensures rows { let e = evaluation_of plan.now.widths.items (rows_held store.old.rows) ops.now in let o = outcome_of plan.now.greatest (slice_index store.old.vector (worker - 1)) e in OnOk result ((key : Key) → rows_held store.new.rows key ≡ overlay (writes_by e o) (rows_held store.old.rows) key) }
+    ensures stamps { let e = evaluation_of plan.now.widths.items (rows_held store.old.rows) ops.now in let o = outcome_of plan.now.greatest (slice_index store.old.vector (worker - 1)) e in OnOk result ((key : Key) → stamp_held store.new.stamps key ≡ (if writes_key (writes_by e o) key then stamp_at worker (number_by o) else stamp_held store.old.stamps key)) }
+{
+    let seen = take_snapshot(&mut store.vector, plan.workers);
+    let turn = Turn {
+        worker,
+        txn,
+        prefix: store.history.len() as u64,
+        last: *seen.at(worker as usize - 1),
+        greatest: plan.greatest,
+    };
+    match evaluate(alloc, plan.widths.as_slice(), &store.rows, ops)? {
+        Evaluated::Declined { op, reads } => {
+            let none = List::new(alloc);
+            let nothing = List::new(alloc);
+            list_attempt(
+                log,
+                turn,
+                Outcome::Declined { op },
+                reads,
+                none,
+                nothing,
+                seen,
+            )
+        }
+        Evaluated::Done {
+            reads,
+            writes,
+            guards,
+        } => end_done(alloc, store, log, turn, reads, writes, guards, seen),
+    }
+}

@@ -1,0 +1,162 @@
+//! The serial run: one worker after another, each transaction tried once.
+
+ghost use Rattle.std.specs.Prelude.{◌≡◌, ℕ, ◌+◌, ◌<◌, ◌≤◌, [], length, map, slice_index, IfOk, OnOk};
+ghost use Rattle.si_model.specs.Run.{IsRun};
+ghost use Rattle.si_model.specs.Setting.{txns_of};
+ghost use Rattle.nam_catalog.specs.Tables.{widths_of};
+ghost use Rattle.nam_script.specs.Limits.{IsPlain};
+ghost use Rattle.nam_report.specs.Fits.{FitsScript};
+ghost use Rattle.namdb.specs.Plain.{setting_of};
+ghost use Rattle.namdb.specs.Store.{IsStore, IsPlan};
+ghost use Rattle.namdb.specs.Serial.{own_txn, tells_after, history_after, log_of, log_grown, logs_after, end_after, audit_of};
+
+use crate::attempt::{Plan, attempt};
+use crate::store::Store;
+use lists::List;
+use nam_catalog::{Table, greatest};
+use nam_script::Script;
+use si_model::{AuditRow, Log, Report, Row};
+use std::alloc::{AllocError, Global};
+
+/// The widths of the tables.
+fn widths_of(alloc: Global, tables: &[Table]) -> Result<Vec<u32>, AllocError>
+    ensures { IfOk result (λ widths. widths.items ≡ widths_of tables.now) }
+{
+    tables.iter().map(|table| table.width).collect(alloc)
+}
+
+/// A log without events.
+fn new_log(alloc: Global) -> Log
+    ensures { result ≡ log_of [] }
+{
+    Log {
+        events: List::new(alloc),
+        reads: List::new(alloc),
+        locks: List::new(alloc),
+        writes: List::new(alloc),
+        snaps: List::new(alloc),
+    }
+}
+
+/// The worker's attempt at the transaction at a place of the script, where it is the worker's.
+fn serve(
+    alloc: Global,
+    script: &Script,
+    plan: &Plan,
+    store: &mut Store,
+    log: &mut Log,
+    worker: u32,
+    place: usize,
+) -> Result<(), AllocError>
+    requires plain { IsPlain script.now }
+    requires plan { IsPlan (setting_of script.now) plan.now }
+    requires store { IsStore (setting_of script.now) store.old }
+    requires worker { (1 ≤ worker) × (worker ≤ script.now.shape.workers) }
+    requires place { place < length script.now.txns }
+    ensures store { OnOk result (IsStore (setting_of script.now) store.new) }
+    ensures history { OnOk result (store.new.history ≡ history_after (setting_of script.now) worker store.old.history (own_txn worker (slice_index (setting_of script.now).owners place) (place + 1))) }
+    ensures log { OnOk result (log.new ≡ log_grown log.old (tells_after (setting_of script.now) worker store.old.history (own_txn worker (slice_index (setting_of script.now).owners place) (place + 1)))) }
+{
+    let txn = script.txns.at(place);
+    if txn.worker != worker {
+        return Ok(());
+    }
+    attempt(
+        alloc,
+        plan,
+        store,
+        log,
+        worker,
+        place as u32 + 1,
+        txn.ops.as_slice(),
+    )?;
+    Ok(())
+}
+
+/// All transactions of a worker, in order.
+fn run_worker(
+    alloc: Global,
+    script: &Script,
+    plan: &Plan,
+    store: &mut Store,
+    worker: u32,
+) -> Result<Log, AllocError>
+    requires plain { IsPlain script.now }
+    requires plan { IsPlan (setting_of script.now) plan.now }
+    requires store { IsStore (setting_of script.now) store.old }
+    requires worker { (1 ≤ worker) × (worker ≤ script.now.shape.workers) }
+    ensures store { OnOk result (IsStore (setting_of script.now) store.new) }
+    ensures history { OnOk result (store.new.history ≡ history_after (setting_of script.now) worker store.old.history (txns_of worker (setting_of script.now).owners)) }
+    ensures log { IfOk result (λ log. log ≡ log_of (tells_after (setting_of script.now) worker store.old.history (txns_of worker (setting_of script.now).owners))) }
+{
+    let mut log = new_log(alloc);
+    for place in 0..script.txns.len() {
+        serve(alloc, script, plan, store, &mut log, worker, place)?;
+    }
+    Ok(log)
+}
+
+/// All workers, worker 1 first.
+fn run_workers(
+    alloc: Global,
+    script: &Script,
+    plan: &Plan,
+    store: &mut Store,
+) -> Result<List<Log>, AllocError>
+    requires plain { IsPlain script.now }
+    requires plan { IsPlan (setting_of script.now) plan.now }
+    requires store { IsStore (setting_of script.now) store.old }
+    ensures store { OnOk result (IsStore (setting_of script.now) store.new) }
+    ensures history { OnOk result (store.new.history ≡ end_after (setting_of script.now) 1 store.old.history script.now.shape.workers) }
+    ensures logs { IfOk result (λ logs. logs ≡ logs_after (setting_of script.now) 1 store.old.history script.now.shape.workers) }
+{
+    let mut logs = List::new(alloc);
+    for before in 0..script.shape.workers {
+        let log = run_worker(alloc, script, plan, store, before + 1)?;
+        logs.push(log)?;
+    }
+    Ok(logs)
+}
+
+/// The audit of rows that nobody has locked.
+fn audit(alloc: Global, rows: Vec<Row>) -> Result<List<AuditRow>, AllocError>
+    ensures { IfOk result (λ audit. audit ≡ audit_of rows.items) }
+{
+    let mut audit = List::new(alloc);
+    for row in rows {
+        audit.push(AuditRow {
+            table: row.table,
+            key: row.key,
+            value: Some(row.value),
+            locked: false,
+        })?;
+    }
+    Ok(audit)
+}
+
+/// Runs a script, one worker after another.
+pub fn run_serial(alloc: Global, script: &Script) -> Result<Report, AllocError>
+    requires { IsPlain script.now }
+    ensures run { IfOk result (λ report. IsRun (setting_of script.now) report) }
+    ensures fits { IfOk result (λ report. FitsScript script.now report) }
+{
+    let plan = Plan {
+        workers: script.shape.workers,
+        greatest: greatest(script.shape.form),
+        widths: widths_of(alloc, script.shape.tables.as_slice())?,
+    };
+    let mut store = Store::open(
+        alloc,
+        script.shape.workers,
+        script.shape.start,
+        script.rows.as_slice(),
+    )?;
+    let logs = run_workers(alloc, script, &plan, &mut store)?;
+    let Store { rows, history, .. } = store;
+    let rows = rows.into_rows(alloc)?;
+    Ok(Report {
+        history,
+        logs,
+        audit: audit(alloc, rows)?,
+    })
+}

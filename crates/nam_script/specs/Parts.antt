@@ -14,9 +14,11 @@ pub record IsSettled (s : Settings) : Type 0 where
   pub tries : 1 ≤ s.tries
   pub start : s.start ≤ 4294967295
 
+-- the row fits the table
 abbrev pub IsRow : Row → Type 0
 IsRow r = RowFits (1 ∷ []) r
 
+-- the operation fits the table, and is one of those that are taken so far
 abbrev pub IsOp : Op → Type 0
 IsOp op = OpFits (1 ∷ []) op × IsTrue (is_plain op)
 

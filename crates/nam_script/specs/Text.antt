@@ -18,11 +18,13 @@ use Rattle.nam_script.specs.declared.script.Turns.{Turns}
 use Rattle.nam_script.specs.declared.script.Turns.TheVariants as turns
 use Rattle.nam_script.specs.declared.script.Script.{Script}
 
+-- the word of a form
 abbrev pub form_word : Form → List ℕ
 form_word Narrow = codes "narrow"
 form_word Wide = codes "wide"
 form_word Held = codes "held"
 
+-- the word of what is on or off
 abbrev pub switch_word : Bool → List ℕ
 switch_word on = if on then codes "on" else codes "off"
 
@@ -40,11 +42,13 @@ store_text shape policy =
     ++ codes "\nstart " ++ decimal shape.start
     ++ codes "\noverflow " ++ decimal shape.buckets ++ codes " " ++ decimal shape.cells ++ codes "\n"
 
+-- the line of a table
 abbrev pub table_text : Table → List ℕ
 table_text t =
     codes "table " ++ t.name ++ codes " width " ++ decimal t.width
     ++ codes " capacity " ++ decimal t.capacity ++ codes " ring " ++ decimal t.ring ++ codes "\n"
 
+-- the line of a loaded row
 abbrev pub row_text : List Table → Row → List ℕ
 row_text tables r = codes "row " ++ name_of tables r.table ++ codes " " ++ decimal r.key ++ words_text r.value ++ codes "\n"
 
@@ -52,6 +56,7 @@ row_text tables r = codes "row " ++ name_of tables r.table ++ codes " " ++ decim
 abbrev pub sign_text : Bool → List ℕ
 sign_text up = if up then codes "+" else codes "-"
 
+-- the line of an operation
 abbrev pub op_text : List Table → Op → List ℕ
 op_text tables (Get t k) = codes "get " ++ name_of tables t ++ codes " " ++ decimal k ++ codes "\n"
 op_text tables (Put t k v) = codes "put " ++ name_of tables t ++ codes " " ++ decimal k ++ words_text v ++ codes "\n"
@@ -66,9 +71,11 @@ op_text tables (Guard t k) = codes "guard " ++ name_of tables t ++ codes " " ++ 
 op_text tables (Scan t low high) =
     codes "scan " ++ name_of tables t ++ codes " " ++ decimal low ++ codes " " ++ decimal high ++ codes "\n"
 
+-- the lines of a transaction
 abbrev pub txn_text : List Table → ScriptTxn → List ℕ
 txn_text tables x = codes "txn " ++ decimal x.worker ++ codes "\n" ++ flat_map (op_text tables) x.ops ++ codes "end\n"
 
+-- a stint, behind a space
 abbrev pub stint_text : Stint → List ℕ
 stint_text s = codes " " ++ decimal s.worker ++ codes "*" ++ decimal s.steps
 
@@ -91,6 +98,7 @@ turns_text (turns.List []) = []
 turns_text (turns.List (s ∷ ss)) = codes "turns" ++ stints_text 64 (s ∷ ss)
 turns_text (turns.Seed seed picks) = codes "seed " ++ decimal seed ++ codes " " ++ decimal picks ++ codes "\n"
 
+-- the lines of a script, in their order
 abbrev pub script_text : Script → List ℕ
 script_text s =
     opening_text s.shape s.policy

@@ -207,7 +207,7 @@ fn push_turns(out: &mut String, turns: &Turns) -> Result<(), AllocError>
     }
 }
 
-/// The text of a script: its one spelling.
+/// The text of a script: its one spelling. Of any script there is one, and want of memory is the only error.
 pub fn print(alloc: Global, script: &Script) -> Result<Vec<u8>, AllocError>
     ensures { IfOk result (λ v. v.items ≡ script_text script.now) }
 {

@@ -1,6 +1,7 @@
 -- A worker's attempt, as the store sees it and as the definitions say it.
 use Rattle.std.proofs.Common.{◌≡◌, ℕ, zero, suc, ◌+◌, ◌-◌, ◌<◌, ◌≤◌, List, [], ◌∷◌, ◌++◌, length, map, drop, refl, ap, sym, ◌∙◌, subst, arith, append-nil, append_assoc}
-use Rattle.std.specs.Prelude.{slice_index, ◌==◌, if◌then◌else◌, Bool, true, false}
+use Rattle.std.proofs.lemmas.Bool.{eq-eqb, ne_eqb}
+use Rattle.std.specs.Prelude.{slice_index, slice_index_or, ◌==◌, if◌then◌else◌, Bool, true, false}
 use Rattle.std.specs.List.{AllByRecursion, flat_map}
 use Rattle.std.proofs.Math.Path.{fun_ext}
 use Rattle.si_model.specs.declared.row.Key.{Key}
@@ -19,7 +20,7 @@ use Rattle.si_model.specs.Setting.{Setting, places_of}
 use Rattle.nam_script.specs.Limits.{RowFits}
 use Rattle.namdb.specs.declared.store.Store.{Store}
 use Rattle.namdb.specs.Store.{IsStore}
-use Rattle.namdb.specs.Serial.{outcome_of, ops_of, evaluated_after, outcome_after, tells_after, history_after, own_txn, log_grown}
+use Rattle.namdb.specs.Serial.{outcome_of, ops_of, evaluated_after, outcome_after, tell_after, entry_after, tells_after, history_after, own_txn, log_grown}
 use Rattle.namdb.proofs.StoreLemmas.{entries_at-at, length-entries_at}
 use Rattle.namdb.proofs.SerialFitsLemmas.{wide-state}
 
@@ -54,11 +55,11 @@ module _ (s : Setting) (store : Store) (is : IsStore s store) where
 -- transactions of two lists, one list after the other
 pub history_after-append : (s : Setting) (j : ℕ) (history : List CommitLine) (xs ys : List ℕ) → history_after s j history (xs ++ ys) ≡ history_after s j (history_after s j history xs) ys
 history_after-append s j history [] ys = refl
-history_after-append s j history (x ∷ xs) ys = history_after-append s j _ xs ys
+history_after-append s j history (x ∷ xs) ys = history_after-append s j (history ++ entry_after s j history x) xs ys
 
 pub tells_after-append : (s : Setting) (j : ℕ) (history : List CommitLine) (xs ys : List ℕ) → tells_after s j history (xs ++ ys) ≡ tells_after s j history xs ++ tells_after s j (history_after s j history xs) ys
 tells_after-append s j history [] ys = refl
-tells_after-append s j history (x ∷ xs) ys = ap (λ ts. _ ∷ ts) (tells_after-append s j _ xs ys)
+tells_after-append s j history (x ∷ xs) ys = ap (λ ts. tell_after s j history x ∷ ts) (tells_after-append s j (history ++ entry_after s j history x) xs ys)
 
 map-append : {A B : Type 0} (f : A → B) (xs ys : List A) → map f (xs ++ ys) ≡ map f xs ++ map f ys
 map-append f [] ys = refl
@@ -91,3 +92,26 @@ places_next j x owner owners = by_owner (owner == j)
     by_owner : (b : Bool) → (if b then x ∷ places_of j (suc x) owners else places_of j (suc x) owners) ≡ (if b then x ∷ [] else []) ++ places_of j (suc x) owners
     by_owner true = refl
     by_owner false = refl
+
+-- an element of a mapped list, where it is in range
+pub index_map : {A : Type 0} (f : A → ℕ) (xs : List A) (i : ℕ) (x : A) → i < length xs → x ≡ slice_index_or xs i x → slice_index (map f xs) i ≡ f x
+index_map f [] i x l is = absurd (omega arith)
+index_map f (y ∷ ys) zero x l is = ap f (sym is)
+index_map f (y ∷ ys) (suc i) x l is = index_map f ys i x (omega arith) is
+
+pub index_or_map : {A B : Type 0} (f : A → B) (xs : List A) (i : ℕ) (x : A) (b : B) → i < length xs → x ≡ slice_index_or xs i x → slice_index_or (map f xs) i b ≡ f x
+index_or_map f [] i x b l is = absurd (omega arith)
+index_or_map f (y ∷ ys) zero x b l is = ap f (sym is)
+index_or_map f (y ∷ ys) (suc i) x b l is = index_or_map f ys i x b (omega arith) is
+
+pub all_index : {A : Type 0} (P : A → Type 0) (xs : List A) (i : ℕ) (x : A) → i < length xs → x ≡ slice_index_or xs i x → AllByRecursion P xs → P x
+all_index P [] i x l is all = absurd (omega arith)
+all_index P (y ∷ ys) zero x l is all = subst P (sym is) all.0
+all_index P (y ∷ ys) (suc i) x l is all = all_index P ys i x (omega arith) is all.1
+
+-- the transaction at a place, where it is worker j's
+pub own_here : (j owner x : ℕ) → owner ≡ j → own_txn j owner x ≡ x ∷ []
+own_here j owner x e = rw (eq-eqb owner j e) refl
+
+pub own_elsewhere : (j owner x : ℕ) → (owner ≡ j → ⊥) → own_txn j owner x ≡ []
+own_elsewhere j owner x e = rw (ne_eqb owner j e) refl

@@ -1,7 +1,7 @@
 -- What a store holds after an attempt.
 use Rattle.std.proofs.Common.{◌≡◌, ℕ, zero, suc, ◌+◌, ◌-◌, ◌<◌, ◌≤◌, Bool, true, false, cond, List, [], ◌∷◌, ◌++◌, length, map, refl, ap, sym, ◌∙◌, subst, arith, append-nil, append_assoc, add-zero, inl, inr}
 use Rattle.std.specs.Prelude.{slice_set, slice_index, if◌then◌else◌, replicate, ◌==◌}
-use Rattle.std.specs.List.{flat_map}
+use Rattle.std.specs.List.{AllByRecursion}
 use Rattle.std.specs.BTreeMap.{BTreeMap}
 use Rattle.si_model.specs.declared.row.Key.{Key}
 use Rattle.si_model.specs.declared.row.Item.{Item}
@@ -21,7 +21,11 @@ use Rattle.namdb.specs.declared.store.Store.{Store}
 use Rattle.namdb.specs.Store.{IsStore}
 use Rattle.namdb.specs.Serial.{lock_on, writes_by, entry_by, vector_by, number_by, evaluated_after, outcome_after, entry_after}
 use Rattle.namdb.proofs.HistoryLemmas.{entries_at-own, count_of-own, count_of-other}
+use Rattle.nam_report.specs.Fits.{EntryFits}
+use Rattle.nam_script.specs.Limits.{RowFits}
+use Rattle.si_model.specs.Evaluation.{OpFits}
 use Rattle.namdb.proofs.SerialLemmas.{by_outcome, by_ending}
+use Rattle.namdb.proofs.SerialFitsLemmas.{fit-entry}
 
 -- the locks of a write set, and then of guards
 pub locked_keys : (stamps : BTreeMap Key Stamp) (ws : List Item) (gs : List Key) → map (λ i. lock_held stamps (item_key i)) ws ++ map (lock_held stamps) gs ≡ map (lock_held stamps) (keys_of ws gs)
@@ -120,15 +124,16 @@ module _ (s : Setting) (j : ℕ) (history : List CommitLine) (x : ℕ) where
       ])
 
   -- what a store holds after the attempt
-  pub store_after : (old new : Store) → old.history ≡ history → IsStore s old → 1 ≤ j → j ≤ s.workers →
+  pub store_after : AllByRecursion (RowFits s.widths) s.rows → AllByRecursion (AllByRecursion (OpFits s.widths)) s.jobs → (old new : Store) → old.history ≡ history → IsStore s old → 1 ≤ j → j ≤ s.workers →
       new.history ≡ history ++ entry_after s j history x →
       new.vector ≡ vector_by j (outcome_after s j history x) old.vector →
       ((key : Key) → rows_held new.rows key ≡ overlay (writes_by evaluated (outcome_after s j history x)) (rows_held old.rows) key) →
       ((key : Key) → stamp_held new.stamps key ≡ (if writes_key (writes_by evaluated (outcome_after s j history x)) key then stamp_at j (number_by (outcome_after s j history x)) else stamp_held old.stamps key)) →
       IsStore s new
-  store_after old new is store low high grown vector rows stamps = record {
+  store_after rows_fit jobs_fit old new is store low high grown vector rows stamps = record {
     vector = vector ∙ ap (vector_by j (outcome_after s j history x)) (store.vector ∙ ap (entries_at s.workers s.start) is) ∙ vector_after low high ∙ ap (entries_at s.workers s.start) (sym grown);
     rows = λ key. rows key ∙ rows_after (rows_held old.rows) (λ k. store.rows k ∙ ap (λ h. state_at (rows_of s.rows) h k) is) key ∙ ap (λ h. state_at (rows_of s.rows) h key) (sym grown);
     stamps = λ key. stamps key ∙ stamps_after (stamp_held old.stamps) (λ k. store.stamps k ∙ ap (newest_writer k) is) key ∙ ap (newest_writer key) (sym grown);
     numbers = λ i. subst (λ h. s.start + count_of i h ≤ s.greatest) (sym grown) (numbers_after (λ k. subst (λ h. s.start + count_of k h ≤ s.greatest) is (store.numbers k)) i);
+    fit = subst (AllByRecursion (EntryFits s.widths)) (sym grown) (fit-entry s rows_fit jobs_fit j history x (subst (AllByRecursion (EntryFits s.widths)) is store.fit));
   }

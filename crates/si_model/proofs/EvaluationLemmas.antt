@@ -1,20 +1,22 @@
 -- Laws of evaluation and of the committed state: widths are kept, reads are few, keys are those of the operations.
-use Rattle.std.proofs.Common.{◌≡◌, ℕ, zero, suc, ◌+◌, ◌-◌, ◌<◌, ◌≤◌, cond, Bool, true, false, not, ◌⊎◌, inl, inr, List, [], ◌∷◌, ◌++◌, length, get_or, take, drop, refl, ap, sym, ◌∙◌, subst, arith, Option, Some, None}
-use Rattle.std.specs.Prelude.{◌||◌, MatchOption, slice_index, slice_set, replicate, map, filter}
-use Rattle.std.specs.List.{All, AllByRecursion, list_any}
+use Rattle.std.proofs.Common.{◌≡◌, ℕ, zero, suc, ◌+◌, ◌-◌, ◌≤◌, cond, Bool, true, false, not, inl, inr, List, [], ◌∷◌, ◌++◌, length, refl, ap, sym, ◌∙◌, subst, arith, Option, Some, None}
+use Rattle.std.specs.Prelude.{◌||◌, MatchOption, slice_index, replicate, map, filter}
+use Rattle.std.specs.List.{All, AllByRecursion, IsDistinct}
 use Rattle.std.proofs.Math.Path.{fun_ext}
 use Rattle.std.proofs.lemmas.Bool.{cases_Bool, cond_both, false≢true}
 use Rattle.std.proofs.lemmas.Bool.Decides.{nat_tests}
 use Rattle.std.proofs.lemmas.List.{length-set, length-replicate, length-append}
 use Rattle.std.proofs.lemmas.List.Elements.{recursion_from_All}
+use Rattle.std.proofs.lemmas.Map.Keys.{IsDistinct-cons, IsDistinct-head, IsDistinct-tail}
 use Rattle.si_model.specs.declared.row.Key.{Key}
+use Rattle.si_model.specs.declared.row.Row.{Row}
 use Rattle.si_model.specs.declared.row.Item.{Item}
 use Rattle.si_model.specs.declared.op.Op.{Op}
 use Rattle.si_model.specs.declared.op.Op.TheVariants.{Get, Put, Add, Del, Need, Guard, Scan}
 use Rattle.si_model.specs.declared.evaluated.Evaluated.{Evaluated}
 use Rattle.si_model.specs.declared.evaluated.Evaluated.TheVariants.{Done, Declined}
 use Rattle.si_model.specs.declared.report.CommitLine.{CommitLine}
-use Rattle.si_model.specs.Rows.{key_at, same_key, item_key, item_at, Rows, writes_key, overlay, present, items_from, items_between}
+use Rattle.si_model.specs.Rows.{key_at, same_key, row_key, item_key, item_at, Rows, rows_of, writes_key, overlay, present, items_from}
 use Rattle.si_model.specs.Evaluation.{field_of, with_field, changed, wrote, guarded, passes, found, writes_after, guards_after, unwritten, with_reads, evaluation_from, evaluation_of, reads_of, all_pass, reads_from, key_written, key_guarded, is_key, ops_write, keys_from, written_keys, guard_keys, OpFits, AreWide}
 use Rattle.si_model.specs.EvaluationLaws.{IsWide, is_scan, writes_from}
 use Rattle.si_model.specs.State.{state_at}
@@ -48,6 +50,14 @@ AreWide-overlay widths (w ∷ ws) rows written wide key =
     cond_both (same_key (item_key w) key) w.value (overlay ws rows key) (λ v. MatchOption v (Unit {0}) (λ x. length x ≡ slice_index widths key.table))
     (λ same. subst (λ (k : Key). MatchOption w.value (Unit {0}) (λ x. length x ≡ slice_index widths k.table)) (same_key_says (item_key w) key same) written.0)
     (λ other. AreWide-overlay widths ws rows written.1 wide key)
+
+-- a list of rows of their tables' widths
+pub AreWide-rows_of : (widths : List ℕ) (rows : List Row) → AllByRecursion (λ r. length r.value ≡ slice_index widths r.table) rows → AreWide widths (rows_of rows)
+AreWide-rows_of widths [] wide key = tt
+AreWide-rows_of widths (r ∷ rs) wide key =
+    cond_both (same_key (row_key r) key) (Some r.value) (rows_of rs key) (λ v. MatchOption v (Unit {0}) (λ x. length x ≡ slice_index widths key.table))
+    (λ same. subst (λ (k : Key). length r.value ≡ slice_index widths k.table) (same_key_says (row_key r) key same) wide.0)
+    (λ other. AreWide-rows_of widths rs wide.1 key)
 
 wide-wrote : (widths : List ℕ) (ws : List Item) (i : Item) → AllByRecursion (IsWide widths) ws → IsWide widths i → AllByRecursion (IsWide widths) (wrote ws i)
 wide-wrote widths [] i written new = (new, tt)
@@ -241,9 +251,37 @@ writes_key-writes_from widths rows ws (op ∷ ops) key =
     let here = writes_key-writes_after widths op (overlay ws rows) ws key in
     grind (arith, nat_tests)
 
+apart-guarded : (g key : Key) (gs : List Key) → same_key g key ≡ false → AllByRecursion (λ y. same_key g y ≡ false) gs → AllByRecursion (λ y. same_key g y ≡ false) (guarded gs key)
+apart-guarded g key [] new apart = (new, tt)
+apart-guarded g key (h ∷ hs) new apart =
+    cond_both (same_key h key) (h ∷ hs) (h ∷ guarded hs key) (λ ks. AllByRecursion (λ y. same_key g y ≡ false) ks)
+    (λ same. apart)
+    (λ other. (apart.0, apart-guarded g key hs new apart.1))
+
+distinct-guarded : (gs : List Key) (key : Key) → IsDistinct same_key gs → IsDistinct same_key (guarded gs key)
+distinct-guarded [] key distinct = IsDistinct-cons same_key key [] tt distinct
+distinct-guarded (g ∷ gs) key distinct =
+    cond_both (same_key g key) (g ∷ gs) (g ∷ guarded gs key) (λ ks. IsDistinct same_key ks)
+    (λ same. distinct)
+    (λ other. IsDistinct-cons same_key g (guarded gs key) (apart-guarded g key gs other (IsDistinct-head same_key g gs distinct)) (distinct-guarded gs key (IsDistinct-tail same_key g gs distinct)))
+
+-- keys that are named are listed once
+pub distinct-keys_from : (named : Op → Option Key) (ks : List Key) (ops : List Op) → IsDistinct same_key ks → IsDistinct same_key (keys_from named ks ops)
+distinct-keys_from named ks [] distinct = distinct
+distinct-keys_from named ks (op ∷ ops) distinct =
+    distinct-keys_from named (elim (named op) [ None ↦ ks | Some key ↦ guarded ks key ]) ops (one (named op))
+  where
+    one : (found : Option Key) → IsDistinct same_key (elim found [ None ↦ ks | Some key ↦ guarded ks key ])
+    one None = distinct
+    one (Some key) = distinct-guarded ks key distinct
+
 -- ---- operations that are done
 
 module _ (widths : List ℕ) (rows : Rows) (ops : List Op) (reads writes : List Item) (guards : List Key) (done : evaluation_of widths rows ops ≡ Done reads writes guards) where
+  none_yet : IsDistinct same_key []
+  unfolding IsDistinct
+  none_yet = tt
+
   whole : Done reads writes guards ≡ Done (reads_from widths rows [] ops) (writes_from widths rows [] ops) (unwritten (writes_from widths rows [] ops) (keys_from key_guarded [] ops))
   whole = sym done ∙ evaluation_from-all_pass widths rows 1 [] [] ops (all_pass-done widths rows 1 [] [] ops reads writes guards done)
 
@@ -257,9 +295,16 @@ module _ (widths : List ℕ) (rows : Rows) (ops : List Op) (reads writes : List 
   pub done-wide : All (OpFits widths) ops → AreWide widths rows → AllByRecursion (IsWide widths) writes
   done-wide fit wide = rw done-writes (wide-writes_from widths rows wide [] ops (recursion_from_All (OpFits widths) ops fit) tt)
 
+  -- and so have the rows under the write set
+  pub done-overlay : All (OpFits widths) ops → AreWide widths rows → AreWide widths (overlay writes rows)
+  done-overlay fit wide = AreWide-overlay widths writes rows (done-wide fit wide) wide
+
   -- the keys are those that the operations write, each once
   pub done-keys : map item_key writes ≡ written_keys ops
   done-keys = rw done-writes (map-writes_from widths rows [] ops)
+
+  pub done-distinct : IsDistinct same_key (map item_key writes)
+  done-distinct = rw done-keys (distinct-keys_from key_written [] ops none_yet)
 
   pub done-writes_key : (key : Key) → writes_key writes key ≡ ops_write key ops
   done-writes_key key = rw done-writes (writes_key-writes_from widths rows [] ops key)

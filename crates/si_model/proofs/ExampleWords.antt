@@ -1,5 +1,5 @@
 -- The words of the worked examples: values of one field, empty write lists and snapshots of the logs.
-use Rattle.std.proofs.Common.{ℕ, Bool, false, List, [], ◌∷◌, Option, Some, None}
+use Rattle.std.proofs.Common.{ℕ, Bool, true, false, List, [], ◌∷◌, Option, Some, None}
 use Rattle.si_model.specs.declared.row.Row.{Row}
 use Rattle.si_model.specs.declared.row.Item.{Item}
 use Rattle.si_model.specs.declared.op.Op.{Op}
@@ -58,6 +58,10 @@ log events reads locks = record { events = events; reads = reads; locks = locks;
 -- a t k v
 abbrev pub audited : ℕ → ℕ → ℕ → AuditRow
 audited t k v = record { table = t; key = k; value = Some (v ∷ []); locked = false }
+
+-- a t k v locked
+abbrev pub marked : ℕ → ℕ → ℕ → AuditRow
+marked t k v = record { table = t; key = k; value = Some (v ∷ []); locked = true }
 
 -- a line with a value and without a mark needs no cause
 pub unmarked : (tss : List (List Tell)) (t k v : ℕ) → IsAuditLine tss (audited t k v)

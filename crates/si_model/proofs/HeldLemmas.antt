@@ -1,5 +1,5 @@
 -- Rows in a map from their keys.
-use Rattle.std.proofs.Common.{◌≡◌, ℕ, zero, suc, cond, Bool, true, false, List, [], ◌∷◌, ◌++◌, length, refl, ap, sym, ◌∙◌, subst, arith, Option, Some, None}
+use Rattle.std.proofs.Common.{◌≡◌, ℕ, cond, List, [], ◌∷◌, refl, arith, Option, Some}
 use Rattle.std.specs.Prelude.{map, IsTrue}
 use Rattle.std.specs.List.{AllByRecursion, push}
 use Rattle.std.specs.List.Sorted.{IsStrictlySortedBy}
@@ -13,7 +13,7 @@ use Rattle.si_model.specs.declared.row.Key.{Key}
 use Rattle.si_model.specs.declared.row.Row.{Row}
 use Rattle.si_model.specs.declared.row.Item.{Item}
 use Rattle.si_model.specs.Held.{key_cmp}
-use Rattle.si_model.specs.Rows.{key_at, same_key, key_before, row_key, item_key, Rows, rows_of, overlay, AreInOrder}
+use Rattle.si_model.specs.Rows.{same_key, key_before, row_key, item_key, Rows, rows_of, overlay, AreInOrder}
 
 pub is_at_key : (a b : Key) → is_at (key_cmp a) b ≡ same_key a b
 is_at_key a b = grind (arith, nat_tests)

@@ -12,4 +12,9 @@ mod DeclinedExample
 mod GuardForbidsSkewExample
 mod ReaderTooOldExample
 mod ScanWithOwnWritesExample
+mod RingIsFullExample
+mod NumbersAreSpentExample
+mod TableHasNoSpaceExample
+mod FuseVerbByVerbExample
+mod MedicVerbByVerbExample
 mod NotRunsExample

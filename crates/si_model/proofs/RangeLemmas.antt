@@ -1,7 +1,7 @@
 -- The present rows of a range, by a rising list of keys that has each of them.
-use Rattle.std.proofs.Common.{◌≡◌, ℕ, zero, suc, ◌+◌, ◌-◌, ◌<◌, ◌≤◌, Bool, true, false, ◌⊎◌, inl, inr, List, [], ◌∷◌, ◌++◌, refl, ap, sym, ◌∙◌, subst, arith, Option, Some, None}
+use Rattle.std.proofs.Common.{◌≡◌, ℕ, zero, suc, ◌+◌, ◌-◌, ◌<◌, ◌≤◌, Bool, true, false, inl, inr, List, [], ◌∷◌, ◌++◌, refl, ap, sym, ◌∙◌, subst, arith, Option, Some, None}
 use Rattle.std.specs.Prelude.{◌&&◌, ◌||◌, nat_le, is_some}
-use Rattle.std.specs.List.{All, AllByRecursion, flat_map, list_any}
+use Rattle.std.specs.List.{AllByRecursion, flat_map, list_any}
 use Rattle.std.specs.List.Sorted.{IsStrictlySortedBy}
 use Rattle.std.specs.Ordering.{nat_cmp}
 use Rattle.std.specs.BTreeMap.{is_at}
@@ -11,7 +11,7 @@ use Rattle.std.proofs.lemmas.Bool.Decides.{nat_tests}
 use Rattle.std.proofs.lemmas.Map.Keys.{sorted_head, sorted_tail}
 use Rattle.si_model.specs.declared.row.Key.{Key}
 use Rattle.si_model.specs.declared.row.Item.{Item}
-use Rattle.si_model.specs.Rows.{Rows, key_at, rows_of, overlay, writes_key, present, items_from, items_between}
+use Rattle.si_model.specs.Rows.{Rows, key_at, overlay, writes_key, present, items_from, items_between}
 
 -- the items of those of the keys that hold a row
 abbrev pub items_at : Rows → ℕ → List ℕ → List Item
@@ -90,9 +90,9 @@ each_listed P [] f = tt
 each_listed P (k ∷ ks) f = (f k (grind (arith, nat_tests)), each_listed P ks (λ key in_rest. f key (grind (arith, nat_tests))))
 
 -- what holds a row under a write set has a row or is written
-held : (ws : List Item) (rows : Rows) (key : Key) → is_some (overlay ws rows key) ≡ true → (is_some (rows key) || writes_key ws key) ≡ true
-held [] rows key some = grind (arith, nat_tests)
-held (w ∷ ws) rows key some = let rest = held ws rows key in grind (arith, nat_tests)
+row_or_write : (ws : List Item) (rows : Rows) (key : Key) → is_some (overlay ws rows key) ≡ true → (is_some (rows key) || writes_key ws key) ≡ true
+row_or_write [] rows key some = grind (arith, nat_tests)
+row_or_write (w ∷ ws) rows key some = let rest = row_or_write ws rows key in grind (arith, nat_tests)
 
 -- the keys of the range that have a row or are written, in order, give the items of the range
 pub items_between-by_keys : (rows : Rows) (ws : List Item) (table low high : ℕ) (keys : List ℕ) → IsStrictlySortedBy nat_cmp keys
@@ -101,4 +101,4 @@ pub items_between-by_keys : (rows : Rows) (ws : List Item) (table low high : ℕ
 items_between-by_keys rows ws table low high keys sorted has =
     let within : AllByRecursion (λ key. (low ≤ key) × (key < low + (high + 1 - low))) keys = each_listed (λ key. (low ≤ key) × (key < low + (high + 1 - low))) keys (λ key listed. let e = has key in (grind (arith, nat_tests), grind (arith, nat_tests))) in
     listing (overlay ws rows) table (low + (high + 1 - low)) (high + 1 - low) low keys refl (rises low (low + (high + 1 - low)) keys sorted within)
-    (λ key from below some. let e = has key in let there = held ws rows (key_at table key) some in grind (arith, nat_tests))
+    (λ key from below some. let e = has key in let there = row_or_write ws rows (key_at table key) some in grind (arith, nat_tests))

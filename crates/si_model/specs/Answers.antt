@@ -1,5 +1,5 @@
 -- An attempt's reads, locks and outcome are those of its transaction's evaluation.
-use Rattle.std.specs.Prelude.{ℕ, suc, ◌<◌, ◌≡◌, ◌&&◌, ◌⊎◌, ◌==◌, not, nat_le, Bool, false, IsTrue, List, [], ◌∷◌, ◌++◌, length, take, map, Option, Some, None}
+use Rattle.std.specs.Prelude.{ℕ, suc, ◌<◌, ◌≡◌, ◌&&◌, ◌⊎◌, ◌==◌, not, nat_le, Bool, true, false, IsTrue, List, [], ◌∷◌, ◌++◌, length, take, map, Option, Some, None}
 use Rattle.std.specs.List.{list_any, AllByRecursion}
 use Rattle.si_model.specs.declared.row.Key.{Key}
 use Rattle.si_model.specs.declared.row.Item.{Item}
@@ -14,8 +14,8 @@ use Rattle.si_model.specs.declared.log.Event.TheVariants.{Tried}
 use Rattle.si_model.specs.declared.evaluated.Evaluated.{Evaluated}
 use Rattle.si_model.specs.declared.evaluated.Evaluated.TheVariants.{Done, Declined}
 use Rattle.si_model.specs.Lists.{Listed, IsFront, StandsAt}
-use Rattle.si_model.specs.Rows.{Rows, key_at, same_key, item_key, writes_key}
-use Rattle.si_model.specs.Evaluation.{evaluation_of, reads_of, all_pass, reads_from, key_read, key_claimed, ops_write, ops_claim}
+use Rattle.si_model.specs.Rows.{Rows, key_at, item_key, writes_key}
+use Rattle.si_model.specs.Evaluation.{evaluation_of, reads_of, all_pass, reads_from, key_read, key_claimed, is_key, ops_write, ops_claim}
 use Rattle.si_model.specs.History.{stamp_of, keys_of}
 use Rattle.si_model.specs.Tells.{Tell}
 use Rattle.si_model.specs.View.{View}
@@ -28,15 +28,27 @@ lock_key l = key_at l.table l.key
 abbrev pub is_overtaken : View → Tell → (Item → Bool) → Bool
 is_overtaken v t test = list_any (λ e. list_any test e.writes && not (v.has t (stamp_of e))) v.all
 
+-- does the operation, after these, read from the prefix: a scan does, and a read of a key that none of them writes
+abbrev pub reads_prefix : List Op → Op → Bool
+reads_prefix before (Scan table low high) = true
+reads_prefix before op = elim (key_read op) [ None ↦ false | Some key ↦ not (ops_write key before) ]
+
+-- is the item of a key that the operation reads
+abbrev pub reads_item : Op → Item → Bool
+reads_item (Scan table low high) i = (i.table == table) && nat_le low i.key && nat_le i.key high
+reads_item op i = is_key (item_key i) (key_read op)
+
 -- does the operation, after these, read a version that an entry after the first has overwritten
 abbrev pub reads_overtaken : View → Tell → List Op → Op → Bool
-reads_overtaken v t before (Scan table low high) = is_overtaken v t (λ i. (i.table == table) && nat_le low i.key && nat_le i.key high)
-reads_overtaken v t before op = elim (key_read op) [ None ↦ false | Some key ↦ not (ops_write key before) && is_overtaken v t (λ i. same_key (item_key i) key) ]
+reads_overtaken v t before op = reads_prefix before op && is_overtaken v t (reads_item op)
 
--- the operation, after these, gives a key of the crowded table its first position
+-- the operation, after these, gives a key of the table its first position
+abbrev pub ClaimsFirst : ℕ → List Op → Op → Key → Type 0
+ClaimsFirst table before op key = (key_claimed op ≡ Some key) × (key.table ≡ table) × (ops_claim key before ≡ false)
+
+-- and the table is crowded
 abbrev pub LacksRoom : Setting → Asked → ℕ → List Op → Op → Type 0
-LacksRoom s asked table before op =
-    (key : Key) × (key_claimed op ≡ Some key) × (key.table ≡ table) × (ops_claim key before ≡ false) × IsTrue (is_crowded s asked key)
+LacksRoom s asked table before op = (key : Key) × ClaimsFirst table before op key × IsTrue (is_crowded s asked key)
 
 -- these are the reads of the first k operations, and all of them pass
 abbrev pub ReadsFirst : List ℕ → Rows → List Op → ℕ → List Item → Type 0
@@ -90,10 +102,12 @@ AnswersWithout t outcome = ⊥
 abbrev pub AreNewest : View → Tell → Type 0
 AreNewest v t = AllByRecursion (λ l. l.stamp ≡ v.newest t (lock_key l)) t.locks
 
+-- by whether the attempt got a snapshot
 abbrev pub AnswersOn : Setting → Asked → View → ℕ → Tell → Attempt → Option ℕ → Type 0
 AnswersOn s asked v j t a None = AnswersWithout t a.outcome
 AnswersOn s asked v j t a (Some p) = AnswersWith s asked v j t a (evaluation_of s.widths (v.value t) t.ops) p a.outcome × AreNewest v t
 
+-- of an event; only attempts answer
 abbrev pub AnswersIn : Setting → Asked → View → ℕ → Tell → Event → Type 0
 AnswersIn s asked v j t (Tried a) = AnswersOn s asked v j t a a.prefix
 AnswersIn s asked v j t event = Unit {0}

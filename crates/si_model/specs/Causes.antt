@@ -25,6 +25,7 @@ abbrev pub others_from : ℕ → ℕ → List (List Tell) → List Tell
 others_from i j [] = []
 others_from i j (ts ∷ tss) = if i == j then others_from (suc i) j tss else ts ++ others_from (suc i) j tss
 
+-- the events of all workers but j
 abbrev pub others_of : ℕ → List (List Tell) → List Tell
 others_of j tss = others_from 1 j tss
 
@@ -33,9 +34,11 @@ abbrev pub tells_by : ℕ → List (List Tell) → List Tell
 tells_by zero tss = []
 tells_by (suc j) tss = slice_index_or tss j []
 
+-- does the event list the lock of this version
 abbrev pub lists_lock : Key → Stamp → Tell → Bool
 lists_lock key s t = list_any (λ l. same_key (lock_key l) key && same_stamp l.stamp s) t.locks
 
+-- does it list a lock of the key
 abbrev pub locks_key : Key → Tell → Bool
 locks_key key t = list_any (λ l. same_key (lock_key l) key) t.locks
 
@@ -100,6 +103,7 @@ abbrev pub filling : View → Bool → ℕ → List Tell → ℕ
 filling v others_collect b [] = 0
 filling v others_collect b (t ∷ ts) = (if fills v others_collect b ts t.event then 1 else 0) + filling v others_collect b ts
 
+-- how many moves into the bucket the events list
 abbrev pub move_count : ℕ → List Tell → ℕ
 move_count b ts = length (filter (λ t. moves_into b t.event) ts)
 
@@ -125,27 +129,33 @@ abbrev pub follows_one : (Tell → Bool) → List Tell → Bool
 follows_one test done = elim (last_of done) [ None ↦ false | Some t ↦ test t ]
 
 module _ (s : Setting) (v : View) (tss : List (List Tell)) (j : ℕ) (done : List Tell) (t : Tell) where
+  -- another worker published between the two passes
   abbrev pub AgainCause : ℕ → ℕ → ℕ → Type 0
   AgainCause i first second = (i ≢ j) × (first < second) × IsTrue (has_stamp v.all (stamp_at i second))
 
+  -- another worker lists that lock, on the newest version of the prefix if on one
   abbrev pub LockedCause : Key → Stamp → Type 0
   LockedCause key q = IsTrue (list_any (lists_lock key q) (others_of j tss)) × (IsTrue (is_version key q v.all) → v.later t key q ≡ 0)
 
+  -- another worker wrote the version behind the prefix, and published it or was stopped
   abbrev pub NewerCause : Key → Stamp → Type 0
   NewerCause key q =
       (q.thread ≢ j) × (v.has t q ≡ false)
       × (IsTrue (is_written v key q) ⊎ (IsTrue (ends_locking key (tells_by q.thread tss)) × (q.number ≡ last_number s.start (tells_by q.thread tss) + 1)))
 
+  -- the horizon passed the snapshot by another worker's collect
   -- (that a later entry overwrites what was to be read stands with the answer, since both are of one operation)
   abbrev pub OldCause : ℕ → ℕ → ℕ → Type 0
   OldCause i entry horizon =
       (i ≢ j) × (slice_index (v.entries t) (i - 1) ≡ entry) × (entry < horizon) × IsTrue (list_any (λ o. collects_entry i horizon o.event) (others_of j tss))
 
+  -- the ring's slots hold versions that the worker has not moved
   -- (that the worker's own tidying of the version failed stands with the policy, which knows the tidyings)
   abbrev pub FullCause : Key → Stamp → Type 0
   FullCause key q =
       IsTrue (is_version key q v.all) × (slice_index s.rings key.table ≤ v.later t key q) × (list_any (λ d. moves_version is_over key q d.event) done ≡ false)
 
+  -- (that a table without room is crowded stands with the answer, since both are of one operation)
   abbrev pub OutcomeCause : Outcome → Type 0
   OutcomeCause Spent = last_number s.start done ≡ s.greatest
   OutcomeCause (Again i first second) = AgainCause i first second
@@ -155,20 +165,24 @@ module _ (s : Setting) (v : View) (tss : List (List Tell)) (j : ℕ) (done : Lis
   OutcomeCause (Full l) = FullCause (lock_key l) l.stamp
   OutcomeCause outcome = Unit {0}
 
+  -- moves fill all cells of the bucket, or its tags are used up
   abbrev pub NoRoomCause : ℕ → Type 0
   NoRoomCause b =
       (s.cells ≤ filling v (list_any (λ o. has_collected o.event) (others_of j tss)) b done + move_count b (others_of j tss))
       ⊎ (2 ^ 62 - 1 ≤ move_count b (joined tss))
 
+  -- a version of the key, into the bucket of all its moves; a move that is back was done by another worker
   abbrev pub MoveCause : ℕ → Key → Stamp → MoveEnd → Type 0
   MoveCause b key q how =
       IsTrue (is_version key q v.all) × IsTrue (list_all (λ o. keeps_bucket b key o.event) (joined tss))
       × (how ≡ Back → IsTrue (list_any (λ o. moves_version is_done key q o.event) (others_of j tss)))
 
+  -- how a stopped worker was finished fits the event that it was stopped in
   abbrev pub FinishCause : Finish → Type 0
   FinishCause RolledOn = IsTrue s.held × IsTrue (follows_one (λ d. ends_commit d.event) done)
   FinishCause how = IsTrue s.held × IsTrue (follows_one (λ d. is_stopped d.event) done)
 
+  -- the cause of an event
   abbrev pub EventCause : Event → Type 0
   EventCause (Tried a) = OutcomeCause a.outcome
   EventCause (NoRoom b) = NoRoomCause b
@@ -179,6 +193,7 @@ module _ (s : Setting) (v : View) (tss : List (List Tell)) (j : ℕ) (done : Lis
   EventCause (Finished how) = FinishCause how
   EventCause event = Unit {0}
 
+-- each event has its cause, after those that are done
 abbrev pub HaveCausesAfter : Setting → View → List (List Tell) → ℕ → List Tell → List Tell → Type 0
 HaveCausesAfter s v tss j done [] = Unit {0}
 HaveCausesAfter s v tss j done (t ∷ ts) = EventCause s v tss j done t t.event × HaveCausesAfter s v tss j (done ++ t ∷ []) ts

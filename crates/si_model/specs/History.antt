@@ -63,7 +63,7 @@ abbrev pub after_stamp : Stamp → List Stamp → List Stamp
 after_stamp s [] = []
 after_stamp s (q ∷ qs) = if same_stamp q s then qs else after_stamp s qs
 
--- the versions of a key that come after a version
+-- the versions of a key that come after a version; none where it is not one
 abbrev pub versions_after : Key → Stamp → List CommitLine → List Stamp
 versions_after key s es = after_stamp s (versions_of key es)
 

@@ -22,6 +22,7 @@ abbrev pub SeesPrefix : View → Tell → List ℕ → Option ℕ → Type 0
 SeesPrefix v t known None = Unit {0}
 SeesPrefix v t known (Some p) = (p ≤ length v.all) × AreAtMost known (v.entries t)
 
+-- what is known with an attempt's snapshot
 abbrev pub known_with : View → Tell → List ℕ → Option ℕ → List ℕ
 known_with v t known None = known
 known_with v t known (Some p) = v.entries t
@@ -30,6 +31,7 @@ known_with v t known (Some p) = v.entries t
 abbrev pub SeesFirst : List ℕ → ℕ → ℕ → Type 0
 SeesFirst known i first = (1 ≤ i) × (i ≤ length known) × (slice_index known (i - 1) ≤ first)
 
+-- what an outcome tells is no less than is known
 abbrev pub SeesOutcome : List ℕ → Outcome → Type 0
 SeesOutcome known (Again i first second) = SeesFirst known i first
 SeesOutcome known (TooOld i entry horizon) = (1 ≤ i) × (i ≤ length known)

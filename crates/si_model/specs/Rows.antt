@@ -39,7 +39,7 @@ abbrev pub writes_key : List Item → Key → Bool
 writes_key [] key = false
 writes_key (i ∷ is) key = if same_key (item_key i) key then true else writes_key is key
 
--- the rows under a write set
+-- the rows under a write set, which has each key once
 abbrev pub overlay : List Item → Rows → Rows
 overlay [] rows key = rows key
 overlay (i ∷ is) rows key = if same_key (item_key i) key then i.value else overlay is rows key

@@ -34,6 +34,7 @@ is_entry_of e j a =
     (e.worker == j) && elim (number_in a.outcome) [ None ↦ false | Some n ↦ n == e.number ]
     && elim a.prefix [ None ↦ false | Some p ↦ p == e.prefix ] && (a.txn == e.txn)
 
+-- is the event of worker j the entry
 abbrev pub is_listed_as : CommitLine → ℕ → Tell → Bool
 is_listed_as e j t = elim (attempt_in t.event) [ None ↦ false | Some a ↦ is_entry_of e j a ]
 

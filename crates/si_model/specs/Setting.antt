@@ -27,9 +27,9 @@ pub record Setting : Type 0 where
   pub owners : List ℕ
   pub policy : Policy
 
--- whose operations a log answers: those of a script, or those that its worker's caller asked
+-- what all callers asked for together, by a script or call by call
 pub record Asked : Type 0 where
-  -- all operations of all workers
+  -- all operations
   pub ops : List Op
   -- can an attempt be left by its caller
   pub by_calls : Bool

@@ -43,7 +43,7 @@ writes_in e = elim (attempt_in e) [ None ↦ 0 | Some a ↦ a.writes ]
 abbrev pub snaps_in : Event → ℕ
 snaps_in e = if is_some (prefix_in e) then 1 else 0
 
--- the operations of an event's transaction; transaction x stands at place x - 1
+-- the operations of an event's transaction; transaction x stands at place x - 1 (that x is at least 1 is the policy's matter)
 abbrev pub ops_in : List (List Op) → Event → List Op
 ops_in jobs e = elim (attempt_in e) [ None ↦ [] | Some a ↦ slice_index_or jobs (a.txn - 1) [] ]
 

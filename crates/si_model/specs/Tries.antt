@@ -61,10 +61,12 @@ collect_end key b (CollectAgain c i first second) ts = if c == b then collected_
 collect_end key b (CollectCut c) ts = if (c == b) && (length ts == 0) then Some short else None
 collect_end key b event ts = None
 
+-- after a first noroom
 abbrev pub noroom_end : Key → ℕ → List Tell → Option TidyEnd
 noroom_end key b [] = None
 noroom_end key b (t ∷ ts) = collect_end key b t.event ts
 
+-- by the first event of a tidying
 abbrev pub first_end : Key → Event → List Tell → Option TidyEnd
 first_end key (NoRoom b) ts = noroom_end key b ts
 first_end key event ts = if length ts == 0 then move_end key event else None
@@ -99,12 +101,13 @@ goes_on going = true
 goes_on committed = true
 goes_on stage = false
 
--- was the worker stopped, or may it have been
+-- may the worker have been stopped here
 abbrev pub may_finish : Stage → Bool
 may_finish going = false
 may_finish ended = false
 may_finish stage = true
 
+-- was the worker stopped
 abbrev pub is_short : Stage → Bool
 is_short going = false
 is_short committed = false
@@ -131,9 +134,11 @@ outcome_owed policy t txn txns tries Cut = Some (record { keys = []; txns = txn 
 outcome_owed policy t txn txns tries Left = None
 outcome_owed policy t txn txns tries outcome = Some (next_owed [] txns going)
 
+-- after an attempt, which is the next try of the first transaction
 abbrev pub attempt_owed : Policy → Tell → ℕ → List ℕ → ℕ → Attempt → Option Owed
 attempt_owed policy t txn txns tries a = if (a.txn == txn) && (a.nth == tries + 1) then outcome_owed policy t txn txns (tries + 1) a.outcome else None
 
+-- after an event that has to be an attempt
 abbrev pub tried_owed : Policy → Tell → List ℕ → ℕ → Event → Option Owed
 tried_owed policy t (txn ∷ txns) tries (Tried a) = attempt_owed policy t txn txns tries a
 tried_owed policy t txns tries event = None
@@ -143,6 +148,7 @@ abbrev pub owed_after_try : Policy → List Key → Owed → Tell → Option Owe
 owed_after_try policy [] owed t = tried_owed policy t owed.txns owed.tries t.event
 owed_after_try policy (key ∷ keys) owed t = None
 
+-- after a tidying that ended so
 abbrev pub tidied_owed : List Key → Owed → TidyEnd → Owed
 tidied_owed keys owed short = record owed { stage = cut_short }
 tidied_owed keys owed end = record owed { keys = keys; stage = going }
@@ -153,6 +159,7 @@ owed_after_tidying [] owed key ts = None
 owed_after_tidying (k ∷ keys) owed key ts =
     if same_key k key then elim (tidy_end key ts) [ None ↦ None | Some end ↦ Some (tidied_owed keys owed end) ] else None
 
+-- is the worker right behind a commit
 abbrev pub is_committed : Stage → Bool
 is_committed committed = true
 is_committed stage = false
@@ -178,6 +185,7 @@ abbrev pub settles : Policy → Owed → List Part → Bool
 settles policy owed [] = is_settled owed
 settles policy owed (p ∷ ps) = elim (owed_after policy owed p) [ None ↦ false | Some next ↦ settles policy next ps ]
 
+-- what a worker owes at first
 abbrev pub owes_all : List ℕ → Owed
 owes_all txns = next_owed [] txns going
 
@@ -189,6 +197,7 @@ is_badly end = false
 abbrev pub has_failed : Key → Key → List Tell → Bool
 has_failed key k ts = same_key k key && elim (tidy_end k ts) [ None ↦ false | Some end ↦ is_badly end ]
 
+-- is it the commit of this number
 abbrev pub is_commit_of : ℕ → Tell → Bool
 is_commit_of number t = elim (commit_in t.event) [ None ↦ false | Some n ↦ n == number ]
 
@@ -200,6 +209,7 @@ failed_after number key inside (tidied k ts ∷ ps) = (inside && has_failed key 
 failed_after number key inside (stopped t ∷ ps) = failed_after number key inside ps
 
 module _ (v : View) (j : ℕ) (done : List Part) (t : Tell) where
+  -- a full ring's newest version, where it is the worker's own
   abbrev pub FullOutcome : Outcome → Type 0
   FullOutcome (Full l) =
       (v.newest t (lock_key l)).thread ≡ j → IsTrue (failed_after (v.newest t (lock_key l)).number (lock_key l) false done)

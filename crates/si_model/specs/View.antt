@@ -1,4 +1,5 @@
--- What the first entries of an event's prefix say. Answers, causes and knowledge are stated over a view, whoever makes it.
+-- What the entries that an event's snapshot holds say. Answers, causes and knowledge stand over a view, so that they serve a
+-- report with its history and logs alone.
 use Rattle.std.specs.Prelude.{ℕ, Bool, List, length, take}
 use Rattle.si_model.specs.declared.row.Key.{Key}
 use Rattle.si_model.specs.declared.log.Stamp.{Stamp}
@@ -19,7 +20,7 @@ pub record View : Type 0 where
   pub entries : Tell → List ℕ
   -- is the stamp of one of them
   pub has : Tell → Stamp → Bool
-  -- how many of them write the key after the version
+  -- how many of them write the key after the version; none where it is not a version among them
   pub later : Tell → Key → Stamp → ℕ
 
 -- by a history: the first entries are as many as the prefix says

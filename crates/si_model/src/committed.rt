@@ -12,7 +12,7 @@ use crate::row::{Item, Key, Row, Value};
 use std::alloc::{AllocError, Global};
 use std::collections::BTreeMap;
 
-/// What the rows hold. Where several have one key, the first counts.
+/// What the rows hold. Where several have one key the first counts, so it is put in last.
 #[tactic(auto, using(crate::proofs::HeldLemmas::under_rows))]
 fn held_by(alloc: Global, rows: &[Row]) -> Result<BTreeMap<Key, Value>, AllocError>
     ensures { IfOk result (λ held. (key : Key) → held_at held key ≡ rows_of rows.now key) }
@@ -43,7 +43,7 @@ fn hold(held: &mut BTreeMap<Key, Value>, key: Key, value: Option<Value>) -> Resu
     Ok(())
 }
 
-/// Puts a write set over what is held. Where it writes a key several times, the first counts.
+/// Puts a write set over what is held. Where it writes a key several times the first counts, so it is put in last.
 #[tactic(auto, using(crate::proofs::HeldLemmas::under_writes))]
 fn write_over(held: &mut BTreeMap<Key, Value>, writes: &[Item]) -> Result<(), AllocError>
     ensures { OnOk result ((key : Key) → held_at held.new key ≡ overlay writes.now (held_at held.old) key) }
@@ -116,7 +116,8 @@ impl CommittedRows {
     }
 }
 
-/// The rows after the first `p` entries of a history, ordered by table and key.
+/// The rows after the first `p` entries of a history, each key once, ordered by table and key. Where rows share a
+/// key, the first counts.
 pub fn state(
     alloc: Global,
     rows: &[Row],
@@ -124,7 +125,7 @@ pub fn state(
     p: usize,
 ) -> Result<Vec<Row>, AllocError>
     requires { p ≤ length history.now }
-    ensures { IfOk result (λ rows'. ListsRows rows'.items (state_at (rows_of rows.now) (take p history.now))) }
+    ensures { IfOk result (λ listed. ListsRows listed.items (state_at (rows_of rows.now) (take p history.now))) }
 {
     let mut held = held_by(alloc, rows)?;
     for line in &history[..p] {

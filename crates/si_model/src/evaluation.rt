@@ -1,68 +1,20 @@
 //! Evaluation of operations.
 
-ghost use Rattle.std.specs.Prelude.{◌≡◌, ℕ, ◌+◌, ◌-◌, ◌^◌, ◌<◌, ◌≤◌, [], ◌∷◌, ◌++◌, length, slice_index, slice_set, replicate, All, Option, Some, None, MatchOption, IfOk, OnOk, IsTrue, if◌then◌else◌};
-ghost use Rattle.si_model.specs.Rows.{key_at, item_key, item_at, rows_of, writes_key, overlay};
-ghost use Rattle.si_model.specs.Evaluation.{field_of, with_field, can_change, changed, wrote, guarded, passes, found, writes_after, guards_after, unwritten, evaluation_of, OpFits, AreWide};
+ghost use Rattle.std.specs.Prelude.{◌≡◌, ◌^◌, ◌<◌, [], ◌∷◌, ◌++◌, length, All, IfOk, OnOk, IsTrue};
+ghost use Rattle.si_model.specs.Rows.{key_at, item_at, rows_of, writes_key, overlay};
+ghost use Rattle.si_model.specs.Evaluation.{wrote, guarded, passes, found, writes_after, guards_after, unwritten, evaluation_of, OpFits, AreWide};
 
 use crate::evaluated::Evaluated;
+use crate::field::{changed_by, field_at, with_field};
 use crate::lookup::{add_items_between, copied, value_at};
 use crate::op::Op;
 use crate::row::{Item, Items, Key, Row, Value};
 use lists::List;
 use std::alloc::{AllocError, Global};
 
-/// A field, counted from 1, and 0 where there is no value.
-fn field_at(value: &Option<Value>, field: u32) -> u64
-    requires counted { 1 ≤ field }
-    requires within { MatchOption value.now (Unit {0}) (λ v. field ≤ length v) }
-    ensures { result ≡ field_of value.now field }
-{
-    match value {
-        Some(value) => *value.at(field as usize - 1),
-        None => 0,
-    }
-}
-
-fn zeros(width: u32) -> Value
-    requires { width ≤ 8 }
-    ensures { result ≡ replicate width 0 }
-{
-    let mut value = Value::new();
-    for _ in 0..width {
-        value.push(0);
-    }
-    value
-}
-
-/// The value with another number in a field, counted from 1. Where there is none it is all zeros elsewhere.
-fn with_field(width: u32, value: Option<Value>, field: u32, number: u64) -> Value
-    requires narrow { width ≤ 8 }
-    requires counted { (1 ≤ field) × (field ≤ width) }
-    requires wide { MatchOption value (Unit {0}) (λ v. length v ≡ width) }
-    ensures { result ≡ with_field width value field number }
-{
-    let mut words = match value {
-        Some(value) => value,
-        None => zeros(width),
-    };
-    words.set(field as usize - 1, number);
-    words
-}
-
-/// The number after a change, or none where it would leave 0 to 2^64 - 1.
-fn changed_by(number: u64, up: bool, by: u64) -> Option<u64>
-    ensures { result ≡ (if can_change up number by then Some (changed up number by) else None) }
-{
-    if up {
-        number.checked_add(by)
-    } else {
-        number.checked_sub(by)
-    }
-}
-
+/// Notes a write: each key stands once, in the order of first writes, with its last value.
 #[tactic(auto, using(crate::proofs::WriteLemmas::wrote_at))]
-/// One more write: each key stands once, in the order of first writes, with its last value.
-fn write(writes: &mut Items, item: Item) -> Result<(), AllocError>
+fn note_write(writes: &mut Items, item: Item) -> Result<(), AllocError>
     ensures { OnOk result (writes.new ≡ wrote writes.old item) }
 {
     for place in 0..writes.len() {
@@ -75,8 +27,8 @@ fn write(writes: &mut Items, item: Item) -> Result<(), AllocError>
     writes.push(item)
 }
 
-/// One more guarded key: each stands once, in the order of first guards.
-fn guard(guards: &mut List<Key>, key: Key) -> Result<(), AllocError>
+/// Notes a guarded key: each stands once, in the order of first guards.
+fn note_guard(guards: &mut List<Key>, key: Key) -> Result<(), AllocError>
     ensures { OnOk result (guards.new ≡ guarded guards.old key) }
 {
     for guard in guards.as_slice() {
@@ -111,7 +63,7 @@ fn unwritten(alloc: Global, writes: &[Item], guards: &[Key]) -> Result<List<Key>
     Ok(keys)
 }
 
-/// What was read, written and guarded so far. The copy of the rows is the rows under the writes.
+/// What was read, written and guarded so far. The rows under the writes are the copy of the rows.
 #[derive(Drop)]
 struct Progress {
     reads: Items,
@@ -136,6 +88,15 @@ impl Progress {
         Ok(value)
     }
 
+    /// Gives a key a value, or makes it absent.
+    fn write(&mut self, table: u32, key: u64, value: Option<Value>) -> Result<(), AllocError>
+        ensures writes { OnOk result (self.new.writes ≡ wrote self.old.writes (item_at (key_at table key) value)) }
+        ensures reads { self.new.reads ≡ self.old.reads }
+        ensures guards { self.new.guards ≡ self.old.guards }
+    {
+        note_write(&mut self.writes, Item { table, key, value })
+    }
+
     /// Does one operation on the copy, and says whether it passed.
     fn apply(
         &mut self,
@@ -154,20 +115,8 @@ impl Progress {
         match op {
             Op::Get { table, key } => {
                 self.read(rows, *table, *key)?;
-                Ok(true)
             }
-            Op::Put { table, key, value } => {
-                let value = Some(value.copy());
-                write(
-                    &mut self.writes,
-                    Item {
-                        table: *table,
-                        key: *key,
-                        value,
-                    },
-                )?;
-                Ok(true)
-            }
+            Op::Put { table, key, value } => self.write(*table, *key, Some(value.copy()))?,
             Op::Add {
                 table,
                 key,
@@ -175,72 +124,42 @@ impl Progress {
                 up,
                 by,
             } => {
-                let value = self.read(rows, *table, *key)?;
-                match changed_by(field_at(&value, *field), *up, *by) {
-                    Some(number) => {
-                        let width = widths[*table as usize];
-                        let value = Some(with_field(width, value, *field, number));
-                        write(
-                            &mut self.writes,
-                            Item {
-                                table: *table,
-                                key: *key,
-                                value,
-                            },
-                        )?;
-                        Ok(true)
-                    }
-                    None => Ok(false),
-                }
+                let before = self.read(rows, *table, *key)?;
+                let Some(number) = changed_by(field_at(&before, *field), *up, *by) else {
+                    return Ok(false);
+                };
+                let after = with_field(widths[*table as usize], before, *field, number);
+                self.write(*table, *key, Some(after))?;
             }
-            Op::Del { table, key } => {
-                write(
-                    &mut self.writes,
-                    Item {
-                        table: *table,
-                        key: *key,
-                        value: None,
-                    },
-                )?;
-                Ok(true)
-            }
+            Op::Del { table, key } => self.write(*table, *key, None)?,
             Op::Need {
                 table,
                 key,
                 field,
                 least,
             } => {
-                let value = self.read(rows, *table, *key)?;
-                Ok(*least <= field_at(&value, *field))
+                let found = self.read(rows, *table, *key)?;
+                return Ok(*least <= field_at(&found, *field));
             }
             Op::Guard { table, key } => {
                 self.read(rows, *table, *key)?;
-                guard(
-                    &mut self.guards,
-                    Key {
-                        table: *table,
-                        key: *key,
-                    },
-                )?;
-                Ok(true)
+                let key = Key {
+                    table: *table,
+                    key: *key,
+                };
+                note_guard(&mut self.guards, key)?;
             }
             Op::Scan { table, low, high } => {
-                add_items_between(
-                    alloc,
-                    &mut self.reads,
-                    self.writes.as_slice(),
-                    rows,
-                    *table,
-                    *low,
-                    *high,
-                )?;
-                Ok(true)
+                let writes = self.writes.as_slice();
+                add_items_between(alloc, &mut self.reads, writes, rows, *table, *low, *high)?;
             }
         }
+        Ok(true)
     }
 }
 
-/// The operations one after another, on a copy of the rows. `widths` has the width of each table.
+/// What a list of operations does, one after another, on a copy of the rows. `widths` has the width of each table,
+/// which each value has and an `add` gives a row that it makes. Where rows share a key, the first counts.
 pub fn eval(
     alloc: Global,
     widths: &[u32],

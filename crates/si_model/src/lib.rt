@@ -8,11 +8,14 @@
 mod committed;
 mod evaluated;
 mod evaluation;
+mod field;
 mod log;
 mod lookup;
 mod op;
 mod report;
 mod row;
+#[cfg(test)]
+mod tests;
 
 pub use committed::{CommittedRows, state};
 pub use evaluated::Evaluated;

@@ -1,7 +1,6 @@
 //! What stands at a key, or at the keys of a range, of the rows under a write set.
 
-ghost use Rattle.std.specs.Prelude.{◌≡◌, ℕ, ◌≤◌, ◌++◌, ◌&&◌, ◌||◌, nat_le, is_some, IfOk, OnOk};
-ghost use Rattle.std.specs.List.{flat_map};
+ghost use Rattle.std.specs.Prelude.{◌≡◌, ℕ, ◌++◌, ◌&&◌, ◌||◌, nat_le, is_some, IfOk, OnOk};
 ghost use Rattle.std.specs.Ordering.{nat_cmp};
 ghost use Rattle.std.specs.BTreeSet.{contains};
 ghost use Rattle.si_model.specs.Rows.{key_at, rows_of, writes_key, overlay, present, items_between};
@@ -10,16 +9,14 @@ use crate::row::{Item, Items, Row, Value};
 use std::alloc::{AllocError, Global};
 use std::collections::BTreeSet;
 
+/// An equal value, if there is one.
 pub(crate) fn copied(value: &Option<Value>) -> Option<Value>
     ensures { result ≡ value.now }
 {
-    match value {
-        Some(value) => Some(value.copy()),
-        None => None,
-    }
+    value.as_ref().map(|value| value.copy())
 }
 
-fn value_of_row(rows: &[Row], table: u32, key: u64) -> Option<Value>
+fn value_in_rows(rows: &[Row], table: u32, key: u64) -> Option<Value>
     ensures { result ≡ rows_of rows.now (key_at table key) }
 {
     for row in rows {
@@ -39,7 +36,7 @@ pub(crate) fn value_at(writes: &[Item], rows: &[Row], table: u32, key: u64) -> O
             return copied(&item.value);
         }
     }
-    value_of_row(rows, table, key)
+    value_in_rows(rows, table, key)
 }
 
 /// Adds the keys of the table from `low` to `high` that have a row.

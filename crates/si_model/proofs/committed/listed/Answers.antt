@@ -1,6 +1,5 @@
-use Rattle.std.proofs.Common.{◌≡◌, ◌++◌, List, [], ap, sym, ◌∙◌, append-nil}
+use Rattle.std.proofs.Common.{◌≡◌, ◌++◌, [], ap, sym, ◌∙◌, append-nil}
 use Rattle.std.specs.Prelude.{map}
-use Rattle.si_model.specs.Rows.{row_key, AreInOrder, rows_of}
 use Rattle.si_model.proofs.HeldLemmas.{row_of, in_order, same_rows}
 use Rattle.si_model.proofs.committed.listed.Goals as goal
 

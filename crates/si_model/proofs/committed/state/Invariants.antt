@@ -1,5 +1,4 @@
 use Rattle.std.proofs.Common.{◌≡◌, drop, take}
-use Rattle.si_model.specs.declared.row.Key.{Key}
 use Rattle.si_model.specs.Held.{held_at}
 use Rattle.si_model.specs.Rows.{rows_of}
 use Rattle.si_model.specs.State.{state_at}

@@ -1,7 +1,7 @@
 use Rattle.std.proofs.Common.{rules, ◌≡◌, ◌<◌, length, arith, sym, ◌∙◌, subst, true, false}
 use Rattle.std.specs.List.{AllByRecursion}
 use Rattle.si_model.specs.Rows.{rows_of, overlay}
-use Rattle.si_model.specs.Evaluation.{evaluation_of, OpFits, AreWide}
+use Rattle.si_model.specs.Evaluation.{evaluation_of, OpFits}
 use Rattle.si_model.specs.EvaluationLaws.{IsWide}
 use Rattle.si_model.proofs.EvaluationLemmas.{AreWide-overlay, wide-writes_after}
 use Rattle.si_model.proofs.StepLemmas.{go_on, stop}

@@ -1,4 +1,4 @@
-use Rattle.std.proofs.Common.{◌≡◌, ◌++◌, ap, sym, ◌∙◌, append-nil, List, []}
+use Rattle.std.proofs.Common.{◌≡◌, ◌++◌, ap, sym, ◌∙◌, append-nil, []}
 use Rattle.si_model.specs.Rows.{rows_of, overlay}
 use Rattle.si_model.proofs.RangeLemmas.{items_at, items_between-by_keys}
 use Rattle.si_model.proofs.lookup.add_items_between.Goals as goal

@@ -1,6 +1,6 @@
 use Rattle.std.proofs.Common.{◌≡◌, ◌++◌, drop, take}
 use Rattle.si_model.specs.Evaluation.{wrote}
-use Rattle.si_model.proofs.evaluation.write.Given as goal
+use Rattle.si_model.proofs.evaluation.note_write.Given as goal
 
 -- no write so far is at the key
 abbrev pub invariant-loop-place : goal.invariant-loop-place

@@ -1,6 +1,6 @@
 use Rattle.std.proofs.Common.{◌≡◌, ◌++◌, drop, take}
 use Rattle.si_model.specs.Evaluation.{guarded}
-use Rattle.si_model.proofs.evaluation.guard.Given as goal
+use Rattle.si_model.proofs.evaluation.note_guard.Given as goal
 
 -- no guard so far is the key
 abbrev pub invariant-loop-guard : goal.invariant-loop-guard

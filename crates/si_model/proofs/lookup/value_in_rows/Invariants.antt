@@ -1,6 +1,6 @@
 use Rattle.std.proofs.Common.{◌≡◌, drop}
 use Rattle.si_model.specs.Rows.{key_at, rows_of}
-use Rattle.si_model.proofs.lookup.value_of_row.Given as goal
+use Rattle.si_model.proofs.lookup.value_in_rows.Given as goal
 
 -- no row so far has the key
 abbrev pub invariant-loop-row : goal.invariant-loop-row

@@ -13,6 +13,8 @@ mod serial;
 mod stamps;
 mod status;
 mod store;
+#[cfg(test)]
+mod tests;
 mod top;
 
 use nam_io::{StdSink, StdSource};

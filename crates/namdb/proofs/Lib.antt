@@ -6,3 +6,4 @@ mod SerialFitsLemmas
 mod EvaluateLemmas
 mod StoreLemmas
 mod ServeLemmas
+mod TopLemmas

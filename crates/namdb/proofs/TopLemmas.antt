@@ -1,0 +1,79 @@
+-- What follows from how a call ended, for each status.
+use Rattle.std.proofs.Common.{◌≡◌, ℕ, List, ◌⊎◌, Option, String, refl, sym, ◌∙◌, inl, inr}
+use Rattle.std.specs.declared.alloc.Global.{Global}
+use Rattle.std.specs.Io.KnownBytes.{Appends}
+use Rattle.nam_io.specs.Faults.{Rose}
+use Rattle.nam_io.specs.Told.{AppendsFront}
+use Rattle.namdb.specs.declared.status.Status.{Status}
+use Rattle.namdb.specs.declared.status.Status.TheVariants.{Done, Usage, BadScript, ReadFault, WriteFault, Memory, TooLong}
+use Rattle.namdb.specs.Status.{line_of}
+use Rattle.namdb.specs.Headline.{AreRunWords, MayRefuse, MayWrite}
+use Rattle.namdb.specs.Ending.{HasLine, MakesLine, Sends}
+
+-- of a sink, which is as it was if `Kept` holds
+module _ (taken now : Option (List ℕ)) (writes writes_now : ℕ) (Kept : Type 0) where
+  -- a status with a line ends so
+  abbrev pub SendsLine : Status → Status → Type 0
+  SendsLine status result = Sends taken now writes writes_now status (line_of status) result ⊎ (MakesLine status × (result ≡ Memory) × Kept)
+
+  usage_ends_so : (result : Status) → SendsLine Usage result → (result ≡ Usage) ⊎ (result ≡ WriteFault)
+  usage_ends_so result (inl (inl sent)) = inl sent.0
+  usage_ends_so result (inl (inr failed)) = inr failed.0
+  usage_ends_so result (inr memory) = absurd memory.0
+
+  -- the line of `Usage` takes no memory
+  pub usage_ends : (status result : Status) → (HasLine status → SendsLine status result) → status ≡ Usage → (result ≡ Usage) ⊎ (result ≡ WriteFault)
+  usage_ends status result line is = usage_ends_so result (rw is at line tt)
+
+  line_keeps : (status result : Status) → SendsLine status result → (status ≡ Memory → ⊥) → result ≡ Memory → MakesLine status × Kept
+  line_keeps status result (inl (inl sent)) other is = absurd (other (sym sent.0 ∙ is))
+  line_keeps status result (inl (inr failed)) other is = let fault = failed.0 in absurd (cc)
+  line_keeps status result (inr memory) other is = (memory.0, memory.2)
+
+-- of a whole call
+module _ (words : List (String Global)) (left left_now : Option (List ℕ)) (reads reads_now : ℕ) (taken now : Option (List ℕ)) (writes writes_now : ℕ) where
+  -- the sink failed, and took a front of what some status would have written
+  abbrev pub SinkFailed : Type 0
+  SinkFailed = Rose writes writes_now × ((status : Status) × ((text : List ℕ) × MayWrite words left left_now reads reads_now status text × AppendsFront taken now text))
+
+  pub text_fails : (status : Status) (text : List ℕ) (result : Status) → MayWrite words left left_now reads reads_now status text → Sends taken now writes writes_now status text result → (status ≡ WriteFault → ⊥) → result ≡ WriteFault → SinkFailed
+  text_fails status text result may (inl sent) other is = absurd (other (sym sent.0 ∙ is))
+  text_fails status text result may (inr failed) other is = (failed.1, (status, (text, may, failed.2)))
+
+  line_fails : (Kept : Type 0) (status result : Status) → MayWrite words left left_now reads reads_now status (line_of status) → SendsLine taken now writes writes_now Kept status result → (status ≡ WriteFault → ⊥) → result ≡ WriteFault → SinkFailed
+  line_fails Kept status result may (inl sends) other is = text_fails status (line_of status) result may sends other is
+  line_fails Kept status result may (inr memory) other is = let wanted = memory.1 in absurd (cc)
+
+  pub refusal_fails : (Kept : Type 0) (status result : Status) → MayRefuse words left left_now reads reads_now status → (HasLine status → SendsLine taken now writes writes_now Kept status result) → (status ≡ Memory → (result ≡ Memory) × Kept) → result ≡ WriteFault → SinkFailed
+  refusal_fails Kept Usage result may line memory is = line_fails Kept Usage result (may, refl) (line tt) (λ same. cc) is
+  refusal_fails Kept (BadScript number kind) result may line memory is = line_fails Kept (BadScript number kind) result (may, refl) (line tt) (λ same. cc) is
+  refusal_fails Kept ReadFault result may line memory is = line_fails Kept ReadFault result (may, refl) (line tt) (λ same. cc) is
+  refusal_fails Kept TooLong result may line memory is = line_fails Kept TooLong result (may, refl) (line tt) (λ same. cc) is
+  refusal_fails Kept Memory result may line memory is = let wanted = (memory refl).0 in absurd (cc)
+  refusal_fails Kept Done result may line memory is = absurd may
+  refusal_fails Kept WriteFault result may line memory is = absurd may
+
+  line_sends : (Kept : Type 0) (status result : Status) → SendsLine taken now writes writes_now Kept status result → MayRefuse words left left_now reads reads_now status → HasLine result → MayRefuse words left left_now reads reads_now result × Appends taken now (line_of result)
+  line_sends Kept status result (inl (inl sent)) may has = rw sent.0 (may, sent.1)
+  line_sends Kept status result (inl (inr failed)) may has = absurd (rw failed.0 at has)
+  line_sends Kept status result (inr memory) may has = absurd (rw memory.1 at has)
+
+  -- a refusal that ends with a line of its own
+  pub refusal_sends : (Kept : Type 0) (status result : Status) → MayRefuse words left left_now reads reads_now status → (HasLine status → SendsLine taken now writes writes_now Kept status result) → (status ≡ Memory → (result ≡ Memory) × Kept) → HasLine result → MayRefuse words left left_now reads reads_now result × Appends taken now (line_of result)
+  refusal_sends Kept Usage result may line memory has = line_sends Kept Usage result (line tt) may has
+  refusal_sends Kept (BadScript number kind) result may line memory has = line_sends Kept (BadScript number kind) result (line tt) may has
+  refusal_sends Kept ReadFault result may line memory has = line_sends Kept ReadFault result (line tt) may has
+  refusal_sends Kept TooLong result may line memory has = line_sends Kept TooLong result (line tt) may has
+  refusal_sends Kept Memory result may line memory has = absurd (rw (memory refl).0 at has)
+  refusal_sends Kept Done result may line memory has = absurd may
+  refusal_sends Kept WriteFault result may line memory has = absurd may
+
+  -- want of memory comes after the words, and before anything is written
+  pub memory_keeps : (Kept : Type 0) (status result : Status) → MayRefuse words left left_now reads reads_now status → (HasLine status → SendsLine taken now writes writes_now Kept status result) → (status ≡ Memory → (result ≡ Memory) × Kept) → result ≡ Memory → AreRunWords words × Kept
+  memory_keeps Kept Usage result may line memory is = absurd (line_keeps taken now writes writes_now Kept Usage result (line tt) (λ same. cc) is).0
+  memory_keeps Kept (BadScript number kind) result may line memory is = (may.0, (line_keeps taken now writes writes_now Kept (BadScript number kind) result (line tt) (λ same. cc) is).1)
+  memory_keeps Kept ReadFault result may line memory is = (may.0, (line_keeps taken now writes writes_now Kept ReadFault result (line tt) (λ same. cc) is).1)
+  memory_keeps Kept TooLong result may line memory is = (may.0, (line_keeps taken now writes writes_now Kept TooLong result (line tt) (λ same. cc) is).1)
+  memory_keeps Kept Memory result may line memory is = (may, (memory refl).1)
+  memory_keeps Kept Done result may line memory is = absurd may
+  memory_keeps Kept WriteFault result may line memory is = absurd may

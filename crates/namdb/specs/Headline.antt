@@ -1,0 +1,58 @@
+-- What the program promises of its words, its input and what it writes.
+use Rattle.std.specs.Prelude.{◌≡◌, ◌≤◌, ◌<◌, ℕ, List, [], length, codes, IfSome, slice_get, Option, Some, None, String, string_bytes, ⊤}
+use Rattle.std.specs.declared.alloc.Global.{Global}
+use Rattle.nam_io.specs.Faults.{Rose}
+use Rattle.nam_io.specs.Told.{LosesFront}
+use Rattle.si_model.specs.declared.report.Report.{Report}
+use Rattle.si_model.specs.Run.{IsRun}
+use Rattle.nam_script.specs.declared.script.Script.{Script}
+use Rattle.nam_script.specs.Text.{script_text}
+use Rattle.nam_report.specs.Fits.{FitsScript}
+use Rattle.nam_report.specs.Text.{report_text}
+use Rattle.namdb.specs.declared.status.Status.{Status}
+use Rattle.namdb.specs.declared.status.Status.TheVariants.{Done, Usage, BadScript, ReadFault, WriteFault, Memory, TooLong}
+use Rattle.namdb.specs.Plain.{setting_of}
+use Rattle.namdb.specs.Status.{line_of}
+
+-- the text is that of a report which is a run of the script that the input spells
+pub record IsReportOn (input text : List ℕ) : Type 0 where
+  pub script : Script
+  pub report : Report
+  pub spelt : input ≡ script_text script
+  pub run : IsRun (setting_of script) report
+  pub fits : FitsScript script report
+  pub written : text ≡ report_text script.shape.tables report
+
+-- the program's name and `run`
+abbrev pub AreRunWords : List (String Global) → Type 0
+AreRunWords words = (length words ≡ 2) × IfSome (slice_get words 1) (λ word. string_bytes word ≡ codes "run")
+
+-- the input is all that was left of a source that tells that, and nothing is left now
+abbrev pub IsAllThatWasLeft : Option (List ℕ) → Option (List ℕ) → List ℕ → Type 0
+IsAllThatWasLeft None now input = ⊤
+IsAllThatWasLeft (Some left) now input = (left ≡ input) × (now ≡ Some [])
+
+-- the whole input was read, which has at most 1,048,576 bytes
+abbrev pub IsWholeInput : Option (List ℕ) → Option (List ℕ) → List ℕ → Type 0
+IsWholeInput left now input = IsAllThatWasLeft left now input × (length input ≤ 1048576)
+
+-- more than 1,048,576 bytes were left, and one more than these was read
+abbrev pub HasTooMuch : Option (List ℕ) → Option (List ℕ) → Type 0
+HasTooMuch left now = IfSome left (λ bytes. 1048576 < length bytes) × LosesFront left now (λ n. n ≡ 1048577)
+
+-- Of a call with these words, before and after which the source tells that this is left, and counts so many faults:
+module _ (words : List (String Global)) (left now : Option (List ℕ)) (faults faults_now : ℕ) where
+  -- it may be refused so
+  abbrev pub MayRefuse : Status → Type 0
+  MayRefuse Usage = (AreRunWords words → ⊥) × (now ≡ left)
+  MayRefuse (BadScript line kind) = AreRunWords words × ((input : List ℕ) × IsWholeInput left now input)
+  MayRefuse ReadFault = AreRunWords words × Rose faults faults_now
+  MayRefuse TooLong = AreRunWords words × HasTooMuch left now
+  MayRefuse Memory = AreRunWords words
+  MayRefuse status = ⊥
+
+  -- it may end so with this text. (`Memory` and `WriteFault` have none of their own.)
+  abbrev pub MayWrite : Status → List ℕ → Type 0
+  MayWrite Done text = AreRunWords words × ((input : List ℕ) × IsWholeInput left now input × IsReportOn input text)
+  MayWrite Memory text = ⊥
+  MayWrite status text = MayRefuse status × (text ≡ line_of status)

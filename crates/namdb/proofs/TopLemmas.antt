@@ -1,14 +1,19 @@
 -- What follows from how a call ended, for each status.
-use Rattle.std.proofs.Common.{◌≡◌, ℕ, List, ◌⊎◌, Option, String, refl, sym, ◌∙◌, inl, inr}
+use Rattle.std.proofs.Common.{◌≡◌, ◌≤◌, ℕ, List, [], length, ◌⊎◌, Option, Some, None, String, refl, sym, ◌∙◌, subst, arith, append-nil, inl, inr}
 use Rattle.std.specs.declared.alloc.Global.{Global}
-use Rattle.std.specs.Io.KnownBytes.{Appends}
+use Rattle.std.specs.Io.KnownBytes.{Appends, Consumes}
 use Rattle.nam_io.specs.Faults.{Rose}
 use Rattle.nam_io.specs.Told.{AppendsFront}
 use Rattle.namdb.specs.declared.status.Status.{Status}
 use Rattle.namdb.specs.declared.status.Status.TheVariants.{Done, Usage, BadScript, ReadFault, WriteFault, Memory, TooLong}
 use Rattle.namdb.specs.Status.{line_of}
-use Rattle.namdb.specs.Headline.{AreRunWords, MayRefuse, MayWrite}
+use Rattle.namdb.specs.Headline.{AreRunWords, IsAllThatWasLeft, IsWholeInput, HasAtMost, MayRefuse, MayWrite}
 use Rattle.namdb.specs.Ending.{HasLine, MakesLine, Sends}
+
+-- an input that was read whole has at most so many bytes
+all_at_most : (left now : Option (List ℕ)) (input : List ℕ) → IsAllThatWasLeft left now input → length input ≤ 1048576 → HasAtMost left now
+all_at_most None now input all few = ([], tt, omega arith)
+all_at_most (Some bytes) now input all few = (input, subst (λ n. Consumes (Some bytes) n input) (sym all.1) (all.0 ∙ sym (append-nil input)), few)
 
 -- of a sink, which is as it was if `Kept` holds
 module _ (taken now : Option (List ℕ)) (writes writes_now : ℕ) (Kept : Type 0) where
@@ -68,12 +73,16 @@ module _ (words : List (String Global)) (left left_now : Option (List ℕ)) (rea
   refusal_sends Kept Done result may line memory has = absurd may
   refusal_sends Kept WriteFault result may line memory has = absurd may
 
+  -- a whole input has at most so many bytes
+  whole_at_most : (input : List ℕ) → IsWholeInput left left_now input → HasAtMost left left_now
+  whole_at_most input whole = all_at_most left left_now input whole.0 whole.1
+
   -- want of memory comes after the words, and before anything is written
-  pub memory_keeps : (Kept : Type 0) (status result : Status) → MayRefuse words left left_now reads reads_now status → (HasLine status → SendsLine taken now writes writes_now Kept status result) → (status ≡ Memory → (result ≡ Memory) × Kept) → result ≡ Memory → AreRunWords words × Kept
+  pub memory_keeps : (Kept : Type 0) (status result : Status) → MayRefuse words left left_now reads reads_now status → (HasLine status → SendsLine taken now writes writes_now Kept status result) → (status ≡ Memory → (result ≡ Memory) × Kept) → result ≡ Memory → AreRunWords words × HasAtMost left left_now × Kept
   memory_keeps Kept Usage result may line memory is = absurd (line_keeps taken now writes writes_now Kept Usage result (line tt) (λ same. cc) is).0
-  memory_keeps Kept (BadScript number kind) result may line memory is = (may.0, (line_keeps taken now writes writes_now Kept (BadScript number kind) result (line tt) (λ same. cc) is).1)
-  memory_keeps Kept ReadFault result may line memory is = (may.0, (line_keeps taken now writes writes_now Kept ReadFault result (line tt) (λ same. cc) is).1)
-  memory_keeps Kept TooLong result may line memory is = (may.0, (line_keeps taken now writes writes_now Kept TooLong result (line tt) (λ same. cc) is).1)
-  memory_keeps Kept Memory result may line memory is = (may, (memory refl).1)
+  memory_keeps Kept (BadScript number kind) result may line memory is = (may.0, whole_at_most may.1.0 may.1.1, (line_keeps taken now writes writes_now Kept (BadScript number kind) result (line tt) (λ same. cc) is).1)
+  memory_keeps Kept ReadFault result may line memory is = absurd (line_keeps taken now writes writes_now Kept ReadFault result (line tt) (λ same. cc) is).0
+  memory_keeps Kept TooLong result may line memory is = absurd (line_keeps taken now writes writes_now Kept TooLong result (line tt) (λ same. cc) is).0
+  memory_keeps Kept Memory result may line memory is = (may.0, may.1, (memory refl).1)
   memory_keeps Kept Done result may line memory is = absurd may
   memory_keeps Kept WriteFault result may line memory is = absurd may

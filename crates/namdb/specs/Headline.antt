@@ -40,15 +40,19 @@ IsWholeInput left now input = IsAllThatWasLeft left now input × (length input �
 abbrev pub HasTooMuch : Option (List ℕ) → Option (List ℕ) → Type 0
 HasTooMuch left now = IfSome left (λ bytes. 1048576 < length bytes) × LosesFront left now (λ n. n ≡ 1048577)
 
+-- at most 1,048,576 bytes were read
+abbrev pub HasAtMost : Option (List ℕ) → Option (List ℕ) → Type 0
+HasAtMost left now = LosesFront left now (λ n. n ≤ 1048576)
+
 -- Of a call with these words, before and after which the source tells that this is left, and counts so many faults:
 module _ (words : List (String Global)) (left now : Option (List ℕ)) (faults faults_now : ℕ) where
   -- it may be refused so
   abbrev pub MayRefuse : Status → Type 0
   MayRefuse Usage = (AreRunWords words → ⊥) × (now ≡ left)
   MayRefuse (BadScript line kind) = AreRunWords words × ((input : List ℕ) × IsWholeInput left now input)
-  MayRefuse ReadFault = AreRunWords words × Rose faults faults_now
+  MayRefuse ReadFault = AreRunWords words × Rose faults faults_now × HasAtMost left now
   MayRefuse TooLong = AreRunWords words × HasTooMuch left now
-  MayRefuse Memory = AreRunWords words
+  MayRefuse Memory = AreRunWords words × HasAtMost left now
   MayRefuse status = ⊥
 
   -- it may end so with this text. (`Memory` and `WriteFault` have none of their own.)

@@ -8,7 +8,7 @@ ghost use Rattle.nam_script.specs.declared.refusal.Kind.{Kind};
 ghost use Rattle.namdb.specs.declared.status.Status.{Status};
 ghost use Rattle.namdb.specs.Status.{script_line, line_of};
 ghost use Rattle.namdb.specs.Ending.{IsAnswerToInput, HasLine, MakesLine, Sends};
-ghost use Rattle.namdb.specs.Headline.{AreRunWords, IsReportOn, IsWholeInput, HasTooMuch, MayRefuse, MayWrite};
+ghost use Rattle.namdb.specs.Headline.{AreRunWords, IsReportOn, IsWholeInput, HasTooMuch, HasAtMost, MayRefuse, MayWrite};
 
 use crate::serial::run_serial;
 use crate::status::{Status, kind_word};
@@ -51,8 +51,11 @@ pub fn namdb<S: Source, K: Sink>(
     ensures read_fault { result ≡ Status.ReadFault →
         AreRunWords words.now
         × Rose (S.faults source.old) (S.faults source.new)
+        × HasAtMost (S.left source.old) (S.left source.new)
         × Appends (K.taken sink.old) (K.taken sink.new) (codes "error read\n") }
 
+    // TooLong comes exactly where more than the limit was got: Done, BadScript, ReadFault and Memory say that at most
+    // the limit was.
     ensures too_long { result ≡ Status.TooLong →
         AreRunWords words.now
         × HasTooMuch (S.left source.old) (S.left source.new)
@@ -65,7 +68,10 @@ pub fn namdb<S: Source, K: Sink>(
         × MayWrite words.now (S.left source.old) (S.left source.new) (S.faults source.old) (S.faults source.new) status text
         × AppendsFront (K.taken sink.old) (K.taken sink.new) text)) }
 
-    ensures memory { result ≡ Status.Memory → AreRunWords words.now × (sink.new ≡ sink.old) }
+    ensures memory { result ≡ Status.Memory →
+        AreRunWords words.now
+        × HasAtMost (S.left source.old) (S.left source.new)
+        × (sink.new ≡ sink.old) }
 {
     match report_of(alloc, words, source) {
         Ok(text) => end_with(sink, Status::Done, text.as_slice()),

@@ -1,4 +1,3 @@
-use Rattle.std.proofs.Common.{◌≡◌}
 use Rattle.namdb.specs.declared.status.Status.TheVariants.{Done}
 use Rattle.namdb.proofs.TopLemmas.{text_fails, refusal_fails, refusal_sends, usage_ends, memory_keeps}
 use Rattle.namdb.proofs.top.namdb.Goals as goal

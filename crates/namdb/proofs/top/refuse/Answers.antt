@@ -1,4 +1,4 @@
-use Rattle.std.proofs.Common.{◌≡◌, ap, inl}
+use Rattle.std.proofs.Common.{ap, inl}
 use Rattle.namdb.specs.Status.{line_of}
 use Rattle.namdb.proofs.top.refuse.Goals as goal
 

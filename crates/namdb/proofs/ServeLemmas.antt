@@ -1,27 +1,35 @@
 -- A worker's attempt, as the store sees it and as the definitions say it.
-use Rattle.std.proofs.Common.{◌≡◌, ℕ, zero, suc, ◌+◌, ◌-◌, ◌<◌, ◌≤◌, List, [], ◌∷◌, ◌++◌, length, map, drop, refl, ap, sym, ◌∙◌, subst, arith, append-nil, append_assoc}
+use Rattle.std.proofs.Common.{◌≡◌, ℕ, zero, suc, ◌+◌, ◌-◌, ◌<◌, ◌≤◌, List, [], ◌∷◌, ◌++◌, length, map, refl, ap, sym, ◌∙◌, subst, arith, append-nil, append_assoc, add-one}
 use Rattle.std.proofs.lemmas.Bool.{eq-eqb, ne_eqb}
-use Rattle.std.specs.Prelude.{slice_index, slice_index_or, ◌==◌, if◌then◌else◌, Bool, true, false}
+use Rattle.std.specs.Prelude.{slice_index, slice_index_or, ◌==◌, if◌then◌else◌, Bool, true, false, Result, Ok, Err, IfOk}
 use Rattle.std.specs.List.{AllByRecursion, flat_map}
 use Rattle.std.proofs.Math.Path.{fun_ext}
 use Rattle.si_model.specs.declared.row.Key.{Key}
 use Rattle.si_model.specs.declared.op.Op.{Op}
 use Rattle.si_model.specs.declared.log.Log.{Log}
+use Rattle.si_model.specs.declared.log.Stamp.{Stamp}
+use Rattle.si_model.specs.declared.log.Lock.{Lock}
+use Rattle.si_model.specs.declared.log.Event.TheVariants.{Tried}
 use Rattle.si_model.specs.declared.log.Outcome.{Outcome}
+use Rattle.si_model.specs.declared.log.Outcome.TheVariants.{Commit}
 use Rattle.si_model.specs.declared.report.CommitLine.{CommitLine}
 use Rattle.si_model.specs.declared.evaluated.Evaluated.{Evaluated}
-use Rattle.si_model.specs.Rows.{Rows, rows_of}
+use Rattle.si_model.specs.declared.evaluated.Evaluated.TheVariants.{Done, Declined}
+use Rattle.std.specs.BTreeMap.{BTreeMap}
+use Rattle.si_model.specs.Rows.{rows_of}
 use Rattle.si_model.specs.Committed.{rows_held}
-use Rattle.si_model.specs.Evaluation.{evaluation_of, OpFits, AreWide}
+use Rattle.si_model.specs.Evaluation.{evaluation_of, reads_of, OpFits, AreWide}
 use Rattle.si_model.specs.State.{state_at}
-use Rattle.si_model.specs.History.{count_of, entries_at}
+use Rattle.si_model.specs.History.{count_of, newest_writer, keys_of}
 use Rattle.si_model.specs.Tells.{Tell}
-use Rattle.si_model.specs.Setting.{Setting, places_of}
+use Rattle.si_model.specs.Setting.{Setting, places_of, txns_of}
 use Rattle.nam_script.specs.Limits.{RowFits}
 use Rattle.namdb.specs.declared.store.Store.{Store}
-use Rattle.namdb.specs.Store.{IsStore}
-use Rattle.namdb.specs.Serial.{outcome_of, ops_of, evaluated_after, outcome_after, tell_after, entry_after, tells_after, history_after, own_txn, log_grown}
-use Rattle.namdb.proofs.StoreLemmas.{entries_at-at, length-entries_at}
+use Rattle.namdb.specs.declared.attempt.Plan.{Plan}
+use Rattle.namdb.specs.Stamps.{stamp_held, lock_held}
+use Rattle.namdb.specs.Store.{IsStore, IsPlan}
+use Rattle.namdb.specs.Serial.{outcome_of, writes_by, locks_by, locks_with, attempt_by, log_with, ops_of, evaluated_after, outcome_after, tell_after, entry_after, tells_after, history_after, own_txn, log_of, log_grown, logs_after, end_after}
+use Rattle.namdb.proofs.StoreLemmas.{entries_at-at, length-entries_at, map_locks}
 use Rattle.namdb.proofs.SerialFitsLemmas.{wide-state}
 
 -- equal evaluations and outcomes give the same
@@ -115,3 +123,54 @@ own_here j owner x e = rw (eq-eqb owner j e) refl
 
 pub own_elsewhere : (j owner x : ℕ) → (owner ≡ j → ⊥) → own_txn j owner x ≡ []
 own_elsewhere j owner x e = rw (ne_eqb owner j e) refl
+
+module _ (s : Setting) (plan : Plan) (store : Store) (planned : IsPlan s plan) (is : IsStore s store) (j x : ℕ) (ops : List Op) (own : ops ≡ ops_of s x) where
+  -- with the plan's widths and its greatest number
+  pub plan_evaluated : evaluation_of plan.widths.items (rows_held store.rows) ops ≡ evaluated_after s j store.history x
+  plan_evaluated = ap (λ ws. evaluation_of ws (rows_held store.rows) ops) planned.widths ∙ evaluated_held s store is j x ops own
+
+  pub plan_outcome : 1 ≤ j → j ≤ s.workers → outcome_of plan.greatest (slice_index store.vector (j - 1)) (evaluation_of plan.widths.items (rows_held store.rows) ops) ≡ outcome_after s j store.history x
+  plan_outcome low high =
+      ap (λ g. outcome_of g (slice_index store.vector (j - 1)) (evaluation_of plan.widths.items (rows_held store.rows) ops)) planned.greatest
+      ∙ ap (λ ws. outcome_of s.greatest (slice_index store.vector (j - 1)) (evaluation_of ws (rows_held store.rows) ops)) planned.widths
+      ∙ outcome_held s store is j x ops own low high
+
+-- the locks of the stamps are those of the newest writers
+pub locks_same : (stamps : BTreeMap Key Stamp) (history : List CommitLine) → ((key : Key) → stamp_held stamps key ≡ newest_writer key history) → (e : Evaluated) (o : Outcome) → locks_with (lock_held stamps) e o ≡ locks_by history e o
+locks_same stamps history same (Done reads writes guards) (Commit number) = map_locks stamps history (keys_of writes guards) same
+locks_same stamps history same (Done reads writes guards) o = refl
+locks_same stamps history same (Declined op reads) o = refl
+
+-- a log grows by one tell
+pub log_grown-one : (log : Log) (t : Tell) → log_with log t.event t.reads t.locks t.writes t.snap ≡ log_grown log (t ∷ [])
+log_grown-one log t = rw (append-nil t.reads, append-nil t.locks, append-nil t.writes) refl
+
+-- the log after an attempt is the one that tells it
+pub log_after : (s : Setting) (store : Store) → IsStore s store → (j x : ℕ) (log : Log) (e : Evaluated) (o : Outcome) → e ≡ evaluated_after s j store.history x → o ≡ outcome_after s j store.history x →
+    log_with log (Tried (attempt_by x (length store.history) e (locks_with (lock_held store.stamps) e o) o)) (reads_of e) (locks_with (lock_held store.stamps) e o) (writes_by e o) store.vector
+    ≡ log_grown log (tells_after s j store.history (x ∷ []))
+log_after s store is j x log e o e_same o_same =
+    let whole = λ (v : Evaluated) (w : Outcome) (ls : List Lock) (seen : List ℕ). log_with log (Tried (attempt_by x (length store.history) v ls w)) (reads_of v) ls (writes_by v w) seen in
+    let v = evaluated_after s j store.history x in
+    let w = outcome_after s j store.history x in
+    same_both (λ a b. whole a b (locks_with (lock_held store.stamps) a b) store.vector) e v o w e_same o_same
+    ∙ ap (λ ls. whole v w ls store.vector) (locks_same store.stamps store.history is.stamps v w)
+    ∙ ap (whole v w (locks_by store.history v w)) is.vector
+    ∙ log_grown-one log (tell_after s j store.history x)
+
+-- the next worker, and those behind it
+pub end_next : (s : Setting) (b : ℕ) (history next : List CommitLine) (m n : ℕ) → n ≡ suc m → next ≡ history_after s (b + 1) history (txns_of (b + 1) s.owners) → end_after s (b + 1 + 1) next m ≡ end_after s (b + 1) history n
+end_next s b history next m n e h = ap (λ j. end_after s j next m) (add-one (b + 1)) ∙ ap (λ z. end_after s (suc (b + 1)) z m) h ∙ ap (end_after s (b + 1) history) (sym e)
+
+pub logs_next : (s : Setting) (b : ℕ) (history next : List CommitLine) (m n : ℕ) (logs more : List Log) (log : Log) → n ≡ suc m → next ≡ history_after s (b + 1) history (txns_of (b + 1) s.owners) → log ≡ log_of (tells_after s (b + 1) history (txns_of (b + 1) s.owners)) → more ≡ logs ++ log ∷ [] →
+    more ++ logs_after s (b + 1 + 1) next m ≡ logs ++ logs_after s (b + 1) history n
+logs_next s b history next m n logs more log e h l p =
+    let rest = logs_after s (b + 1 + 1) next m in
+    let same = ap (λ j. logs_after s j next m) (add-one (b + 1)) ∙ ap (λ z. logs_after s (suc (b + 1)) z m) h in
+    ap (λ ls. ls ++ rest) p ∙ append_assoc logs (log ∷ []) rest
+    ∙ ap (λ ls. logs ++ ls) (ap (λ z. z ∷ rest) l ∙ ap (λ ls. log_of (tells_after s (b + 1) history (txns_of (b + 1) s.owners)) ∷ ls) same ∙ ap (logs_after s (b + 1) history) (sym e))
+
+-- three facts of an Ok give a fourth
+pub if_ok_all : {A E : Type 0} (r : Result A E) (P Q R S : A → Type 0) → ((a : A) → P a → Q a → R a → S a) → IfOk r P → IfOk r Q → IfOk r R → IfOk r S
+if_ok_all (Ok a) P Q R S f p q r = f a p q r
+if_ok_all (Err e) P Q R S f p q r = tt

@@ -1,12 +1,11 @@
 -- What a store holds after an attempt.
-use Rattle.std.proofs.Common.{◌≡◌, ℕ, zero, suc, ◌+◌, ◌-◌, ◌<◌, ◌≤◌, Bool, true, false, cond, List, [], ◌∷◌, ◌++◌, length, map, refl, ap, sym, ◌∙◌, subst, arith, append-nil, append_assoc, add-zero, inl, inr}
-use Rattle.std.specs.Prelude.{slice_set, slice_index, if◌then◌else◌, replicate, ◌==◌}
+use Rattle.std.proofs.Common.{◌≡◌, ℕ, zero, suc, ◌+◌, ◌-◌, ◌<◌, ◌≤◌, cond, List, [], ◌∷◌, ◌++◌, length, map, refl, ap, sym, ◌∙◌, subst, arith, append-nil, add-zero, inl, inr}
+use Rattle.std.specs.Prelude.{slice_index, if◌then◌else◌, replicate, ◌==◌}
 use Rattle.std.specs.List.{AllByRecursion}
 use Rattle.std.specs.BTreeMap.{BTreeMap}
 use Rattle.si_model.specs.declared.row.Key.{Key}
 use Rattle.si_model.specs.declared.row.Item.{Item}
 use Rattle.si_model.specs.declared.log.Stamp.{Stamp}
-use Rattle.si_model.specs.declared.log.Log.{Log}
 use Rattle.si_model.specs.declared.report.CommitLine.{CommitLine}
 use Rattle.std.proofs.lemmas.Bool.{cases_Bool, eqb-true, eqb-false}
 use Rattle.si_model.specs.declared.evaluated.Evaluated.{Evaluated}
@@ -15,7 +14,6 @@ use Rattle.si_model.specs.Setting.{Setting}
 use Rattle.si_model.specs.Rows.{Rows, rows_of, same_key, item_key, writes_key, overlay}
 use Rattle.si_model.specs.State.{state_at}
 use Rattle.si_model.specs.History.{count_of, entries_from, entries_at, newest_from, newest_writer, stamp_of, stamp_at, loader, keys_of}
-use Rattle.si_model.specs.Tells.{Tell}
 use Rattle.namdb.specs.Stamps.{lock_held, stamp_held}
 use Rattle.namdb.specs.declared.store.Store.{Store}
 use Rattle.namdb.specs.Store.{IsStore}
@@ -137,3 +135,13 @@ module _ (s : Setting) (j : ℕ) (history : List CommitLine) (x : ℕ) where
     numbers = λ i. subst (λ h. s.start + count_of i h ≤ s.greatest) (sym grown) (numbers_after (λ k. subst (λ h. s.start + count_of k h ≤ s.greatest) is (store.numbers k)) i);
     fit = subst (AllByRecursion (EntryFits s.widths)) (sym grown) (fit-entry s rows_fit jobs_fit j history x (subst (AllByRecursion (EntryFits s.widths)) is store.fit));
   }
+
+-- a store that was opened
+pub store_open : (s : Setting) (store : Store) → s.start ≤ s.greatest → store.history ≡ [] → store.vector ≡ replicate s.workers s.start → ((key : Key) → rows_held store.rows key ≡ rows_of s.rows key) → ((key : Key) → stamp_held store.stamps key ≡ loader) → IsStore s store
+store_open s store within none vector rows stamps = record {
+  vector = vector ∙ sym (entries_at-none s.workers 1 s.start) ∙ ap (entries_at s.workers s.start) (sym none);
+  rows = λ key. rows key ∙ ap (λ h. state_at (rows_of s.rows) h key) (sym none);
+  stamps = λ key. stamps key ∙ ap (newest_writer key) (sym none);
+  numbers = λ j. subst (λ h. s.start + count_of j h ≤ s.greatest) (sym none) (omega (arith, within));
+  fit = subst (AllByRecursion (EntryFits s.widths)) (sym none) tt;
+}

@@ -1,12 +1,10 @@
 -- What a store of the serial run holds after a history.
-use Rattle.std.specs.Prelude.{ℕ, ◌+◌, ◌≤◌, ◌≡◌, ◌++◌, ◌∷◌, [], List, length}
+use Rattle.std.specs.Prelude.{ℕ, ◌+◌, ◌≤◌, ◌≡◌}
 use Rattle.si_model.specs.declared.row.Key.{Key}
-use Rattle.si_model.specs.declared.log.Log.{Log}
 use Rattle.si_model.specs.Rows.{rows_of}
 use Rattle.si_model.specs.Committed.{rows_held}
 use Rattle.si_model.specs.State.{state_at}
 use Rattle.si_model.specs.History.{count_of, entries_at, newest_writer}
-use Rattle.si_model.specs.Tells.{Tell}
 use Rattle.si_model.specs.Setting.{Setting}
 use Rattle.std.specs.List.{AllByRecursion}
 use Rattle.nam_report.specs.Fits.{EntryFits}

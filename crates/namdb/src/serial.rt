@@ -1,6 +1,9 @@
 //! The serial run: one worker after another, each transaction tried once.
 
-ghost use Rattle.std.specs.Prelude.{◌≡◌, ℕ, ◌+◌, ◌<◌, ◌≤◌, [], length, map, slice_index, IfOk, OnOk};
+ghost use Rattle.std.specs.Prelude.{◌≡◌, ℕ, ◌+◌, ◌<◌, ◌≤◌, [], List, length, map, slice_index, IfOk, OnOk};
+ghost use Rattle.si_model.specs.declared.row.Row.{Row};
+ghost use Rattle.si_model.specs.Rows.{ListsRows};
+ghost use Rattle.si_model.specs.Committed.{rows_held};
 ghost use Rattle.si_model.specs.Run.{IsRun};
 ghost use Rattle.si_model.specs.Setting.{txns_of};
 ghost use Rattle.nam_catalog.specs.Tables.{widths_of};
@@ -134,6 +137,22 @@ fn audit(alloc: Global, rows: Vec<Row>) -> Result<List<AuditRow>, AllocError>
     Ok(audit)
 }
 
+/// The report of a store that nobody uses any more.
+fn close(alloc: Global, store: Store, logs: List<Log>) -> Result<Report, AllocError>
+    ensures history { IfOk result (λ report. report.history ≡ store.history) }
+    ensures logs { IfOk result (λ report. report.logs ≡ logs) }
+    ensures audit { IfOk result (λ report. (rows : List Row) × (report.audit ≡ audit_of rows) × ListsRows rows (rows_held store.rows)) }
+{
+    let Store { rows, history, .. } = store;
+    let rows = rows.into_rows(alloc)?;
+    let audit = audit(alloc, rows)?;
+    Ok(Report {
+        history,
+        logs,
+        audit,
+    })
+}
+
 /// Runs a script, one worker after another.
 pub fn run_serial(alloc: Global, script: &Script) -> Result<Report, AllocError>
     requires { IsPlain script.now }
@@ -152,11 +171,5 @@ pub fn run_serial(alloc: Global, script: &Script) -> Result<Report, AllocError>
         script.rows.as_slice(),
     )?;
     let logs = run_workers(alloc, script, &plan, &mut store)?;
-    let Store { rows, history, .. } = store;
-    let rows = rows.into_rows(alloc)?;
-    Ok(Report {
-        history,
-        logs,
-        audit: audit(alloc, rows)?,
-    })
+    close(alloc, store, logs)
 }

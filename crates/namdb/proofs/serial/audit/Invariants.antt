@@ -1,5 +1,5 @@
 use Rattle.std.proofs.Common.{◌≡◌, ◌++◌}
-use Rattle.std.specs.Vec.IntoIter.{into_iter_items}
+use Rattle.std.specs.Vec.Iter.{into_iter_items}
 use Rattle.namdb.specs.Serial.{audit_of}
 use Rattle.namdb.proofs.serial.audit.Given as goal
 

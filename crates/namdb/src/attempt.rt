@@ -60,29 +60,40 @@ fn list_attempt(
     log.snaps.push(seen)
 }
 
+/// What a transaction did whose operations all passed.
+#[derive(Drop)]
+struct Effects {
+    reads: Items,
+    writes: Items,
+    guards: List<Key>,
+}
+
 /// Ends an attempt whose operations were all done: it reads only, or has no number left, or commits.
 fn end_done(
     alloc: Global,
     store: &mut Store,
     log: &mut Log,
     turn: Turn,
-    reads: Items,
-    writes: Items,
-    guards: List<Key>,
+    effects: Effects,
     seen: Snapshot,
 ) -> Result<(), AllocError>
     requires worker { (1 ≤ turn.worker) × (turn.worker ≤ 16) }
     requires entry { turn.worker ≤ length store.old.vector }
     requires number { turn.last ≤ turn.greatest }
     requires prefix { turn.prefix ≡ length store.old.history }
-    requires few_reads { length reads < 2 ^ 32 }
-    requires few_keys { length writes + length guards < 2 ^ 32 }
-    ensures log { let e = Evaluated.Done reads writes guards in let o = outcome_of turn.greatest turn.last e in let locks = locks_with (lock_held store.old.stamps) e o in OnOk result (log.new ≡ log_with log.old (Event.Tried (attempt_by turn.txn turn.prefix e locks o)) reads locks (writes_by e o) seen) }
-    ensures history { let e = Evaluated.Done reads writes guards in let o = outcome_of turn.greatest turn.last e in OnOk result (store.new.history ≡ store.old.history ++ entry_by turn.worker turn.txn turn.prefix (writes_by e o) o) }
-    ensures vector { let e = Evaluated.Done reads writes guards in let o = outcome_of turn.greatest turn.last e in OnOk result (store.new.vector ≡ vector_by turn.worker o store.old.vector) }
-    ensures rows { let e = Evaluated.Done reads writes guards in let o = outcome_of turn.greatest turn.last e in OnOk result ((key : Key) → rows_held store.new.rows key ≡ overlay (writes_by e o) (rows_held store.old.rows) key) }
-    ensures stamps { let e = Evaluated.Done reads writes guards in let o = outcome_of turn.greatest turn.last e in OnOk result ((key : Key) → stamp_held store.new.stamps key ≡ (if writes_key (writes_by e o) key then stamp_at turn.worker (number_by o) else stamp_held store.old.stamps key)) }
+    requires few_reads { length effects.reads < 2 ^ 32 }
+    requires few_keys { length effects.writes + length effects.guards < 2 ^ 32 }
+    ensures log { let e = Evaluated.Done effects.reads effects.writes effects.guards in let o = outcome_of turn.greatest turn.last e in let locks = locks_with (lock_held store.old.stamps) e o in OnOk result (log.new ≡ log_with log.old (Event.Tried (attempt_by turn.txn turn.prefix e locks o)) effects.reads locks (writes_by e o) seen) }
+    ensures history { let e = Evaluated.Done effects.reads effects.writes effects.guards in let o = outcome_of turn.greatest turn.last e in OnOk result (store.new.history ≡ store.old.history ++ entry_by turn.worker turn.txn turn.prefix (writes_by e o) o) }
+    ensures vector { let e = Evaluated.Done effects.reads effects.writes effects.guards in let o = outcome_of turn.greatest turn.last e in OnOk result (store.new.vector ≡ vector_by turn.worker o store.old.vector) }
+    ensures rows { let e = Evaluated.Done effects.reads effects.writes effects.guards in let o = outcome_of turn.greatest turn.last e in OnOk result ((key : Key) → rows_held store.new.rows key ≡ overlay (writes_by e o) (rows_held store.old.rows) key) }
+    ensures stamps { let e = Evaluated.Done effects.reads effects.writes effects.guards in let o = outcome_of turn.greatest turn.last e in OnOk result ((key : Key) → stamp_held store.new.stamps key ≡ (if writes_key (writes_by e o) key then stamp_at turn.worker (number_by o) else stamp_held store.old.stamps key)) }
 {
+    let Effects {
+        reads,
+        writes,
+        guards,
+    } = effects;
     let none = List::new(alloc);
     let nothing = List::new(alloc);
     if writes.is_empty() {
@@ -162,6 +173,13 @@ pub fn attempt(
             reads,
             writes,
             guards,
-        } => end_done(alloc, store, log, turn, reads, writes, guards, seen),
+        } => {
+            let effects = Effects {
+                reads,
+                writes,
+                guards,
+            };
+            end_done(alloc, store, log, turn, effects, seen)
+        }
     }
 }

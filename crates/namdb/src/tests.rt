@@ -100,6 +100,60 @@ a t 0 5
 end
 ";
 
+const TWO_WORKERS: &str = "\
+namdb 1
+header narrow
+workers 2
+tries 1
+tidy off
+start 4294967294
+overflow 1 1
+table acct width 1 capacity 4 ring 2
+row acct 0 60
+row acct 1 60
+txn 2
+get acct 0
+end
+txn 1
+need acct 0 1 60
+need acct 1 1 60
+add acct 0 1 -60
+end
+txn 2
+need acct 1 1 60
+need acct 0 1 60
+add acct 1 1 -60
+end
+txn 1
+add acct 0 1 +1
+end
+";
+
+const TWO_WORKERS_REPORT: &str = "\
+report 1
+history 1
+c 1 worker 1 number 4294967295 prefix 0 txn 2
+w acct 0 0
+worker 1 events 2
+t 2 try 1 prefix 0 commit 4294967295
+r acct 0 60
+r acct 1 60
+r acct 0 60
+l acct 0 0 0
+t 4 try 1 prefix 1 spent
+r acct 0 0
+worker 2 events 2
+t 1 try 1 prefix 1 read
+r acct 0 0
+t 3 try 1 prefix 1 declined 2
+r acct 1 60
+r acct 0 0
+audit 2
+a acct 0 0
+a acct 1 60
+end
+";
+
 /// The most bytes that a call of a source or a sink passes here.
 const PIECE: usize = 16;
 
@@ -147,6 +201,7 @@ fn a_script_is_answered_by_its_report(rt: HostRuntime) -> Result<(), AllocError>
         (TRANSFER, TRANSFER_REPORT),
         (ONE_ROW, ONE_ROW_REPORT),
         (DECLINED, DECLINED_REPORT),
+        (TWO_WORKERS, TWO_WORKERS_REPORT),
     ] {
         let (status, sink) = ending(rt.alloc(), &unfailing(RUN, script.as_bytes()))?;
         assert!(rt; status == Status::Done, "{script}");

@@ -55,10 +55,14 @@ abbrev pub locks_with : (Key → Lock) → Evaluated → Outcome → List Lock
 locks_with lock (Done reads writes guards) (Commit number) = map lock (keys_of writes guards)
 locks_with lock e outcome = []
 
--- the first attempt at transaction x, which ended so
+-- the first attempt at transaction x, with these items
+abbrev pub attempt_with : ℕ → ℕ → Outcome → List Item → List Lock → List Item → Attempt
+attempt_with x prefix outcome reads locks writes =
+    record { txn = x; nth = 1; prefix = Some prefix; reads = length reads; locks = length locks; writes = length writes; outcome = outcome }
+
+-- the first attempt at transaction x, with the evaluation e
 abbrev pub attempt_by : ℕ → ℕ → Evaluated → List Lock → Outcome → Attempt
-attempt_by x prefix e locks outcome =
-    record { txn = x; nth = 1; prefix = Some prefix; reads = length (reads_of e); locks = length locks; writes = length (writes_by e outcome); outcome = outcome }
+attempt_by x prefix e locks outcome = attempt_with x prefix outcome (reads_of e) locks (writes_by e outcome)
 
 -- the vector after an attempt of worker j
 abbrev pub vector_by : ℕ → Outcome → List ℕ → List ℕ

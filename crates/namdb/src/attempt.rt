@@ -2,14 +2,11 @@
 
 ghost use Rattle.std.specs.Prelude.{◌≡◌, ℕ, ◌+◌, ◌-◌, ◌^◌, ◌<◌, ◌≤◌, ◌++◌, [], ◌∷◌, IsTrue, length, slice_index, slice_set, OnOk, if◌then◌else◌};
 ghost use Rattle.std.specs.List.{AllByRecursion};
-ghost use Rattle.si_model.specs.declared.row.Key.{Key};
-ghost use Rattle.si_model.specs.Rows.{writes_key, overlay};
 ghost use Rattle.si_model.specs.Committed.{rows_held};
-ghost use Rattle.si_model.specs.Evaluation.{evaluation_of, reads_of, OpFits, AreWide};
-ghost use Rattle.si_model.specs.History.{stamp_at};
+ghost use Rattle.si_model.specs.Evaluation.{OpFits, AreWide};
 ghost use Rattle.nam_script.specs.Limits.{is_plain};
-ghost use Rattle.namdb.specs.Stamps.{stamp_held, lock_held};
-ghost use Rattle.namdb.specs.Serial.{outcome_of, writes_by, entry_by, locks_with, attempt_by, vector_by, number_by, log_with};
+ghost use Rattle.namdb.specs.Serial.{outcome_of, attempt_with, log_with};
+ghost use Rattle.namdb.specs.Store.{Attempts, AttemptsBy};
 
 use crate::evaluate::evaluate;
 use crate::store::Store;
@@ -42,7 +39,9 @@ fn list_attempt(
     requires reads { length reads < 2 ^ 32 }
     requires locks { length locks < 2 ^ 32 }
     requires writes { length writes < 2 ^ 32 }
-    ensures { OnOk result (log.new ≡ log_with log.old (Event.Tried (record { txn = turn.txn; nth = 1; prefix = Some turn.prefix; reads = length reads; locks = length locks; writes = length writes; outcome = outcome })) reads locks writes seen) }
+    ensures { OnOk result (
+        let attempt = attempt_with turn.txn turn.prefix outcome reads locks writes in
+        log.new ≡ log_with log.old (Event.Tried attempt) reads locks writes seen) }
 {
     let attempt = Attempt {
         txn: turn.txn,
@@ -83,11 +82,9 @@ fn end_done(
     requires prefix { turn.prefix ≡ length store.old.history }
     requires few_reads { length effects.reads < 2 ^ 32 }
     requires few_keys { length effects.writes + length effects.guards < 2 ^ 32 }
-    ensures log { let e = Evaluated.Done effects.reads effects.writes effects.guards in let o = outcome_of turn.greatest turn.last e in let locks = locks_with (lock_held store.old.stamps) e o in OnOk result (log.new ≡ log_with log.old (Event.Tried (attempt_by turn.txn turn.prefix e locks o)) effects.reads locks (writes_by e o) seen) }
-    ensures history { let e = Evaluated.Done effects.reads effects.writes effects.guards in let o = outcome_of turn.greatest turn.last e in OnOk result (store.new.history ≡ store.old.history ++ entry_by turn.worker turn.txn turn.prefix (writes_by e o) o) }
-    ensures vector { let e = Evaluated.Done effects.reads effects.writes effects.guards in let o = outcome_of turn.greatest turn.last e in OnOk result (store.new.vector ≡ vector_by turn.worker o store.old.vector) }
-    ensures rows { let e = Evaluated.Done effects.reads effects.writes effects.guards in let o = outcome_of turn.greatest turn.last e in OnOk result ((key : Key) → rows_held store.new.rows key ≡ overlay (writes_by e o) (rows_held store.old.rows) key) }
-    ensures stamps { let e = Evaluated.Done effects.reads effects.writes effects.guards in let o = outcome_of turn.greatest turn.last e in OnOk result ((key : Key) → stamp_held store.new.stamps key ≡ (if writes_key (writes_by e o) key then stamp_at turn.worker (number_by o) else stamp_held store.old.stamps key)) }
+    ensures { OnOk result (
+        let e = Evaluated.Done effects.reads effects.writes effects.guards in
+        Attempts turn.worker turn.txn e (outcome_of turn.greatest turn.last e) seen store.old store.new log.old log.new) }
 {
     let Effects {
         reads,
@@ -141,11 +138,7 @@ pub fn attempt(
     requires fit { AllByRecursion (OpFits plan.now.widths.items) ops.now }
     requires wide { AreWide plan.now.widths.items (rows_held store.old.rows) }
     requires short { length ops.now < 2 ^ 32 }
-    ensures log { let e = evaluation_of plan.now.widths.items (rows_held store.old.rows) ops.now in let o = outcome_of plan.now.greatest (slice_index store.old.vector (worker - 1)) e in let locks = locks_with (lock_held store.old.stamps) e o in OnOk result (log.new ≡ log_with log.old (Event.Tried (attempt_by txn (length store.old.history) e locks o)) (reads_of e) locks (writes_by e o) store.old.vector) }
-    ensures history { let e = evaluation_of plan.now.widths.items (rows_held store.old.rows) ops.now in let o = outcome_of plan.now.greatest (slice_index store.old.vector (worker - 1)) e in OnOk result (store.new.history ≡ store.old.history ++ entry_by worker txn (length store.old.history) (writes_by e o) o) }
-    ensures vector { let e = evaluation_of plan.now.widths.items (rows_held store.old.rows) ops.now in let o = outcome_of plan.now.greatest (slice_index store.old.vector (worker - 1)) e in OnOk result (store.new.vector ≡ vector_by worker o store.old.vector) }
-    ensures rows { let e = evaluation_of plan.now.widths.items (rows_held store.old.rows) ops.now in let o = outcome_of plan.now.greatest (slice_index store.old.vector (worker - 1)) e in OnOk result ((key : Key) → rows_held store.new.rows key ≡ overlay (writes_by e o) (rows_held store.old.rows) key) }
-    ensures stamps { let e = evaluation_of plan.now.widths.items (rows_held store.old.rows) ops.now in let o = outcome_of plan.now.greatest (slice_index store.old.vector (worker - 1)) e in OnOk result ((key : Key) → stamp_held store.new.stamps key ≡ (if writes_key (writes_by e o) key then stamp_at worker (number_by o) else stamp_held store.old.stamps key)) }
+    ensures { OnOk result (AttemptsBy plan.now worker txn ops.now store.old store.new log.old log.new) }
 {
     let seen = take_snapshot(&mut store.vector, plan.workers);
     let turn = Turn {

@@ -1,8 +1,6 @@
 //! How a call of the program ends.
 
-ghost use Rattle.std.specs.Prelude.{◌≡◌, codes};
-ghost use Rattle.nam_io.specs.declared.read_end.ReadEnd.{ReadEnd};
-ghost use Rattle.nam_script.specs.declared.refusal.ParseEnd.{ParseEnd};
+ghost use Rattle.std.specs.Prelude.{◌≡◌};
 ghost use Rattle.namdb.specs.declared.status.Status.TheVariants.{Memory};
 ghost use Rattle.namdb.specs.Status.{code_of, kind_word, status_of_read, status_of_parse};
 

@@ -59,7 +59,8 @@ named_whole rows (op ∷ ops) key (inr later) =
     ]
 
 -- rows that agree on the named keys give the same evaluation
-overlay_agrees : (ws : List Item) (rows rows' : Rows) (key : Key) → rows key ≡ rows' key → overlay ws rows key ≡ overlay ws rows' key
+-- rows that agree at a key agree there under a write set
+pub overlay_agrees : (ws : List Item) (rows rows' : Rows) (key : Key) → rows key ≡ rows' key → overlay ws rows key ≡ overlay ws rows' key
 overlay_agrees [] rows rows' key same = same
 overlay_agrees (w ∷ ws) rows rows' key same = ap (λ v. cond (same_key (item_key w) key) w.value v) (overlay_agrees ws rows rows' key same)
 

@@ -11,7 +11,7 @@ use Rattle.std.proofs.lemmas.Bool.{cases_Bool, eqb-true, eqb-false}
 use Rattle.si_model.specs.declared.evaluated.Evaluated.{Evaluated}
 use Rattle.si_model.specs.Committed.{rows_held}
 use Rattle.si_model.specs.Setting.{Setting}
-use Rattle.si_model.specs.Rows.{Rows, rows_of, same_key, item_key, writes_key, overlay}
+use Rattle.si_model.specs.Rows.{Rows, rows_of, item_key, writes_key, overlay}
 use Rattle.si_model.specs.State.{state_at}
 use Rattle.si_model.specs.History.{count_of, entries_from, entries_at, newest_from, newest_writer, stamp_of, stamp_at, loader, keys_of}
 use Rattle.namdb.specs.Stamps.{lock_held, stamp_held}
@@ -23,6 +23,7 @@ use Rattle.nam_report.specs.Fits.{EntryFits}
 use Rattle.nam_script.specs.Limits.{RowFits}
 use Rattle.si_model.specs.Evaluation.{OpFits}
 use Rattle.namdb.proofs.SerialLemmas.{by_outcome, by_ending}
+use Rattle.namdb.proofs.EvaluateLemmas.{overlay_agrees}
 use Rattle.namdb.proofs.SerialFitsLemmas.{fit-entry}
 
 -- the locks of a write set, and then of guards
@@ -34,10 +35,6 @@ locked_keys stamps (w ∷ ws) gs = ap (λ ls. lock_held stamps (item_key w) ∷ 
 pub state_more : (rows : Rows) (es : List CommitLine) (e : CommitLine) → state_at rows (es ++ e ∷ []) ≡ overlay e.writes (state_at rows es)
 state_more rows [] e = refl
 state_more rows (d ∷ ds) e = state_more (overlay d.writes rows) ds e
-
-pub overlay_at : (ws : List Item) (rows rows' : Rows) (key : Key) → rows key ≡ rows' key → overlay ws rows key ≡ overlay ws rows' key
-overlay_at [] rows rows' key same = same
-overlay_at (w ∷ ws) rows rows' key same = ap (λ v. cond (same_key (item_key w) key) w.value v) (overlay_at ws rows rows' key same)
 
 -- the newest writer with one entry more
 pub newest_more : (s : Stamp) (key : Key) (es : List CommitLine) (e : CommitLine) → newest_from s key (es ++ e ∷ []) ≡ (if writes_key e.writes key then stamp_of e else newest_from s key es)
@@ -94,7 +91,7 @@ module _ (s : Setting) (j : ℕ) (history : List CommitLine) (x : ℕ) where
       (λ op reads. same)
       (λ reads guards. same)
       (λ reads ws w guards l. same)
-      (λ reads ws w guards. overlay_at (w ∷ ws) rows (state_at (rows_of s.rows) history) key (held key) ∙ ap (λ f. f key) (sym (state_more (rows_of s.rows) history (line (w ∷ ws)))))
+      (λ reads ws w guards. overlay_agrees (w ∷ ws) rows (state_at (rows_of s.rows) history) key (held key) ∙ ap (λ f. f key) (sym (state_more (rows_of s.rows) history (line (w ∷ ws)))))
 
   -- the stamps are the newest writers'
   stamps_after : (stamps : Key → Stamp) → ((key : Key) → stamps key ≡ newest_writer key history) → (key : Key) →

@@ -154,6 +154,23 @@ a acct 1 60
 end
 ";
 
+/// A script that reads a key which no row has.
+const ABSENT_KEY: &str = "\
+namdb 1
+header narrow
+workers 1
+tries 1
+tidy off
+start 0
+overflow 1 1
+table t width 1 capacity 1 ring 1
+row t 0 7
+txn 1
+get t 0
+get t 5
+end
+";
+
 /// The most bytes that a call of a source or a sink passes here.
 const PIECE: usize = 16;
 
@@ -216,16 +233,21 @@ fn a_refusal_writes_its_line(rt: HostRuntime) -> Result<(), AllocError> {
         line: 1,
         kind: Kind::Cut,
     };
-    let cases: [(&[&str], Status, &str); 4] = [
-        (&[], Status::Usage, "error usage\n"),
-        (&["namdb"], Status::Usage, "error usage\n"),
-        (&["namdb", "fly"], Status::Usage, "error usage\n"),
-        (RUN, cut, "error script 1 cut\n"),
+    let range = Status::BadScript {
+        line: 12,
+        kind: Kind::Range,
+    };
+    let cases: [(&[&str], &str, Status, &str); 5] = [
+        (&[], ONE_ROW, Status::Usage, "error usage\n"),
+        (&["namdb"], ONE_ROW, Status::Usage, "error usage\n"),
+        (&["namdb", "fly"], ONE_ROW, Status::Usage, "error usage\n"),
+        (RUN, "", cut, "error script 1 cut\n"),
+        (RUN, ABSENT_KEY, range, "error script 12 range\n"),
     ];
-    for (words, wanted, line) in cases {
-        let (status, sink) = ending(rt.alloc(), &unfailing(words, b""))?;
-        assert!(rt; status == wanted);
-        assert!(rt; sink.bytes() == line.as_bytes());
+    for (words, script, wanted, line) in cases {
+        let (status, sink) = ending(rt.alloc(), &unfailing(words, script.as_bytes()))?;
+        assert!(rt; status == wanted, "{line}");
+        assert!(rt; sink.bytes() == line.as_bytes(), "{line}");
     }
     Ok(())
 }

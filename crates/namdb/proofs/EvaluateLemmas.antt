@@ -16,7 +16,7 @@ use Rattle.si_model.specs.Evaluation.{evaluation_from, evaluation_of, AreWide, p
 use Rattle.si_model.specs.EvaluationLaws.{is_scan}
 use Rattle.si_model.proofs.EvaluationLemmas.{same_key-refl, same_key_says, length-reads_from}
 use Rattle.nam_script.specs.Limits.{is_plain}
-use Rattle.namdb.specs.Plain.{key_of, row_at, rows_named}
+use Rattle.namdb.specs.NamedRows.{key_of, row_at, rows_named}
 use Rattle.namdb.specs.Serial.{claims_of}
 
 -- the first rows count, and then the others

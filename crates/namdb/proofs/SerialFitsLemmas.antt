@@ -27,7 +27,7 @@ use Rattle.nam_script.specs.Limits.{RowFits, TxnFits, IsPlain}
 use Rattle.nam_report.specs.Text.{reads_of as reads_owned, locks_of as locks_owned}
 use Rattle.nam_report.specs.Fits.{NamesTable, ItemFits, LockFits, EventFits, EntryFits, AuditRowFits, LogFits, FitsScript}
 use Rattle.nam_report.proofs.FitsLemmas.{AllByRecursion-append}
-use Rattle.namdb.specs.Plain.{setting_of}
+use Rattle.namdb.specs.ScriptSetting.{setting_of}
 use Rattle.namdb.specs.Serial.{lock_on, writes_by, entry_by, ops_of, evaluated_after, tell_after, entry_after, tells_after, history_after, log_of, logs_after, end_after, audit_of}
 use Rattle.namdb.proofs.SerialLemmas.{by_outcome, told}
 use Rattle.namdb.proofs.WholeRunLemmas.{length-logs_after}

@@ -11,7 +11,7 @@ use Rattle.nam_report.specs.Fits.{FitsScript}
 use Rattle.nam_report.specs.Text.{report_text}
 use Rattle.namdb.specs.declared.status.Status.{Status}
 use Rattle.namdb.specs.declared.status.Status.TheVariants.{Done, Usage, BadScript, ReadFault, Memory, TooLong}
-use Rattle.namdb.specs.Plain.{setting_of}
+use Rattle.namdb.specs.ScriptSetting.{setting_of}
 use Rattle.namdb.specs.Status.{line_of}
 
 -- the text is that of a report which is a run of the script that the input spells

@@ -5,7 +5,7 @@ ghost use Rattle.std.specs.List.{AllByRecursion};
 ghost use Rattle.si_model.specs.Committed.{rows_held};
 ghost use Rattle.si_model.specs.Evaluation.{evaluation_of, reads_of, OpFits, AreWide};
 ghost use Rattle.nam_script.specs.Limits.{is_plain};
-ghost use Rattle.namdb.specs.Plain.{key_of, row_at, rows_named};
+ghost use Rattle.namdb.specs.NamedRows.{key_of, row_at, rows_named};
 ghost use Rattle.namdb.specs.Serial.{claims_of};
 
 use si_model::{CommittedRows, Evaluated, Key, Op, Row, eval};

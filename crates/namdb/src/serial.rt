@@ -9,7 +9,7 @@ ghost use Rattle.si_model.specs.Setting.{txns_of};
 ghost use Rattle.nam_catalog.specs.Tables.{widths_of};
 ghost use Rattle.nam_script.specs.Limits.{IsPlain};
 ghost use Rattle.nam_report.specs.Fits.{FitsScript};
-ghost use Rattle.namdb.specs.Plain.{setting_of};
+ghost use Rattle.namdb.specs.ScriptSetting.{setting_of};
 ghost use Rattle.namdb.specs.Store.{IsStore, IsPlan};
 ghost use Rattle.namdb.specs.Serial.{own_txn, tells_after, history_after, log_of, log_grown, logs_after, end_after, audit_of};
 
@@ -57,8 +57,14 @@ fn serve(
     requires worker { (1 ≤ worker) × (worker ≤ script.now.shape.workers) }
     requires place { place < length script.now.txns }
     ensures store { OnOk result (IsStore (setting_of script.now) store.new) }
-    ensures history { OnOk result (store.new.history ≡ history_after (setting_of script.now) worker store.old.history (own_txn worker (slice_index (setting_of script.now).owners place) (place + 1))) }
-    ensures log { OnOk result (log.new ≡ log_grown log.old (tells_after (setting_of script.now) worker store.old.history (own_txn worker (slice_index (setting_of script.now).owners place) (place + 1)))) }
+    ensures history { OnOk result (
+        let s = setting_of script.now in
+        let own = own_txn worker (slice_index s.owners place) (place + 1) in
+        store.new.history ≡ history_after s worker store.old.history own) }
+    ensures log { OnOk result (
+        let s = setting_of script.now in
+        let own = own_txn worker (slice_index s.owners place) (place + 1) in
+        log.new ≡ log_grown log.old (tells_after s worker store.old.history own)) }
 {
     let txn = script.txns.at(place);
     if txn.worker != worker {
@@ -89,8 +95,12 @@ fn run_worker(
     requires store { IsStore (setting_of script.now) store.old }
     requires worker { (1 ≤ worker) × (worker ≤ script.now.shape.workers) }
     ensures store { OnOk result (IsStore (setting_of script.now) store.new) }
-    ensures history { OnOk result (store.new.history ≡ history_after (setting_of script.now) worker store.old.history (txns_of worker (setting_of script.now).owners)) }
-    ensures log { IfOk result (λ log. log ≡ log_of (tells_after (setting_of script.now) worker store.old.history (txns_of worker (setting_of script.now).owners))) }
+    ensures history { OnOk result (
+        let s = setting_of script.now in
+        store.new.history ≡ history_after s worker store.old.history (txns_of worker s.owners)) }
+    ensures log { IfOk result (λ log.
+        let s = setting_of script.now in
+        log ≡ log_of (tells_after s worker store.old.history (txns_of worker s.owners))) }
 {
     let mut log = new_log(alloc);
     for place in 0..script.txns.len() {
@@ -110,8 +120,10 @@ fn run_workers(
     requires plan { IsPlan (setting_of script.now) plan.now }
     requires store { IsStore (setting_of script.now) store.old }
     ensures store { OnOk result (IsStore (setting_of script.now) store.new) }
-    ensures history { OnOk result (store.new.history ≡ end_after (setting_of script.now) 1 store.old.history script.now.shape.workers) }
-    ensures logs { IfOk result (λ logs. logs ≡ logs_after (setting_of script.now) 1 store.old.history script.now.shape.workers) }
+    ensures history { OnOk result (
+        store.new.history ≡ end_after (setting_of script.now) 1 store.old.history script.now.shape.workers) }
+    ensures logs { IfOk result (λ logs.
+        logs ≡ logs_after (setting_of script.now) 1 store.old.history script.now.shape.workers) }
 {
     let mut logs = List::new(alloc);
     for before in 0..script.shape.workers {
@@ -141,7 +153,8 @@ fn audit(alloc: Global, rows: Vec<Row>) -> Result<List<AuditRow>, AllocError>
 fn close(alloc: Global, store: Store, logs: List<Log>) -> Result<Report, AllocError>
     ensures history { IfOk result (λ report. report.history ≡ store.history) }
     ensures logs { IfOk result (λ report. report.logs ≡ logs) }
-    ensures audit { IfOk result (λ report. (rows : List Row) × (report.audit ≡ audit_of rows) × ListsRows rows (rows_held store.rows)) }
+    ensures audit { IfOk result (λ report.
+        (rows : List Row) × (report.audit ≡ audit_of rows) × ListsRows rows (rows_held store.rows)) }
 {
     let Store { rows, history, .. } = store;
     let rows = rows.into_rows(alloc)?;

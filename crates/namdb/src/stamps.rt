@@ -29,7 +29,9 @@ pub fn note(
     stamp: Stamp,
     writes: &[Item],
 ) -> Result<(), AllocError>
-    ensures { OnOk result ((key : Key) → stamp_held stamps.new key ≡ (if writes_key writes.now key then stamp else stamp_held stamps.old key)) }
+    ensures { OnOk result (
+        (key : Key) → stamp_held stamps.new key
+        ≡ (if writes_key writes.now key then stamp else stamp_held stamps.old key)) }
 {
     for item in writes {
         let key = Key {

@@ -88,9 +88,19 @@ impl Store {
         requires worker { (1 ≤ worker) × (worker ≤ 16) }
         requires entry { worker ≤ length self.old.vector }
         ensures vector { OnOk result (self.new.vector ≡ slice_set self.old.vector (worker - 1) number) }
-        ensures rows { OnOk result ((key : Key) → rows_held self.new.rows key ≡ overlay writes.now (rows_held self.old.rows) key) }
-        ensures stamps { OnOk result ((key : Key) → stamp_held self.new.stamps key ≡ (if writes_key writes.now key then stamp_at worker number else stamp_held self.old.stamps key)) }
-        ensures history { OnOk result (self.new.history ≡ self.old.history ++ record { worker = worker; number = number; prefix = length self.old.history; txn = txn; writes = writes.now } ∷ []) }
+        ensures rows { OnOk result (
+            (key : Key) → rows_held self.new.rows key ≡ overlay writes.now (rows_held self.old.rows) key) }
+        ensures stamps { OnOk result (
+            (key : Key) → stamp_held self.new.stamps key
+            ≡ (if writes_key writes.now key then stamp_at worker number else stamp_held self.old.stamps key)) }
+        ensures history { OnOk result (
+            self.new.history ≡ self.old.history ++ record {
+              worker = worker;
+              number = number;
+              prefix = length self.old.history;
+              txn = txn;
+              writes = writes.now;
+            } ∷ []) }
     {
         let line = CommitLine {
             worker,

@@ -1,6 +1,6 @@
 use Rattle.std.proofs.Common.{◌≡◌, ◌++◌, drop}
 use Rattle.si_model.specs.Committed.{rows_held}
-use Rattle.namdb.specs.Plain.{rows_named}
+use Rattle.namdb.specs.NamedRows.{rows_named}
 use Rattle.namdb.proofs.evaluate.name_rows.Given as goal
 
 -- the rows so far, and those that the other operations name

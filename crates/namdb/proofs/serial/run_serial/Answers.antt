@@ -9,7 +9,7 @@ use Rattle.si_model.specs.Run.{IsRun}
 use Rattle.nam_script.specs.declared.script.Script.{Script}
 use Rattle.nam_report.specs.Fits.{FitsScript}
 use Rattle.namdb.specs.declared.store.Store.{Store}
-use Rattle.namdb.specs.Plain.{setting_of}
+use Rattle.namdb.specs.ScriptSetting.{setting_of}
 use Rattle.namdb.specs.Store.{IsStore}
 use Rattle.namdb.specs.Serial.{end_after, logs_after}
 use Rattle.namdb.proofs.StoreLemmas.{store_open}

@@ -1,6 +1,6 @@
 use Rattle.std.proofs.Common.{◌≡◌, ◌+◌, drop}
 use Rattle.si_model.specs.Setting.{txns_of, places_of}
-use Rattle.namdb.specs.Plain.{setting_of}
+use Rattle.namdb.specs.ScriptSetting.{setting_of}
 use Rattle.namdb.specs.Store.{IsStore}
 use Rattle.namdb.specs.Serial.{tells_after, history_after, log_of, log_grown}
 use Rattle.namdb.proofs.serial.run_worker.Given as goal

@@ -1,5 +1,5 @@
 use Rattle.std.proofs.Common.{◌≡◌, ◌+◌, ◌-◌, suc, ◌∙◌, arith}
-use Rattle.namdb.specs.Plain.{setting_of}
+use Rattle.namdb.specs.ScriptSetting.{setting_of}
 use Rattle.namdb.proofs.ServeLemmas.{end_next, logs_next}
 use Rattle.namdb.proofs.serial.run_workers.Goals as goal
 

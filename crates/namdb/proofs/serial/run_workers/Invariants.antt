@@ -1,5 +1,5 @@
 use Rattle.std.proofs.Common.{◌≡◌, ◌+◌, ◌-◌, ◌++◌}
-use Rattle.namdb.specs.Plain.{setting_of}
+use Rattle.namdb.specs.ScriptSetting.{setting_of}
 use Rattle.namdb.specs.Store.{IsStore}
 use Rattle.namdb.specs.Serial.{logs_after, end_after}
 use Rattle.namdb.proofs.serial.run_workers.Given as goal

@@ -7,7 +7,7 @@ use Rattle.si_model.specs.Evaluation.{OpFits, AreWide}
 use Rattle.si_model.specs.History.{stamp_at}
 use Rattle.nam_script.specs.declared.script.ScriptTxn.{ScriptTxn}
 use Rattle.nam_script.specs.declared.script.Script.{Script}
-use Rattle.namdb.specs.Plain.{setting_of}
+use Rattle.namdb.specs.ScriptSetting.{setting_of}
 use Rattle.namdb.specs.Stamps.{stamp_held}
 use Rattle.namdb.specs.Serial.{ops_of, own_txn, writes_by, entry_by, vector_by, number_by, history_after, tells_after, log_grown}
 use Rattle.namdb.proofs.StoreLemmas.{store_after}

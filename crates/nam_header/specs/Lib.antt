@@ -1,0 +1,4 @@
+pub mod Header
+pub mod Flag
+pub mod HeaderLaw
+pub mod Visible

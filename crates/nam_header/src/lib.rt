@@ -1,0 +1,19 @@
+//! Header words of records, in three forms.
+//!
+//! A header is the stamp of a version, three flags and, in one form, the holder of a lock. `pack` and `unpack` turn it
+//! into a word and back: each word is exactly one header, and `round_trip_law` says so of both ways. `with_lock`,
+//! `without_lock` and `with_moved` change a flag of a word and nothing else. `visible` says which stamps a snapshot
+//! sees. No call takes memory.
+#![tactic(auto)]
+
+mod flag;
+mod header;
+mod laws;
+#[cfg(test)]
+mod tests;
+mod visibility;
+
+pub use flag::{with_lock, with_moved, without_lock};
+pub use header::{Header, pack, unpack};
+pub use laws::round_trip_law;
+pub use visibility::visible;

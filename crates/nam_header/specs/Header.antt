@@ -1,5 +1,5 @@
 -- Header words: each field stands at a power of two.
-use Rattle.std.specs.Prelude.{ℕ, ◌+◌, ◌*◌, ◌/◌, ◌%◌, ◌^◌, ◌==◌, Bool, true, false}
+use Rattle.std.specs.Prelude.{ℕ, ◌+◌, ◌*◌, ◌/◌, ◌%◌, ◌^◌, ◌<◌, ◌==◌, Bool, true, false}
 use Rattle.nam_catalog.specs.declared.form.Form.{Form}
 use Rattle.nam_catalog.specs.declared.form.Form.TheVariants.{Narrow, Wide, Held}
 use Rattle.nam_header.specs.declared.header.Header.{Header}
@@ -17,6 +17,12 @@ abbrev pub fields_of : Form → Fields
 fields_of Narrow = record { thread_at = 2 ^ 35; holder_at = 2 ^ 64; threads = 2 ^ 29; numbers = 2 ^ 32; holders = 1 }
 fields_of Wide = record { thread_at = 2 ^ 48; holder_at = 2 ^ 64; threads = 2 ^ 16; numbers = 2 ^ 45; holders = 1 }
 fields_of Held = record { thread_at = 2 ^ 35; holder_at = 2 ^ 59; threads = 2 ^ 24; numbers = 2 ^ 32; holders = 2 ^ 5 }
+
+-- the fields are below the form's bounds
+pub record IsWithin (form : Form) (h : Header) : Type 0 where
+  pub thread : h.stamp.thread < (fields_of form).threads
+  pub number : h.stamp.number < (fields_of form).numbers
+  pub holder : h.holder < (fields_of form).holders
 
 -- what a flag counts
 abbrev pub flag : Bool → ℕ

@@ -1,8 +1,9 @@
 //! Headers and their words.
 
-ghost use Rattle.std.specs.Prelude.{◌≡◌, ◌<◌, ◌/◌, ◌%◌, ◌*◌};
-ghost use Rattle.nam_header.specs.Header.{fields_of, word_of, header_of};
+ghost use Rattle.std.specs.Prelude.{◌≡◌, ◌/◌, ◌%◌};
+ghost use Rattle.nam_header.specs.Header.{IsWithin, fields_of, word_of, header_of};
 
+use crate::layout::{DELETED, HOLDER, LOCKED, MOVED, NUMBER, THREAD, WIDE_THREAD};
 use nam_catalog::Form;
 use si_model::Stamp;
 
@@ -22,33 +23,34 @@ pub struct Header {
 
 /// The word of a header whose fields are below the bounds of the form.
 pub fn pack(form: Form, header: &Header) -> u64
-    requires thread { header.now.stamp.thread < (fields_of form).threads }
-    requires number { header.now.stamp.number < (fields_of form).numbers }
-    requires holder { header.now.holder < (fields_of form).holders }
+    requires { IsWithin form header.now }
     ensures { result ≡ word_of form header.now }
 {
-    let flags = 4 * header.moved as u64 + 2 * header.deleted as u64 + header.locked as u64;
-    let low = header.stamp.number * 8 + flags;
+    let flags = header.moved as u64 * MOVED
+        + header.deleted as u64 * DELETED
+        + header.locked as u64 * LOCKED;
+    let low = (header.stamp.number << NUMBER) + flags;
     let thread = header.stamp.thread as u64;
     match form {
-        Form::Narrow => (thread << 35) + low,
-        Form::Wide => (thread << 48) + low,
-        Form::Held => ((header.holder as u64) << 59) + (thread << 35) + low,
+        Form::Narrow => (thread << THREAD) + low,
+        Form::Wide => (thread << WIDE_THREAD) + low,
+        Form::Held => ((header.holder as u64) << HOLDER) + (thread << THREAD) + low,
     }
 }
 
-/// The header of a word.
+/// The header of a word. Each word is exactly one header of the form.
 pub fn unpack(form: Form, word: u64) -> Header
-    ensures { result ≡ header_of form word }
+    ensures value { result ≡ header_of form word }
+    ensures within { IsWithin form result }
 {
     Header {
         stamp: Stamp {
             thread: thread_in(form, word),
             number: number_in(form, word),
         },
-        moved: word / 4 % 2 == 1,
-        deleted: word / 2 % 2 == 1,
-        locked: word % 2 == 1,
+        moved: word / MOVED % 2 == 1,
+        deleted: word / DELETED % 2 == 1,
+        locked: word / LOCKED % 2 == 1,
         holder: holder_in(form, word),
     }
 }
@@ -57,9 +59,9 @@ fn thread_in(form: Form, word: u64) -> u32
     ensures { result ≡ word / (fields_of form).thread_at % (fields_of form).threads }
 {
     match form {
-        Form::Narrow => (word >> 35) as u32,
-        Form::Wide => (word >> 48) as u32,
-        Form::Held => ((word >> 35) % (1 << 24)) as u32,
+        Form::Narrow => (word >> THREAD) as u32,
+        Form::Wide => (word >> WIDE_THREAD) as u32,
+        Form::Held => (word % (1 << HOLDER) >> THREAD) as u32,
     }
 }
 
@@ -67,8 +69,8 @@ fn number_in(form: Form, word: u64) -> u64
     ensures { result ≡ word / 8 % (fields_of form).numbers }
 {
     match form {
-        Form::Narrow | Form::Held => (word >> 3) % (1 << 32),
-        Form::Wide => (word >> 3) % (1 << 45),
+        Form::Narrow | Form::Held => word % (1 << THREAD) >> NUMBER,
+        Form::Wide => word % (1 << WIDE_THREAD) >> NUMBER,
     }
 }
 
@@ -77,6 +79,6 @@ fn holder_in(form: Form, word: u64) -> u32
 {
     match form {
         Form::Narrow | Form::Wide => 0,
-        Form::Held => (word >> 59) as u32,
+        Form::Held => (word >> HOLDER) as u32,
     }
 }

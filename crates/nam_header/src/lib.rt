@@ -9,11 +9,12 @@
 mod flag;
 mod header;
 mod laws;
+mod layout;
 #[cfg(test)]
 mod tests;
 mod visibility;
 
 pub use flag::{with_lock, with_moved, without_lock};
 pub use header::{Header, pack, unpack};
-pub use laws::round_trip_law;
+pub use laws::{number_law, round_trip_law};
 pub use visibility::visible;

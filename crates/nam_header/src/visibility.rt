@@ -1,14 +1,15 @@
 //! Which stamps a snapshot sees.
 
-ghost use Rattle.std.specs.Prelude.{◌≡◌};
-ghost use Rattle.nam_header.specs.Visible.{is_visible};
+ghost use Rattle.std.specs.Prelude.{◌≡◌, ◌↔◌, IsTrue};
+ghost use Rattle.nam_header.specs.Visible.{is_visible, IsVisible};
 
 use si_model::{Snapshot, Stamp};
 
 /// Whether the snapshot sees what was written under the stamp: its worker's entry has reached the number. The
 /// loader's stamp is always seen.
 pub fn visible(stamp: Stamp, seen: &Snapshot) -> bool
-    ensures { result ≡ is_visible stamp seen.now }
+    ensures value { result ≡ is_visible stamp seen.now }
+    ensures exact { IsTrue result ↔ IsVisible stamp seen.now }
 {
     if stamp.thread == 0 {
         return stamp.number == 0;

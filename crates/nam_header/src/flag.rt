@@ -9,7 +9,7 @@ ghost use Rattle.nam_header.specs.Flag.{locked_by, unlocked, moved};
 use crate::layout::{HOLDER, LOCKED, MOVED};
 use nam_catalog::Form;
 
-/// The word with the lock set and, where the form tells the holder, held by this worker.
+/// The word with the lock set and, where the form tells the holder, held by this worker, who is below 32 there.
 pub fn with_lock(form: Form, worker: u32, word: u64) -> u64
     requires { form ≡ Held → worker < 2 ^ 5 }
     ensures word { result ≡ word_of form (locked_by worker form word) }

@@ -61,7 +61,7 @@ fn thread_in(form: Form, word: u64) -> u32
     match form {
         Form::Narrow => (word >> THREAD) as u32,
         Form::Wide => (word >> WIDE_THREAD) as u32,
-        Form::Held => (word % (1 << HOLDER) >> THREAD) as u32,
+        Form::Held => ((word % (1 << HOLDER)) >> THREAD) as u32,
     }
 }
 
@@ -69,8 +69,8 @@ fn number_in(form: Form, word: u64) -> u64
     ensures { result ≡ word / 8 % (fields_of form).numbers }
 {
     match form {
-        Form::Narrow | Form::Held => word % (1 << THREAD) >> NUMBER,
-        Form::Wide => word % (1 << WIDE_THREAD) >> NUMBER,
+        Form::Narrow | Form::Held => (word % (1 << THREAD)) >> NUMBER,
+        Form::Wide => (word % (1 << WIDE_THREAD)) >> NUMBER,
     }
 }
 

@@ -4,7 +4,7 @@ use Rattle.nam_catalog.specs.declared.form.Form.{Form}
 use Rattle.nam_catalog.specs.declared.form.Form.TheVariants.{Narrow, Wide, Held}
 use Rattle.nam_header.specs.declared.header.Header.{Header}
 
--- where a form has thread and holder, and what thread, number and holder are below
+-- where a form has the thread and the holder, and what thread, number and holder are below
 pub record Fields : Type 0 where
   pub thread_at : ℕ
   pub holder_at : ℕ

@@ -1,3 +1,5 @@
+pub mod ListLemmas
+pub mod SnapshotLemmas
 pub mod EvaluationLemmas
 pub mod HeldLemmas
 pub mod RangeLemmas

@@ -7,6 +7,8 @@ pub mod Committed
 pub mod State
 pub mod History
 pub mod Tells
+pub mod Commits
+pub mod Snapshots
 pub mod View
 pub mod Setting
 pub mod Answers
@@ -15,3 +17,5 @@ pub mod Causes
 pub mod Tries
 pub mod Audit
 pub mod Run
+pub mod Arranged
+pub mod Consistency

@@ -1,5 +1,6 @@
 -- Words on lists that several definitions use.
 use Rattle.std.specs.Prelude.{ℕ, ◌≡◌, ◌⊎◌, List, [], ◌∷◌, ◌++◌, drop, Option, Some, None}
+use Rattle.std.specs.List.{AllByRecursion}
 
 -- the element stands in the list
 abbrev pub Listed : {A : Type 0} → A → List A → Type 0
@@ -23,3 +24,8 @@ last_of (x ∷ y ∷ ys) = last_of (y ∷ ys)
 abbrev pub joined : {A : Type 0} → List (List A) → List A
 joined [] = []
 joined (xs ∷ xss) = xs ++ joined xss
+
+-- each element stands so to those after it
+abbrev pub Pairwise : {A : Type 0} → (A → A → Type 0) → List A → Type 0
+Pairwise R [] = Unit {0}
+Pairwise R (x ∷ xs) = AllByRecursion (R x) xs × Pairwise R xs

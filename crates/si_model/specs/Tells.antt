@@ -1,5 +1,5 @@
 -- A log seen as a list of its events, each with its own items.
-use Rattle.std.specs.Prelude.{ℕ, ◌-◌, Bool, true, false, if◌then◌else◌, List, [], ◌∷◌, take, drop, slice_index_or, Option, Some, None, is_some, unwrap_or}
+use Rattle.std.specs.Prelude.{ℕ, ◌+◌, ◌-◌, ◌≡◌, length, Bool, true, false, if◌then◌else◌, List, [], ◌∷◌, take, drop, slice_index_or, Option, Some, None, is_some, unwrap_or}
 use Rattle.si_model.specs.declared.row.Item.{Item}
 use Rattle.si_model.specs.declared.op.Op.{Op}
 use Rattle.si_model.specs.declared.log.Lock.{Lock}
@@ -42,6 +42,18 @@ writes_in e = elim (attempt_in e) [ None ↦ 0 | Some a ↦ a.writes ]
 -- how many snapshots the event owns
 abbrev pub snaps_in : Event → ℕ
 snaps_in e = if is_some (prefix_in e) then 1 else 0
+
+-- how much the events own together
+abbrev pub total : (Event → ℕ) → List Event → ℕ
+total owned [] = 0
+total owned (e ∷ es) = owned e + total owned es
+
+-- the events own all items of the log's lists, and no more
+pub record CountsFit (log : Log) : Type 0 where
+  pub reads : total reads_in log.events ≡ length log.reads
+  pub locks : total locks_in log.events ≡ length log.locks
+  pub writes : total writes_in log.events ≡ length log.writes
+  pub snaps : total snaps_in log.events ≡ length log.snaps
 
 -- the operations of an event's transaction; transaction x stands at place x - 1 (that x is at least 1 is the policy's matter)
 abbrev pub ops_in : List (List Op) → Event → List Op

@@ -6,15 +6,19 @@ use Rattle.si_model.specs.declared.op.Op.{Op}
 use Rattle.si_model.specs.declared.log.Stamp.{Stamp}
 use Rattle.si_model.specs.declared.log.Lock.{Lock}
 use Rattle.si_model.specs.declared.log.Outcome.{Outcome}
+use Rattle.si_model.specs.declared.log.Outcome.TheVariants.{Commit}
 use Rattle.si_model.specs.declared.log.MoveEnd.TheVariants.{Done}
 use Rattle.si_model.specs.declared.log.Event.{Event}
 use Rattle.si_model.specs.declared.log.Event.TheVariants.{Tried, Moved, Collected}
 use Rattle.si_model.specs.declared.log.Log.{Log}
 use Rattle.si_model.specs.declared.report.CommitLine.{CommitLine}
 use Rattle.si_model.specs.declared.report.AuditRow.{AuditRow}
+use Rattle.std.specs.List.{AllByRecursion}
+use Rattle.si_model.specs.Lists.{Listed}
 use Rattle.si_model.specs.Setting.{Setting}
 use Rattle.si_model.specs.Tells.{Tell}
 use Rattle.si_model.specs.Audit.{IsAuditLine}
+use Rattle.si_model.proofs.ListLemmas.{All-listed}
 
 -- row t k v
 abbrev pub row : ℕ → ℕ → ℕ → Row
@@ -39,6 +43,10 @@ lock t k j n = record { table = t; key = k; stamp = stamp j n }
 abbrev pub tried : ℕ → ℕ → Option ℕ → ℕ → ℕ → Outcome → Event
 tried x nth p r l o = Tried (record { txn = x; nth = nth; prefix = p; reads = r; locks = l; writes = 0; outcome = o })
 
+-- t x try nth prefix p commit number, with so many reads, locks and writes
+abbrev pub commits : ℕ → ℕ → ℕ → ℕ → ℕ → ℕ → ℕ → Event
+commits x nth p r l w number = Tried (record { txn = x; nth = nth; prefix = Some p; reads = r; locks = l; writes = w; outcome = Commit number })
+
 -- move b t k j n done
 abbrev pub moved : ℕ → ℕ → ℕ → ℕ → ℕ → Event
 moved b t k j n = Moved b t k (stamp j n) Done
@@ -54,6 +62,10 @@ entry j n p x writes = record { worker = j; number = n; prefix = p; txn = x; wri
 -- a worker's events, all its reads and all its locks
 abbrev pub log : List Event → List Item → List Lock → Log
 log events reads locks = record { events = events; reads = reads; locks = locks; writes = []; snaps = [] }
+
+-- a worker's events with all its reads, locks, writes and snapshots
+abbrev pub whole_log : List Event → List Item → List Lock → List Item → List (List ℕ) → Log
+whole_log events reads locks writes snaps = record { events = events; reads = reads; locks = locks; writes = writes; snaps = snaps }
 
 -- a t k v
 abbrev pub audited : ℕ → ℕ → ℕ → AuditRow
@@ -83,3 +95,7 @@ setting_with workers tries tidy capacity ring rows jobs owners = record {
   owners = owners;
   policy = record { tries = tries; tidy = tidy };
 }
+
+-- what holds of each pair of the list
+pub of_pairs : {A : Type 0} (R : A → A → Type 0) (xs : List A) → AllByRecursion (λ x. AllByRecursion (R x) xs) xs → (x y : A) → Listed x xs → Listed y xs → R x y
+of_pairs R xs h x y l k = All-listed (R x) xs y (All-listed (λ z. AllByRecursion (R z) xs) xs x h l) k

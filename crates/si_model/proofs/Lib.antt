@@ -1,6 +1,8 @@
 pub mod ListLemmas
 pub mod SnapshotLemmas
+pub mod ItemLemmas
 pub mod EvaluationLemmas
+pub mod LegalLemmas
 pub mod HeldLemmas
 pub mod RangeLemmas
 pub mod StepLemmas
@@ -19,4 +21,8 @@ mod NumbersAreSpentExample
 mod TableHasNoSpaceExample
 mod FuseVerbByVerbExample
 mod MedicVerbByVerbExample
+mod ConsistentFirstCommitterWinsExample
+mod ConsistentSnapshotAgainExample
+mod CauseWithoutEffectExample
+mod OrderUnderGuardsExample
 mod NotRunsExample

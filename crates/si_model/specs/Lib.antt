@@ -6,6 +6,7 @@ pub mod Held
 pub mod Committed
 pub mod State
 pub mod History
+pub mod Gives
 pub mod Tells
 pub mod Commits
 pub mod Snapshots

@@ -39,7 +39,7 @@ fn note_guard(guards: &mut List<Key>, key: Key) -> Result<(), AllocError>
     guards.push(key)
 }
 
-fn is_written(writes: &[Item], key: Key) -> bool
+pub fn is_written(writes: &[Item], key: Key) -> bool
     ensures { result ≡ writes_key writes.now key }
 {
     for item in writes {

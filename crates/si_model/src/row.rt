@@ -21,7 +21,7 @@ pub struct Row {
 }
 
 /// What a key holds: a value, or none where it is absent.
-#[derive(Debug, Drop)]
+#[derive(Debug, Drop, PartialEq, Eq)]
 pub struct Item {
     pub table: u32,
     pub key: u64,

@@ -1,6 +1,8 @@
 ghost use Rattle.std.specs.Prelude.{◌≡◌, ◌<◌, ◌≤◌, length, slice_index, All, IsTrue};
 ghost use Rattle.si_model.specs.Evaluation.{OpFits};
 
+mod legal;
+
 use crate::{CommitLine, CommittedRows, Evaluated, Item, Key, Op, Row, Value, eval, state};
 use lists::List;
 use std::alloc::{AllocError, Global};

@@ -1,0 +1,172 @@
+//! Legal histories: first committer wins.
+
+ghost use Rattle.std.specs.Prelude.{◌≡◌, ◌^◌, ◌<◌, ◌≤◌, ◌-◌, List, [], length, map, take, All, IfOk, IfSome, Decides, Some, None, slice_index_or};
+ghost use Rattle.std.specs.List.{list_any, AllByRecursion};
+ghost use Rattle.si_model.specs.Rows.{rows_of, writes_key};
+ghost use Rattle.si_model.specs.Evaluation.{evaluation_of, OpFits, AreWide};
+ghost use Rattle.si_model.specs.EvaluationLaws.{IsWide};
+ghost use Rattle.si_model.specs.State.{state_at};
+ghost use Rattle.si_model.specs.History.{keys_of, none_writes, MayFollow, IsLegal};
+ghost use Rattle.si_model.specs.Gives.{Gives};
+
+use crate::committed::state;
+use crate::evaluated::Evaluated;
+use crate::evaluation::{eval, is_written};
+use crate::op::Op;
+use crate::report::CommitLine;
+use crate::row::{Item, Key, Row};
+use lists::List;
+use std::alloc::{AllocError, Global};
+
+/// Do the two write sets have the same items in the same order?
+fn are_same(a: &[Item], b: &[Item]) -> bool
+    ensures { Decides result (a.now ≡ b.now) }
+{
+    a == b
+}
+
+/// The keys that a transaction writes, and then those that it guards.
+fn claimed(alloc: Global, writes: &[Item], guards: &[Key]) -> Result<List<Key>, AllocError>
+    ensures { IfOk result (λ keys. keys ≡ keys_of writes.now guards.now) }
+{
+    let mut keys = List::new(alloc);
+    for item in writes {
+        keys.push(Key {
+            table: item.table,
+            key: item.key,
+        })?;
+    }
+    for key in guards {
+        keys.push(*key)?;
+    }
+    Ok(keys)
+}
+
+/// Does the write set write one of the keys?
+fn writes_one(writes: &[Item], keys: &[Key]) -> bool
+    ensures { result ≡ list_any (λ key. writes_key writes.now key) keys.now }
+{
+    for key in keys {
+        if is_written(writes, *key) {
+            return true;
+        }
+    }
+    false
+}
+
+/// Does no entry write one of the keys?
+fn none_writes(keys: &[Key], entries: &[CommitLine]) -> bool
+    ensures { result ≡ none_writes keys.now entries.now }
+{
+    for entry in entries {
+        if writes_one(entry.writes.as_slice(), keys) {
+            return false;
+        }
+    }
+    true
+}
+
+/// The operations of transaction `txn`, counted from 1.
+fn job_of(jobs: &[Vec<Op>], txn: u32) -> Option<&[Op]>
+    ensures found { IfSome result (λ ops. (1 ≤ txn) × (txn ≤ length jobs.now) × (ops.now ≡ slice_index_or (map (λ job. job.items) jobs.now) (txn - 1) [])) }
+    ensures missing { result ≡ None → (1 ≤ txn) × (txn ≤ length jobs.now) → ⊥ }
+{
+    let place = txn.checked_sub(1)?;
+    let job = jobs.get(place as usize)?;
+    Some(job.as_slice())
+}
+
+/// What the operations do on the state after the first entries.
+fn evaluated_at(
+    alloc: Global,
+    widths: &[u32],
+    rows: &[Row],
+    ops: &[Op],
+    done: &[CommitLine],
+    prefix: usize,
+) -> Result<Evaluated, AllocError>
+    requires fits { All (OpFits widths.now) ops.now }
+    requires short { length ops.now < 2 ^ 32 }
+    requires wide { AreWide widths.now (rows_of rows.now) }
+    requires written { AllByRecursion (λ e. AllByRecursion (IsWide widths.now) e.writes) done.now }
+    requires prefix { prefix ≤ length done.now }
+    ensures { IfOk result (λ e. e ≡ evaluation_of widths.now (state_at (rows_of rows.now) (take prefix done.now)) ops.now) }
+{
+    let seen = state(alloc, rows, done, prefix)?;
+    eval(alloc, widths, ops, seen.as_slice())
+}
+
+/// Did the evaluation give this write set, and did no entry since write a key that it wrote or guarded?
+fn gives(
+    alloc: Global,
+    evaluated: &Evaluated,
+    writes: &[Item],
+    since: &[CommitLine],
+) -> Result<bool, AllocError>
+    ensures { IfOk result (λ gives. Decides gives (Gives evaluated.now writes.now since.now)) }
+{
+    let Evaluated::Done {
+        writes: made,
+        guards,
+        ..
+    } = evaluated
+    else {
+        return Ok(false);
+    };
+    if writes.is_empty() || !are_same(made.as_slice(), writes) {
+        return Ok(false);
+    }
+    let keys = claimed(alloc, writes, guards.as_slice())?;
+    Ok(none_writes(keys.as_slice(), since))
+}
+
+/// May the entry follow those that are done?
+fn may_follow(
+    alloc: Global,
+    widths: &[u32],
+    rows: &[Row],
+    jobs: &[Vec<Op>],
+    done: &[CommitLine],
+    entry: &CommitLine,
+) -> Result<bool, AllocError>
+    requires fits { All (λ job. All (OpFits widths.now) job.items) jobs.now }
+    requires short { All (λ job. length job.items < 2 ^ 32) jobs.now }
+    requires wide { AreWide widths.now (rows_of rows.now) }
+    requires written { AllByRecursion (λ e. AllByRecursion (IsWide widths.now) e.writes) done.now }
+    ensures { IfOk result (λ may. Decides may (MayFollow widths.now (rows_of rows.now) (map (λ job. job.items) jobs.now) done.now entry.now)) }
+{
+    let Some(ops) = job_of(jobs, entry.txn) else {
+        return Ok(false);
+    };
+    if entry.prefix > done.len() as u64 {
+        return Ok(false);
+    }
+    let prefix = entry.prefix as usize;
+    let evaluated = evaluated_at(alloc, widths, rows, ops, done, prefix)?;
+    let since = &done[prefix..];
+    gives(alloc, &evaluated, entry.writes.as_slice(), since)
+}
+
+/// Is each entry a commit that may follow those before it: does it evaluate its transaction on the state at its
+/// prefix, which is before it, and has no entry between written a key that it writes or guards? First committer
+/// wins (Berenson and others 1995). Transaction x has the operations at place x - 1 of `jobs`; a number out of
+/// range gives false. Each entry's state is built anew.
+pub fn is_legal(
+    alloc: Global,
+    widths: &[u32],
+    rows: &[Row],
+    jobs: &[Vec<Op>],
+    history: &[CommitLine],
+) -> Result<bool, AllocError>
+    requires fits { All (λ job. All (OpFits widths.now) job.items) jobs.now }
+    requires short { All (λ job. length job.items < 2 ^ 32) jobs.now }
+    requires wide { AreWide widths.now (rows_of rows.now) }
+    ensures { IfOk result (λ legal. Decides legal (IsLegal widths.now (rows_of rows.now) (map (λ job. job.items) jobs.now) history.now)) }
+{
+    for (place, entry) in history.iter().enumerate() {
+        if !may_follow(alloc, widths, rows, jobs, &history[..place], entry)? {
+            return Ok(false);
+        }
+    }
+    Ok(true)
+}

@@ -2,13 +2,13 @@
 use Rattle.std.proofs.Common.{ℕ, ◌-◌, ◌<◌, ◌≤◌, ◌≡◌, ◌≢◌, ◌⊎◌, false, true, List, [], ◌∷◌, length, refl, arith, Some, None, inl, inr, map}
 use Rattle.std.specs.Prelude.{IsTrue, filter}
 use Rattle.std.proofs.lemmas.Bool.Decides.{nat_tests}
-use Rattle.std.proofs.lemmas.List.Sorted.{IsPermutation-refl, IsPermutation-swap}
+use Rattle.std.proofs.lemmas.List.Sorted.{IsPermutation-refl}
 use Rattle.si_model.specs.declared.log.Log.{Log}
 use Rattle.si_model.specs.declared.log.Stamp.{Stamp}
-use Rattle.si_model.specs.declared.op.Op.TheVariants.{Get, Put, Add, Guard}
-use Rattle.si_model.specs.declared.log.Outcome.TheVariants.{Newer, Again, ReadOnly, Commit}
+use Rattle.si_model.specs.declared.op.Op.TheVariants.{Get, Put, Add}
+use Rattle.si_model.specs.declared.log.Outcome.TheVariants.{Again, ReadOnly}
 use Rattle.si_model.specs.declared.report.Report.{Report}
-use Rattle.si_model.specs.Rows.{key_at, rows_of}
+use Rattle.si_model.specs.Rows.{rows_of}
 use Rattle.si_model.specs.Setting.{Setting}
 use Rattle.si_model.specs.Tries.Part.{attempted}
 use Rattle.si_model.specs.History.{stamp_of}
@@ -20,7 +20,7 @@ use Rattle.si_model.specs.Arranged.{level_of, guards_beside, above_all, IsArrang
 use Rattle.si_model.specs.Consistency.{IsWithin, MayBePublished, share_key, is_overtaking, KeepsGuards, AreConsistentFor}
 use Rattle.si_model.specs.Run.{IsRun}
 use Rattle.si_model.proofs.ListLemmas.{All-listed}
-use Rattle.si_model.proofs.ExampleWords.{row, item, lock, tried, commits, log, whole_log, entry, audited, unmarked, setting_with, of_pairs}
+use Rattle.si_model.proofs.ExampleWords.{row, item, lock, tried, commits, whole_log, entry, audited, unmarked, setting_with, of_pairs}
 
 abbrev setting : Setting
 setting =

@@ -1,6 +1,6 @@
 -- What a test of one entry tells of a history.
-use Rattle.std.proofs.Common.{◌≡◌, ℕ, zero, suc, ◌+◌, ◌-◌, ◌<◌, ◌≤◌, Bool, true, false, cond, ◌⊎◌, inl, inr, List, [], ◌∷◌, ◌++◌, length, take, drop, map, refl, ap, sym, ◌∙◌, subst, arith, not}
-use Rattle.std.specs.Prelude.{◌&&◌, All, IsTrue, slice_index_or}
+use Rattle.std.proofs.Common.{◌≡◌, ℕ, zero, suc, ◌+◌, ◌-◌, ◌<◌, ◌≤◌, Bool, false, cond, inl, inr, List, [], ◌∷◌, ◌++◌, length, take, drop, map, refl, ap, sym, ◌∙◌, subst, arith, not}
+use Rattle.std.specs.Prelude.{◌&&◌, All, slice_index_or}
 use Rattle.std.specs.List.{list_any, list_all, AllByRecursion}
 use Rattle.std.proofs.lemmas.List.Elements.{recursion_from_All}
 use Rattle.std.proofs.lemmas.Bool.{cases_Bool}
@@ -11,7 +11,7 @@ use Rattle.si_model.specs.declared.op.Op.{Op}
 use Rattle.si_model.specs.declared.report.CommitLine.{CommitLine}
 use Rattle.si_model.specs.declared.evaluated.Evaluated.TheVariants.{Done}
 use Rattle.si_model.specs.Rows.{Rows, writes_key}
-use Rattle.si_model.specs.Evaluation.{evaluation_of, evaluation_from, unwritten, OpFits, AreWide, keys_from, key_guarded, reads_from}
+use Rattle.si_model.specs.Evaluation.{evaluation_of, OpFits, AreWide}
 use Rattle.si_model.specs.EvaluationLaws.{IsWide, writes_from}
 use Rattle.si_model.specs.State.{state_at}
 use Rattle.si_model.specs.Gives.{Gives}

@@ -1,12 +1,11 @@
 -- The worked row 'order under guards': its logs are consistent, and arranged they give its history, which is a run.
-use Rattle.std.proofs.Common.{ℕ, ◌-◌, ◌<◌, ◌≤◌, ◌≡◌, ◌≢◌, ◌⊎◌, false, true, List, [], ◌∷◌, length, refl, arith, Some, None, inl, inr, map}
+use Rattle.std.proofs.Common.{ℕ, ◌-◌, ◌<◌, ◌≤◌, ◌≡◌, ◌≢◌, ◌⊎◌, false, List, [], ◌∷◌, length, refl, arith, inl, inr, map}
 use Rattle.std.specs.Prelude.{IsTrue, filter}
 use Rattle.std.proofs.lemmas.Bool.Decides.{nat_tests}
-use Rattle.std.proofs.lemmas.List.Sorted.{IsPermutation-refl, IsPermutation-swap}
+use Rattle.std.proofs.lemmas.List.Sorted.{IsPermutation-swap}
 use Rattle.si_model.specs.declared.log.Log.{Log}
 use Rattle.si_model.specs.declared.log.Stamp.{Stamp}
-use Rattle.si_model.specs.declared.op.Op.TheVariants.{Get, Put, Add, Guard}
-use Rattle.si_model.specs.declared.log.Outcome.TheVariants.{Newer, Again, ReadOnly, Commit}
+use Rattle.si_model.specs.declared.op.Op.TheVariants.{Put, Guard}
 use Rattle.si_model.specs.declared.report.Report.{Report}
 use Rattle.si_model.specs.Rows.{key_at, rows_of}
 use Rattle.si_model.specs.Setting.{Setting}
@@ -20,7 +19,7 @@ use Rattle.si_model.specs.Arranged.{level_of, guards_beside, above_all, IsArrang
 use Rattle.si_model.specs.Consistency.{IsWithin, MayBePublished, share_key, is_overtaking, KeepsGuards, AreConsistentFor}
 use Rattle.si_model.specs.Run.{IsRun}
 use Rattle.si_model.proofs.ListLemmas.{All-listed}
-use Rattle.si_model.proofs.ExampleWords.{row, item, lock, tried, commits, log, whole_log, entry, audited, unmarked, setting_with, of_pairs}
+use Rattle.si_model.proofs.ExampleWords.{row, item, lock, commits, whole_log, entry, audited, unmarked, setting_with, of_pairs}
 
 abbrev setting : Setting
 setting = setting_with 2 1 false 4 2 (row 0 0 60 ∷ row 0 1 60 ∷ []) ((Guard 0 0 ∷ Put 0 1 (1 ∷ []) ∷ []) ∷ (Put 0 0 (9 ∷ []) ∷ []) ∷ []) (2 ∷ 1 ∷ [])

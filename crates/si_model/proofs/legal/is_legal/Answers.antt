@@ -1,4 +1,4 @@
-use Rattle.std.proofs.Common.{rules, ◌≡◌, ◌<◌, ◌+◌, ◌++◌, ◌∷◌, [], true, length, map, take, drop, sym, ◌∙◌, ap, subst, arith}
+use Rattle.std.proofs.Common.{◌<◌, ◌∷◌, [], length, map, take, sym, subst, arith}
 use Rattle.std.specs.List.{AllByRecursion}
 use Rattle.si_model.specs.Rows.{rows_of}
 use Rattle.si_model.specs.Evaluation.{OpFits}

@@ -1,4 +1,4 @@
-use Rattle.std.proofs.Common.{◌≡◌, ◌<◌, true, false, length, arith, sym, ◌∙◌, ap}
+use Rattle.std.proofs.Common.{◌≡◌, true, false, arith, sym, ◌∙◌, ap}
 use Rattle.std.specs.List.{list_any}
 use Rattle.si_model.specs.Rows.{writes_key}
 use Rattle.si_model.proofs.LegalLemmas.{none_writes_at}

@@ -1,0 +1,3 @@
+mod Lifts
+mod Standing
+mod Counted

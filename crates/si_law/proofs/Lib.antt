@@ -1,3 +1,6 @@
 mod Lifts
 mod Standing
 mod Counted
+mod Newest
+mod Order
+mod Legal

@@ -4,3 +4,4 @@ mod Counted
 mod Newest
 mod Order
 mod Legal
+mod OwnCommits

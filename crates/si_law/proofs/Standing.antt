@@ -52,7 +52,7 @@ publishing_in j t a (Some p) (Commit n) c l e q r = elim l [
 ]
 publishing_in j t a p o c l e q r = elim l [ ]
 
-publishing_at : (j : ℕ) (t : Tell) (e : Event) (c : Published) → Listed c (published_at j t e) → t.event ≡ e → IsPublishing j t c
+pub publishing_at : (j : ℕ) (t : Tell) (e : Event) (c : Published) → Listed c (published_at j t e) → t.event ≡ e → IsPublishing j t c
 publishing_at j t (Tried a) c l e = publishing_in j t a a.prefix a.outcome c l e refl refl
 publishing_at j t v c l e = elim l [ ]
 

@@ -1,0 +1,2 @@
+pub mod GrowthCrowded
+pub mod Moved

@@ -1,3 +1,5 @@
+pub mod GrowthCrowded
+pub mod Moved
 mod Lifts
 mod Standing
 mod Counted

@@ -7,3 +7,4 @@ mod Newest
 mod Order
 mod Legal
 mod OwnCommits
+mod Numbers

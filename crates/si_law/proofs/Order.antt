@@ -28,7 +28,7 @@ stamp_cases a b = elim (cases_eq a.thread b.thread) [
   | inr p ↦ inr (λ e. p (ap (λ s. s.thread) e))
 ]
 
-precedes_apart : (level depth : Stamp → ℕ) (a b : CommitLine) → Precedes level depth a b → stamp_of a ≢ stamp_of b
+pub precedes_apart : (level depth : Stamp → ℕ) (a b : CommitLine) → Precedes level depth a b → stamp_of a ≢ stamp_of b
 precedes_apart level depth a b h e =
     let f : a.worker ≡ b.worker = ap (λ s. s.thread) e in
     let g : a.number ≡ b.number = ap (λ s. s.number) e in

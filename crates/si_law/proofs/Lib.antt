@@ -8,3 +8,4 @@ mod Order
 mod Legal
 mod OwnCommits
 mod Numbers
+mod Agree

@@ -9,3 +9,5 @@ mod Legal
 mod OwnCommits
 mod Numbers
 mod Agree
+mod ListedOnce
+mod Fulls

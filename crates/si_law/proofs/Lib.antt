@@ -11,3 +11,4 @@ mod Numbers
 mod Agree
 mod ListedOnce
 mod Fulls
+mod TheLaw

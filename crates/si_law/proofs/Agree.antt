@@ -1,10 +1,9 @@
 -- The view by the arranged history and the view by the snapshots say the same.
-use Rattle.std.proofs.Common.{◌≡◌, ℕ, zero, suc, ◌+◌, ◌-◌, ◌<◌, ◌≤◌, Bool, true, false, cond, ◌⊎◌, inl, inr, List, [], ◌∷◌, ◌++◌, length, get_or, take, drop, refl, ap, sym, ◌∙◌, subst, arith, eqb, Option, Some, None}
-use Rattle.std.specs.Prelude.{IsTrue, filter, map, unwrap_or, ◌&&◌, ◌||◌}
-use Rattle.std.specs.List.{AllByRecursion, list_any}
+use Rattle.std.proofs.Common.{◌≡◌, ℕ, zero, suc, ◌+◌, ◌-◌, ◌<◌, Bool, true, false, cond, inl, inr, List, [], ◌∷◌, length, get_or, take, drop, refl, ap, sym, ◌∙◌, subst, arith, eqb, Some}
+use Rattle.std.specs.Prelude.{filter, map, unwrap_or, ◌&&◌, ◌||◌}
+use Rattle.std.specs.List.{list_any}
 use Rattle.std.proofs.Math.Path.{fun_ext}
-use Rattle.std.proofs.lemmas.Bool.{false≢true, true≢false, cases_Bool, cases_lt, false_from_ne_true, eq-eqb, ne_eqb, and_from, or_parts}
-use Rattle.std.proofs.lemmas.Bool.Decides.{nat_tests}
+use Rattle.std.proofs.lemmas.Bool.{false≢true, true≢false, cases_Bool, false_from_ne_true, eq-eqb, ne_eqb, or_parts}
 use Rattle.std.proofs.lemmas.List.{length-append, length-map, take-map}
 use Rattle.std.proofs.lemmas.List.Elements.{filter-append}
 use Rattle.std.proofs.lemmas.List.Sorted.{length_permutation, IsPermutation-map}
@@ -20,8 +19,8 @@ use Rattle.si_model.specs.Commits.{Published, entry_of, published_of, published_
 use Rattle.si_model.specs.Snapshots.{contains, inside, sum_above, is_after}
 use Rattle.si_model.specs.View.{View, by_history, by_snapshots}
 use Rattle.si_model.specs.Consistency.{AreOwned, IsWithin, HaveOrder, share_key, FirstWins}
-use Rattle.si_model.proofs.ListLemmas.{Pairwise-weaker, Pairwise-filter, All-listed, All-from_listed, filter-all, filter-none, listed_permutation, filter_listed, listed_filter, length_filter_permutation, listed_map, map_listed, any_listed, listed_any}
-use Rattle.si_model.proofs.SnapshotLemmas.{contains_at_most, at_most_by_sum}
+use Rattle.si_model.proofs.ListLemmas.{Pairwise-weaker, Pairwise-filter, All-listed, All-from_listed, filter-all, filter-none, filter_listed, listed_filter, length_filter_permutation, listed_map, map_listed, any_listed, listed_any}
+use Rattle.si_model.proofs.SnapshotLemmas.{contains_at_most}
 use Rattle.si_law.specs.Views.{Extends, Agrees}
 use Rattle.si_law.proofs.Moved.{same_stamp-refl, same_stamp_says}
 use Rattle.si_law.proofs.Standing.{worker_of, worker_from, last_number-is}

@@ -1,6 +1,6 @@
 -- How many commits a snapshot contains: as many as its prefix says, and they are the first of the arranged history.
-use Rattle.std.proofs.Common.{◌≡◌, ℕ, zero, suc, ◌+◌, ◌-◌, ◌<◌, ◌≤◌, min, Bool, true, false, ◌⊎◌, inl, inr, List, [], ◌∷◌, ◌++◌, length, get_or, take, drop, refl, ap, sym, ◌∙◌, subst, arith}
-use Rattle.std.specs.Prelude.{filter, map, IsPermutation}
+use Rattle.std.proofs.Common.{◌≡◌, ℕ, zero, suc, ◌-◌, ◌<◌, ◌≤◌, min, true, false, inl, inr, List, [], ◌∷◌, length, get_or, take, drop, refl, ap, sym, ◌∙◌, subst, arith}
+use Rattle.std.specs.Prelude.{map, IsPermutation}
 use Rattle.std.specs.List.{AllByRecursion}
 use Rattle.std.proofs.lemmas.Bool.{cond_both, false≢true, cases_lt}
 use Rattle.std.proofs.lemmas.List.{length-append}
@@ -14,7 +14,6 @@ use Rattle.si_model.specs.Tells.{Tell}
 use Rattle.si_model.specs.Commits.{Published, entry_of, published_of, published_from, published_by, snaps_by}
 use Rattle.si_model.specs.Snapshots.{contains, inside, sum_above}
 use Rattle.si_model.specs.Arranged.{level_of, AreDepths, Precedes, IsArranged}
-use Rattle.si_model.specs.Knowledge.{AreAtMost}
 use Rattle.si_model.specs.Consistency.{NumbersFollow, AreOwned, IsWithin, HaveOrder}
 use Rattle.si_model.proofs.ListLemmas.{Pairwise-weaker, Pairwise-unmap, filter_front, filter_rest, length_filter_permutation, listed_permutation}
 use Rattle.si_model.proofs.SnapshotLemmas.{contains_is, contains_says, contains_at_most, at_most_by_sum, level_at_most, level_says}

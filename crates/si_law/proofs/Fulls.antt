@@ -1,7 +1,7 @@
 -- Where a ring is full of a worker's own commit stands in views that agree.
-use Rattle.std.proofs.Common.{◌≡◌, ℕ, false, inl, inr, List, [], ◌∷◌, ◌++◌, refl, ap, sym, ◌∙◌, subst, Option, Some, None}
+use Rattle.std.proofs.Common.{◌≡◌, ℕ, false, inl, List, [], ◌∷◌, ◌++◌, refl, subst, Option, Some, None}
 use Rattle.std.specs.Prelude.{IsTrue}
-use Rattle.std.specs.List.{flat_map, AllByRecursion}
+use Rattle.std.specs.List.{flat_map}
 use Rattle.si_model.specs.declared.row.Key.{Key}
 use Rattle.si_model.specs.declared.log.Stamp.{Stamp}
 use Rattle.si_model.specs.declared.log.Attempt.{Attempt}
@@ -14,7 +14,7 @@ use Rattle.si_model.specs.Tells.{Tell}
 use Rattle.si_model.specs.View.{View}
 use Rattle.si_model.specs.Setting.{Setting, Asked}
 use Rattle.si_model.specs.Answers.{lock_key, AnswersWithout, AnswersOn, AnswersIn, AnswersMatch}
-use Rattle.si_model.specs.Tries.{Part, attempted, tidied, stopped, tells_in, failed_after, FullOutcome, FullEvent, FullPart, FullsFollow, FollowsPolicy}
+use Rattle.si_model.specs.Tries.{Part, attempted, tells_in, failed_after, FullOutcome, FullEvent, FullPart, FullsFollow, FollowsPolicy}
 use Rattle.si_model.proofs.ListLemmas.{All-listed, listed_append_left, listed_append_right}
 use Rattle.si_law.specs.Views.{Agrees, AgreeOn}
 use Rattle.si_law.proofs.Moved.{AgreesAt}

@@ -1,15 +1,12 @@
 -- The arranged history is legal.
-use Rattle.std.proofs.Common.{◌≡◌, ℕ, zero, suc, ◌+◌, ◌-◌, ◌<◌, ◌≤◌, Bool, true, false, ◌⊎◌, inl, inr, List, [], ◌∷◌, ◌++◌, length, take, drop, refl, ap, sym, ◌∙◌, subst, arith, not}
-use Rattle.std.specs.Prelude.{IsTrue, filter, map, slice_index_or}
-use Rattle.std.specs.List.{list_any, list_all}
-use Rattle.std.proofs.lemmas.Bool.{false≢true, true≢false, cases_Bool, cases_lt, false_from_ne_true}
+use Rattle.std.proofs.Common.{◌≡◌, ℕ, zero, suc, ◌-◌, ◌<◌, ◌≤◌, Bool, true, false, inl, inr, List, [], ◌∷◌, ◌++◌, length, take, drop, refl, ap, sym, ◌∙◌, subst, arith, not}
+use Rattle.std.specs.Prelude.{map, slice_index_or}
+use Rattle.std.specs.List.{list_all}
+use Rattle.std.proofs.lemmas.Bool.{true≢false, cases_lt, false_from_ne_true}
 use Rattle.std.proofs.lemmas.List.{take-map, drop-map, length-map, take-append-le, drop-append-le, append_assoc, map-append}
 use Rattle.si_model.specs.declared.row.Key.{Key}
-use Rattle.si_model.specs.declared.row.Item.{Item}
 use Rattle.si_model.specs.declared.op.Op.{Op}
-use Rattle.si_model.specs.declared.evaluated.Evaluated.{Evaluated}
 use Rattle.si_model.specs.declared.evaluated.Evaluated.TheVariants.{Done}
-use Rattle.si_model.specs.declared.report.CommitLine.{CommitLine}
 use Rattle.si_model.specs.Lists.{Listed, Pairwise}
 use Rattle.si_model.specs.Rows.{Rows, item_key, writes_key}
 use Rattle.si_model.specs.Evaluation.{evaluation_of, guard_keys}
@@ -17,7 +14,7 @@ use Rattle.si_model.specs.State.{state_at}
 use Rattle.si_model.specs.History.{stamp_of, keys_of, none_writes, MayFollow, IsLegalAfter, IsLegal}
 use Rattle.si_model.specs.Tells.{Tell}
 use Rattle.si_model.specs.Commits.{Published, entry_of, published_by, snaps_by}
-use Rattle.si_model.specs.Snapshots.{contains, inside, sum_above, rows_in}
+use Rattle.si_model.specs.Snapshots.{contains, inside, rows_in}
 use Rattle.si_model.specs.Arranged.{guards_write}
 use Rattle.si_model.specs.Consistency.{HaveOrder, MayBePublished, share_key, FirstWins, KeepsGuards}
 use Rattle.si_model.proofs.ListLemmas.{Pairwise-before, filter_listed, listed_any, listed_append_left, listed_append_right, listed_append_cases, map_listed}

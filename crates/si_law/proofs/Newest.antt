@@ -1,5 +1,5 @@
 -- The commit of the greatest prefix that writes a key, and what a key holds by it.
-use Rattle.std.proofs.Common.{◌≡◌, ℕ, ◌+◌, ◌<◌, ◌≤◌, Bool, true, false, cond, inl, inr, List, [], ◌∷◌, refl, ap, sym, ◌∙◌, subst, arith, ltb, Option, Some, None}
+use Rattle.std.proofs.Common.{◌≡◌, ◌<◌, ◌≤◌, true, false, cond, inl, inr, List, [], ◌∷◌, refl, ap, sym, ◌∙◌, subst, arith, ltb, Option, Some, None}
 use Rattle.std.specs.Prelude.{map}
 use Rattle.std.specs.List.{list_any}
 use Rattle.std.proofs.lemmas.Bool.{cond_both, false≢true, true≢false, cases_Bool, le-ltb, ltb-true, ltb-false}

@@ -1,7 +1,7 @@
 -- Each worker's numbers follow one by one in the arranged history.
-use Rattle.std.proofs.Common.{◌≡◌, ℕ, zero, suc, ◌+◌, ◌-◌, ◌<◌, ◌≤◌, Bool, true, false, cond, ◌⊎◌, inl, inr, List, [], ◌∷◌, ◌++◌, length, refl, ap, sym, ◌∙◌, subst, arith, eqb}
+use Rattle.std.proofs.Common.{◌≡◌, ℕ, suc, ◌+◌, ◌<◌, ◌≤◌, false, cond, inl, inr, List, [], ◌∷◌, ◌++◌, length, refl, ap, sym, ◌∙◌, subst, arith, eqb}
 use Rattle.std.specs.Prelude.{map}
-use Rattle.std.proofs.lemmas.Bool.{cond_both, cases_Bool, cases_lt, cases_eq, eqb-true, eqb-false, eq-eqb}
+use Rattle.std.proofs.lemmas.Bool.{cond_both, cases_Bool, cases_lt, cases_eq, eqb-true, eqb-false}
 use Rattle.si_model.specs.declared.report.CommitLine.{CommitLine}
 use Rattle.si_model.specs.Lists.{Listed, Pairwise}
 use Rattle.si_model.specs.Rows.{Rows}

@@ -1,6 +1,6 @@
 -- A worker sees its own earlier commits, since it never sees less than it knows.
-use Rattle.std.proofs.Common.{◌≡◌, ◌≢◌, ℕ, zero, suc, ◌+◌, ◌-◌, ◌<◌, ◌≤◌, max, Bool, true, false, ◌⊎◌, inl, inr, List, [], ◌∷◌, ◌++◌, length, get_or, set, refl, ap, sym, ◌∙◌, subst, arith, Option, Some, None}
-use Rattle.std.specs.Prelude.{IsTrue, replicate, is_some}
+use Rattle.std.proofs.Common.{◌≡◌, ◌≢◌, ℕ, suc, ◌+◌, ◌-◌, ◌<◌, ◌≤◌, max, true, inl, inr, List, [], ◌∷◌, ◌++◌, length, get_or, refl, ap, sym, ◌∙◌, subst, arith, Option, Some, None}
+use Rattle.std.specs.Prelude.{replicate}
 use Rattle.std.specs.List.{AllByRecursion}
 use Rattle.std.proofs.lemmas.List.{length-set, length-replicate, get_or-replicate, get_or-set_same, get_or-set_other}
 use Rattle.si_model.specs.declared.log.Outcome.{Outcome}
@@ -11,7 +11,7 @@ use Rattle.si_model.specs.Lists.{Listed, Pairwise}
 use Rattle.si_model.specs.Rows.{Rows}
 use Rattle.si_model.specs.History.{stamp_of}
 use Rattle.si_model.specs.Tells.{Tell, number_in, commit_in}
-use Rattle.si_model.specs.Commits.{Published, published_at, published_of, published_from}
+use Rattle.si_model.specs.Commits.{Published, published_of, published_from}
 use Rattle.si_model.specs.Snapshots.{contains}
 use Rattle.si_model.specs.View.{View, by_snapshots}
 use Rattle.si_model.specs.Setting.{Setting, Asked}

@@ -1,12 +1,10 @@
 -- What stands of the commits and snapshots of logs that own them.
-use Rattle.std.proofs.Common.{◌≡◌, ℕ, zero, suc, ◌+◌, ◌-◌, ◌<◌, ◌≤◌, Bool, true, false, cond, ◌⊎◌, inl, inr, List, [], ◌∷◌, ◌++◌, length, get_or, drop, refl, ap, sym, ◌∙◌, subst, arith, Option, Some, None}
-use Rattle.std.specs.Prelude.{IsTrue, IfSome, is_some, slice_index_or, map, unwrap_or}
+use Rattle.std.proofs.Common.{◌≡◌, ℕ, suc, ◌+◌, ◌-◌, ◌<◌, ◌≤◌, true, ◌⊎◌, inl, inr, List, [], ◌∷◌, length, drop, refl, ap, sym, ◌∙◌, subst, arith, Option, Some, None}
+use Rattle.std.specs.Prelude.{IsTrue, IfSome, is_some, slice_index_or, map}
 use Rattle.std.specs.List.{AllByRecursion}
 use Rattle.std.proofs.lemmas.Bool.{cond_both, false≢true}
-use Rattle.std.proofs.lemmas.List.{length-append}
 use Rattle.si_model.specs.declared.row.Item.{Item}
 use Rattle.si_model.specs.declared.op.Op.{Op}
-use Rattle.si_model.specs.declared.log.Stamp.{Stamp}
 use Rattle.si_model.specs.declared.log.Lock.{Lock}
 use Rattle.si_model.specs.declared.log.Log.{Log}
 use Rattle.si_model.specs.declared.log.Attempt.{Attempt}
@@ -14,14 +12,13 @@ use Rattle.si_model.specs.declared.log.Outcome.{Outcome}
 use Rattle.si_model.specs.declared.log.Outcome.TheVariants.{Commit}
 use Rattle.si_model.specs.declared.log.Event.{Event}
 use Rattle.si_model.specs.declared.log.Event.TheVariants.{Tried}
-use Rattle.si_model.specs.declared.report.CommitLine.{CommitLine}
 use Rattle.si_model.specs.Lists.{Listed}
 use Rattle.si_model.specs.History.{stamp_at, stamp_of}
 use Rattle.si_model.specs.Tells.{Tell, prefix_in, number_in, commit_in, last_number, reads_in, locks_in, writes_in, snaps_in, ops_in, tells_from, tells_of}
-use Rattle.si_model.specs.Commits.{Published, published_in, published_at, published_of, published_from, published_by, snaps_of, snaps_by}
+use Rattle.si_model.specs.Commits.{Published, published_in, published_at, published_of, published_from, snaps_of, snaps_by}
 use Rattle.si_model.specs.Snapshots.{sum_above}
-use Rattle.si_model.specs.Consistency.{OwnsSnapshot, NumbersFollow, OwnsAll, AreOwned}
-use Rattle.si_model.proofs.ListLemmas.{All-listed, All-from_listed, All-append, listed_append_left, listed_append_right, listed_append_cases}
+use Rattle.si_model.specs.Consistency.{OwnsSnapshot, NumbersFollow, AreOwned}
+use Rattle.si_model.proofs.ListLemmas.{All-listed, All-from_listed, listed_append_left, listed_append_right, listed_append_cases}
 
 -- c is what the event of worker j publishes
 pub record IsPublishing (j : ℕ) (t : Tell) (c : Published) : Type 0 where

@@ -1,14 +1,11 @@
 -- Consistent logs with the history arranged from them are a run.
-use Rattle.std.proofs.Common.{◌≡◌, ℕ, suc, ◌+◌, ◌≤◌, Bool, true, false, inl, inr, List, [], ◌∷◌, length, refl, ap, sym, ◌∙◌, subst, arith, Some, None}
+use Rattle.std.proofs.Common.{◌≡◌, ℕ, suc, true, false, inl, inr, List, [], ◌∷◌, refl, ap, sym, ◌∙◌, subst, arith}
 use Rattle.std.specs.Prelude.{map}
-use Rattle.std.specs.List.{AllByRecursion}
 use Rattle.std.proofs.lemmas.List.{length-map}
 use Rattle.si_model.specs.declared.log.Log.{Log}
-use Rattle.si_model.specs.declared.report.CommitLine.{CommitLine}
 use Rattle.si_model.specs.declared.report.AuditRow.{AuditRow}
-use Rattle.si_model.specs.declared.report.Report.{Report}
 use Rattle.si_model.specs.Lists.{Listed}
-use Rattle.si_model.specs.Rows.{Rows, rows_of}
+use Rattle.si_model.specs.Rows.{rows_of}
 use Rattle.si_model.specs.State.{state_at}
 use Rattle.si_model.specs.History.{stamp_of}
 use Rattle.si_model.specs.Tells.{Tell, tells_of}
@@ -16,12 +13,11 @@ use Rattle.si_model.specs.Commits.{Published, entry_of, published_by}
 use Rattle.si_model.specs.Snapshots.{contains}
 use Rattle.si_model.specs.View.{View, by_history}
 use Rattle.si_model.specs.Setting.{Setting, Asked, by_script}
-use Rattle.si_model.specs.Arranged.{IsArranged}
 use Rattle.si_model.specs.Consistency.{AreConsistent, AreConsistentFor, AreSound, FollowPolicies, view_by}
 use Rattle.si_model.specs.Audit.{IsAudit}
 use Rattle.si_model.specs.Run.{times_listed, AreWorkerRuns, IsRun}
 use Rattle.si_model.proofs.ListLemmas.{All-from_listed, All-map}
-use Rattle.si_law.specs.Views.{Extends, AgreeOn, KeepCauses}
+use Rattle.si_law.specs.Views.{AgreeOn, KeepCauses}
 use Rattle.si_law.specs.Law.{ArrangedIsRun, ConsistentArrange, ConsistentNoCircle, StateIsNewest}
 use Rattle.si_law.proofs.Standing.{tell_stands, commit_ops}
 use Rattle.si_law.proofs.Counted.{IsOrdered, ordered_lines, from_history, length_within}

@@ -12,3 +12,4 @@ mod Agree
 mod ListedOnce
 mod Fulls
 mod TheLaw
+mod GuardBesideExample

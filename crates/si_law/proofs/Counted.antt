@@ -18,16 +18,21 @@ use Rattle.si_model.specs.Consistency.{NumbersFollow, AreOwned, IsWithin, HaveOr
 use Rattle.si_model.proofs.ListLemmas.{Pairwise-weaker, Pairwise-unmap, filter_front, filter_rest, length_filter_permutation, listed_permutation}
 use Rattle.si_model.proofs.SnapshotLemmas.{contains_is, contains_says, contains_at_most, at_most_by_sum, level_at_most, level_says}
 use Rattle.si_law.proofs.Lifts.{lifted}
-use Rattle.si_law.proofs.Standing.{worker_of, last_number-is}
+use Rattle.si_law.proofs.Standing.{worker_of, last_number-is, is_inside}
+
+-- the first commit stands before the second
+abbrev pub Before : ℕ → List (List Tell) → (Stamp → ℕ) → Published → Published → Type 0
+Before start tss depth c d = Precedes (level_of start tss) depth c.line d.line
 
 -- the published commits in the order of an arranged history
 pub record IsOrdered (start : ℕ) (tss : List (List Tell)) (history : List Published) : Type 0 where
   pub same : IsPermutation (published_by tss) history
   pub depth : Stamp → ℕ
   pub depths : AreDepths (level_of start tss) depth (published_by tss)
-  pub ordered : Pairwise (λ c d. Precedes (level_of start tss) depth c.line d.line) history
+  pub ordered : Pairwise (Before start tss depth) history
 
-pub ordered_lines : (start : ℕ) (tss : List (List Tell)) (lines : List CommitLine) → IsArranged start tss lines → (history : List Published) × IsOrdered start tss history × (map entry_of history ≡ lines)
+pub ordered_lines : (start : ℕ) (tss : List (List Tell)) (lines : List CommitLine) → IsArranged start tss lines
+    → (history : List Published) × IsOrdered start tss history × (map entry_of history ≡ lines)
 ordered_lines start tss lines a =
     let h = lifted entry_of (published_by tss) lines a.same in (
       h.0,
@@ -41,8 +46,8 @@ ordered_lines start tss lines a =
     )
 
 -- of commits numbered from m on, a snapshot with entry n contains those up to n
-pub count_one : (j m n : ℕ) (snap : List ℕ) → 0 < j → get_or snap (j - 1) 0 ≡ n → (cs : List Published) → AllByRecursion (λ c. c.line.worker ≡ j) cs → NumbersFollow m cs →
-    length (inside snap cs) ≡ min (n - m) (length cs)
+pub count_one : (j m n : ℕ) (snap : List ℕ) → 0 < j → get_or snap (j - 1) 0 ≡ n → (cs : List Published)
+    → AllByRecursion (λ c. c.line.worker ≡ j) cs → NumbersFollow m cs → length (inside snap cs) ≡ min (n - m) (length cs)
 count_one j m n snap p e [] w h = omega arith
 count_one j m n snap p e (c ∷ cs) w h =
     let rest = count_one j (suc m) n snap p e cs w.1 h.1 in
@@ -60,8 +65,8 @@ drop_cons [] (suc i) n ns e = (cc, cc)
 drop_cons (x ∷ xs) zero n ns e = (cc, cc)
 drop_cons (x ∷ xs) (suc i) n ns e = drop_cons xs i n ns e
 
-pub count_from : (start i : ℕ) (snap ns : List ℕ) (tss : List (List Tell)) → drop i snap ≡ ns → IsWithin start ns tss → AreOwned start (suc i) tss →
-    length (inside snap (published_from (suc i) tss)) ≡ sum_above start ns
+pub count_from : (start i : ℕ) (snap ns : List ℕ) (tss : List (List Tell)) → drop i snap ≡ ns → IsWithin start ns tss
+    → AreOwned start (suc i) tss → length (inside snap (published_from (suc i) tss)) ≡ sum_above start ns
 count_from start i snap [] [] e w h = refl
 count_from start i snap [] (ts ∷ tss) e w h = elim w [ ]
 count_from start i snap (n ∷ ns) [] e w h = elim w [ ]
@@ -70,11 +75,12 @@ count_from start i snap (n ∷ ns) (ts ∷ tss) e w h =
     let one = count_one (suc i) start n snap (omega arith) here (published_of (suc i) ts) (worker_of (suc i) ts) h.0.numbers in
     let rest = count_from start (suc i) snap ns tss (drop_cons snap i n ns e).1 w.2 h.1 in
     let last = last_number-is start (suc i) start ts h.0.snapshots h.0.numbers in
-    let apart = ap length (filter-append (λ c. contains snap (stamp_of c.line)) (published_of (suc i) ts) (published_from (suc (suc i)) tss)) in
+    let apart = ap length (filter-append (is_inside snap) (published_of (suc i) ts) (published_from (suc (suc i)) tss)) in
     let both = length-append (inside snap (published_of (suc i) ts)) (inside snap (published_from (suc (suc i)) tss)) in
     omega (arith, apart, both, one, rest, last, w.0, w.1)
 
-pub sum_within : (start j : ℕ) (ns : List ℕ) (tss : List (List Tell)) → IsWithin start ns tss → AreOwned start j tss → sum_above start ns ≤ length (published_from j tss)
+pub sum_within : (start j : ℕ) (ns : List ℕ) (tss : List (List Tell)) → IsWithin start ns tss → AreOwned start j tss
+    → sum_above start ns ≤ length (published_from j tss)
 sum_within start j [] [] w h = omega arith
 sum_within start j [] (ts ∷ tss) w h = elim w [ ]
 sum_within start j (n ∷ ns) [] w h = elim w [ ]
@@ -125,16 +131,16 @@ module _ (start : ℕ) (tss : List (List Tell)) (ok : HaveOrder start tss) (hist
   module _ (snap : List ℕ) (l : Listed snap (snaps_by tss)) where
     closed : Pairwise (λ c d. contains snap (stamp_of d.line) ≡ true → contains snap (stamp_of c.line) ≡ true) history
     closed =
-        Pairwise-weaker (λ c. Unit {0}) (λ c d. Precedes (level_of start tss) arr.depth c.line d.line) (λ c d. contains snap (stamp_of d.line) ≡ true → contains snap (stamp_of c.line) ≡ true)
+        Pairwise-weaker (λ c. Unit {0}) (Before start tss arr.depth) (λ c d. contains snap (stamp_of d.line) ≡ true → contains snap (stamp_of c.line) ≡ true)
         (λ c d _ _ p h. inside_level start tss ok snap l (stamp_of c.line) (omega (arith, precedes_level (level_of start tss) arr.depth c.line d.line p, level_inside start tss ok snap l (stamp_of d.line) h)))
         history (λ z _. tt) arr.ordered
 
     length_inside : length (inside snap history) ≡ sum_above start snap
-    length_inside = sym (length_filter_permutation (λ c. contains snap (stamp_of c.line)) (published_by tss) history arr.same) ∙ count_inside start tss ok snap l
+    length_inside = sym (length_filter_permutation (is_inside snap) (published_by tss) history arr.same) ∙ count_inside start tss ok snap l
 
     -- as many entries as the prefix says are the commits that the snapshot contains
     pub first_entries : take (sum_above start snap) history ≡ inside snap history
-    first_entries = rw (← length_inside) (sym (filter_front (λ c. contains snap (stamp_of c.line)) history closed))
+    first_entries = rw (← length_inside) (sym (filter_front (is_inside snap) history closed))
 
     pub later_entries : (c : Published) → Listed c (drop (sum_above start snap) history) → contains snap (stamp_of c.line) ≡ false
-    later_entries c h = filter_rest (λ c. contains snap (stamp_of c.line)) history closed c (rw length_inside h)
+    later_entries c h = filter_rest (is_inside snap) history closed c (rw length_inside h)

@@ -30,11 +30,13 @@ module _ (s : Setting) (asked : Asked) (v w : View) (j : ℕ) where
   outcome_without done t (Full l) q h = elim q [ ]
   outcome_without done t o q h = h
 
-  moved_attempt : (done : List Part) (t : Tell) (a : Attempt) (p : Option ℕ) → ((q : ℕ) → p ≡ Some q → Agrees v w t) → AnswersOn s asked v j t a p → FullOutcome v j done t a.outcome → FullOutcome w j done t a.outcome
+  moved_attempt : (done : List Part) (t : Tell) (a : Attempt) (p : Option ℕ) → ((q : ℕ) → p ≡ Some q → Agrees v w t)
+      → AnswersOn s asked v j t a p → FullOutcome v j done t a.outcome → FullOutcome w j done t a.outcome
   moved_attempt done t a None agree answers h = outcome_without done t a.outcome answers h
   moved_attempt done t a (Some p) agree answers h = moved_outcome done t (agree p refl) a.outcome h
 
-  moved_event : (done : List Part) (t : Tell) (e : Event) → AgreesAt v w t e → AnswersIn s asked v j t e → FullEvent v j done t e → FullEvent w j done t e
+  moved_event : (done : List Part) (t : Tell) (e : Event) → AgreesAt v w t e → AnswersIn s asked v j t e → FullEvent v j done t e
+      → FullEvent w j done t e
   moved_event done t (Tried a) agree answers h = moved_attempt done t a a.prefix agree answers h
   moved_event done t e agree answers h = h
 
@@ -45,7 +47,8 @@ module _ (s : Setting) (asked : Asked) (v w : View) (j : ℕ) where
         moved_event done t t.event (agree t l) (All-listed (λ t. AnswersIn s asked v j t t.event) ts t answers l) h
     moved_part done p among h = h
 
-    moved_fulls : (done parts : List Part) → ((t : Tell) → Listed t (flat_map tells_in parts) → Listed t ts) → FullsFollow v j done parts → FullsFollow w j done parts
+    moved_fulls : (done parts : List Part) → ((t : Tell) → Listed t (flat_map tells_in parts) → Listed t ts) → FullsFollow v j done parts
+        → FullsFollow w j done parts
     moved_fulls done [] among h = tt
     moved_fulls done (p ∷ ps) among h = (
       moved_part done p (λ t l. among t (listed_append_left (tells_in p) (flat_map tells_in ps) t l)) h.0,

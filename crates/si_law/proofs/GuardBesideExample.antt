@@ -111,7 +111,8 @@ guarder = record { line = entry 2 (item 0 0); snap = 0 ∷ 0 ∷ []; ops = Guard
 of_commits : (P : Published → Type 0) → P writer → P guarder → (c : Published) → Listed c commits → P c
 of_commits P a b c l = All-listed P commits c (a, (b, tt)) l
 
-of_pairs : (P : Published → Published → Type 0) → P writer writer → P writer guarder → P guarder writer → P guarder guarder → (c d : Published) → Listed c commits → Listed d commits → P c d
+of_pairs : (P : Published → Published → Type 0) → P writer writer → P writer guarder → P guarder writer → P guarder guarder
+    → (c d : Published) → Listed c commits → Listed d commits → P c d
 of_pairs P ww wg gw gg c d l k = of_commits (λ c. P c d) (of_commits (P writer) ww wg d k) (of_commits (P guarder) gw gg d k) c l
 
 -- the guarding commit has place 0

@@ -20,7 +20,8 @@ use Rattle.si_model.specs.Consistency.{HaveOrder, MayBePublished, share_key, Fir
 use Rattle.si_model.proofs.ListLemmas.{Pairwise-before, filter_listed, listed_any, listed_append_left, listed_append_right, listed_append_cases, map_listed}
 use Rattle.si_model.proofs.EvaluationLemmas.{done-guards}
 use Rattle.si_law.proofs.Counted.{IsOrdered, first_entries, later_entries, from_history}
-use Rattle.si_law.proofs.Order.{stands, writers_in_order, guards_in_order, state_agrees}
+use Rattle.si_law.proofs.Order.{stands, writers_in_order, guards_in_order, state_agrees, SeesWriter, SeesGuarded}
+use Rattle.si_law.proofs.Standing.{is_inside, AreOutside}
 
 listed_take_past : {X : Type 0} (xs : List X) (c : X) (ys : List X) (n : ℕ) → length xs < n → Listed c (take n (xs ++ c ∷ ys))
 listed_take_past [] c ys zero h = absurd (omega arith)
@@ -37,18 +38,21 @@ all_not : {X : Type 0} (p : X → Bool) (xs : List X) → ((x : X) → Listed x 
 all_not p [] h = refl
 all_not p (x ∷ xs) h = rw (h x (inl refl)) (all_not p xs (λ y l. h y (inr l)))
 
-none_writes_from : (keys : List Key) (cs : List Published) → ((d : Published) → Listed d cs → (key : Key) → Listed key keys → writes_key d.line.writes key ≡ false) → none_writes keys (map entry_of cs) ≡ true
+none_writes_from : (keys : List Key) (cs : List Published)
+    → ((d : Published) → Listed d cs → (key : Key) → Listed key keys → writes_key d.line.writes key ≡ false)
+    → none_writes keys (map entry_of cs) ≡ true
 none_writes_from keys [] h = refl
 none_writes_from keys (c ∷ cs) h = rw (all_not (writes_key c.line.writes) keys (h c (inl refl))) (none_writes_from keys cs (λ d l. h d (inr l)))
 
-module _ (start : ℕ) (tss : List (List Tell)) (ok : HaveOrder start tss) (own : (c : Published) → Listed c (published_by tss) → contains c.snap (stamp_of c.line) ≡ false)
+module _ (start : ℕ) (tss : List (List Tell)) (ok : HaveOrder start tss) (own : AreOutside tss)
     (first : FirstWins (published_by tss)) (keeps : (snap : List ℕ) → Listed snap (snaps_by tss) → KeepsGuards (published_by tss) snap) (history : List Published) (arr : IsOrdered start tss history)
     (widths : List ℕ) (rows : Rows) (jobs : List (List Op))
     (published : (c : Published) → Listed c (published_by tss) → MayBePublished widths rows (published_by tss) c)
     (jobs_in_range : (c : Published) → Listed c (published_by tss) → (1 ≤ c.line.txn) × (c.line.txn ≤ length jobs))
     (scripted : (c : Published) → Listed c (published_by tss) → c.ops ≡ slice_index_or jobs (c.line.txn - 1) []) where
   -- a commit may follow those before it
-  follows : (done : List Published) (c : Published) (rest : List Published) → history ≡ done ++ c ∷ rest → MayFollow widths rows jobs (map entry_of done) c.line
+  follows : (done : List Published) (c : Published) (rest : List Published) → history ≡ done ++ c ∷ rest
+      → MayFollow widths rows jobs (map entry_of done) c.line
   follows done c rest e =
       let here : Listed c history = rw e (listed_append_right done (c ∷ rest) c (inl refl)) in
       let l = from_history start tss ok history arr c here in
@@ -59,7 +63,7 @@ module _ (start : ℕ) (tss : List (List Tell)) (ok : HaveOrder start tss) (own 
       let short : p ≤ length done = elim (cases_lt (length done) p) [
         | inl lt ↦
             let in' : Listed c (inside c.snap history) = subst (Listed c) firsts (rw e (listed_take_past done c rest p lt)) in
-            absurd (true≢false (sym (filter_listed (λ d. contains c.snap (stamp_of d.line)) history c in').1 ∙ m.own))
+            absurd (true≢false (sym (filter_listed (is_inside c.snap) history c in').1 ∙ m.own))
         | inr ge ↦ ge
       ] in
       let firsts_done : take p done ≡ inside c.snap history = sym (take-append-le p done (c ∷ rest) short) ∙ ap (take p) (sym e) ∙ firsts in
@@ -72,8 +76,8 @@ module _ (start : ℕ) (tss : List (List Tell)) (ok : HaveOrder start tss) (own 
       let later : (d : Published) → Listed d (drop p done) → contains c.snap (stamp_of d.line) ≡ false = λ d k.
       later_entries start tss ok history arr c.snap s.snap d
       (rw (← s.prefix) (rw (e, drop-append-le p done (c ∷ rest) short) (listed_append_left (drop p done) (c ∷ rest) d k))) in
-      let writers : Pairwise (λ c d. share_key d c ≡ true → contains d.snap (stamp_of c.line) ≡ true) (done ++ c ∷ rest) = rw e at (writers_in_order start tss ok own first history arr) in
-      let guarders : Pairwise (λ c d. guards_write d c ≡ true → contains d.snap (stamp_of c.line) ≡ true) (done ++ c ∷ rest) = rw e at (guards_in_order start tss ok own first history arr keeps) in
+      let writers : Pairwise SeesWriter (done ++ c ∷ rest) = rw e at (writers_in_order start tss ok own first history arr) in
+      let guarders : Pairwise SeesGuarded (done ++ c ∷ rest) = rw e at (guards_in_order start tss ok own first history arr keeps) in
       record {
         job = jobs_in_range c l;
         prefix = rw length-map short;
@@ -86,10 +90,10 @@ module _ (start : ℕ) (tss : List (List Tell)) (ok : HaveOrder start tss) (own 
             true≢false (sym (elim (listed_append_cases (map item_key c.line.writes) m.guards key q) [
               | inl written ↦
                   let i = map_listed item_key c.line.writes key written in
-                  Pairwise-before (λ c d. share_key d c ≡ true → contains d.snap (stamp_of c.line) ≡ true) done c rest writers d (listed_drop p done d k)
+                  Pairwise-before SeesWriter done c rest writers d (listed_drop p done d k)
                   (listed_any (λ i. writes_key d.line.writes (item_key i)) c.line.writes i.0 i.1 (ap (writes_key d.line.writes) i.2 ∙ w))
               | inr guarded ↦
-                  Pairwise-before (λ c d. guards_write d c ≡ true → contains d.snap (stamp_of c.line) ≡ true) done c rest guarders d (listed_drop p done d k)
+                  Pairwise-before SeesGuarded done c rest guarders d (listed_drop p done d k)
                   (listed_any (λ key. writes_key d.line.writes key) (guard_keys c.ops) key (subst (Listed key) guards guarded) w)
             ]) ∙ later d k))));
       }

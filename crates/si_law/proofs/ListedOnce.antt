@@ -30,15 +30,16 @@ never : (b : Bool) → (b && false) ≡ false
 never true = refl
 never false = refl
 
-counted_in : (e : CommitLine) (j : ℕ) (t : Tell) (a : Attempt) (p : Option ℕ) (o : Outcome) →
-    cond ((e.worker == j) && elim (number_in o) [ None ↦ false | Some n ↦ n == e.number ] && elim p [ None ↦ false | Some q ↦ q == e.prefix ] && (a.txn == e.txn)) 1 0 ≡ length (filter (is_line e) (published_in j t a p o))
+counted_in : (e : CommitLine) (j : ℕ) (t : Tell) (a : Attempt) (p : Option ℕ) (o : Outcome)
+    → cond ((e.worker == j) && elim (number_in o) [ None ↦ false | Some n ↦ n == e.number ] && elim p [ None ↦ false | Some q ↦ q == e.prefix ] && (a.txn == e.txn)) 1 0 ≡ length (filter (is_line e) (published_in j t a p o))
 counted_in e j t a (Some p) (Commit n) =
     one_or_none ((e.worker == j) && (n == e.number) && (p == e.prefix) && (a.txn == e.txn))
     (record { line = record { worker = j; number = n; prefix = p; txn = a.txn; writes = t.writes }; snap = t.snap; ops = t.ops })
 counted_in e j t a None (Commit n) = ap (λ b. cond (b && (a.txn == e.txn)) 1 0) (never ((e.worker == j) && (n == e.number)))
 counted_in e j t a p o = ap (λ b. cond (b && elim p [ None ↦ false | Some q ↦ q == e.prefix ] && (a.txn == e.txn)) 1 0) (never (e.worker == j))
 
-counted_at : (e : CommitLine) (j : ℕ) (t : Tell) (v : Event) → cond (elim (attempt_in v) [ None ↦ false | Some a ↦ is_entry_of e j a ]) 1 0 ≡ length (filter (is_line e) (published_at j t v))
+counted_at : (e : CommitLine) (j : ℕ) (t : Tell) (v : Event)
+    → cond (elim (attempt_in v) [ None ↦ false | Some a ↦ is_entry_of e j a ]) 1 0 ≡ length (filter (is_line e) (published_at j t v))
 counted_at e j t (Tried a) = counted_in e j t a a.prefix a.outcome
 counted_at e j t v = refl
 
@@ -96,7 +97,8 @@ length_listed : {X : Type 0} (xs : List X) (x : X) → Listed x xs → 0 < lengt
 length_listed [] x l = elim l [ ]
 length_listed (y ∷ xs) x l = omega arith
 
-pub listed_once : (start : ℕ) (tss : List (List Tell)) → AreOwned start 1 tss → (c : Published) → Listed c (published_by tss) → times_listed c.line 1 tss ≡ 1
+pub listed_once : (start : ℕ) (tss : List (List Tell)) → AreOwned start 1 tss → (c : Published) → Listed c (published_by tss)
+    → times_listed c.line 1 tss ≡ 1
 listed_once start tss w c l =
     let e = c.line in
     let says : (d : Published) → is_line e d ≡ true → (d.line.worker ≡ e.worker) × (d.line.number ≡ e.number) = λ d t.

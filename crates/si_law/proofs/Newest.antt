@@ -16,7 +16,8 @@ use Rattle.si_model.proofs.ListLemmas.{All-listed}
 use Rattle.si_model.proofs.EvaluationLemmas.{same_key_says}
 
 -- a key that both write sets have
-pub share_from : (ws vs : List Item) (key : Key) → writes_key ws key ≡ true → writes_key vs key ≡ true → list_any (λ i. writes_key vs (item_key i)) ws ≡ true
+pub share_from : (ws vs : List Item) (key : Key) → writes_key ws key ≡ true → writes_key vs key ≡ true
+    → list_any (λ i. writes_key vs (item_key i)) ws ≡ true
 share_from [] vs key h k = absurd (false≢true h)
 share_from (i ∷ ws) vs key h k =
     elim (cases_Bool (same_key (item_key i) key)) [
@@ -55,7 +56,8 @@ module _ (key : Key) where
       (λ e. first c cs e (newest_in key cs) (newest_is cs))
       (λ e. second c cs e (newest_in key cs) (newest_is cs))
     where
-      first : (c : Published) (cs : List Published) → writes_key c.line.writes key ≡ true → (r : Option Published) → IsNewest key cs r → IsNewest key (c ∷ cs) (Some (newer_of c r))
+      first : (c : Published) (cs : List Published) → writes_key c.line.writes key ≡ true → (r : Option Published) → IsNewest key cs r
+          → IsNewest key (c ∷ cs) (Some (newer_of c r))
       first c cs e None n = (inl refl, e, λ d l w. elim l [ inl q ↦ omega (arith, ap (λ z. z.line.prefix) q) | inr r ↦ absurd (false≢true (sym (n d r) ∙ w)) ])
       first c cs e (Some d) n =
           cond_both (ltb d.line.prefix c.line.prefix) c d (λ z. IsNewest key (c ∷ cs) (Some z))
@@ -64,14 +66,15 @@ module _ (key : Key) where
           (λ t. let ge = ltb-false d.line.prefix c.line.prefix t in
           (inr n.0, n.1, λ x l w. elim l [ inl q ↦ omega (arith, ge, ap (λ z. z.line.prefix) q) | inr r ↦ n.2 x r w ]))
 
-      second : (c : Published) (cs : List Published) → writes_key c.line.writes key ≡ false → (r : Option Published) → IsNewest key cs r → IsNewest key (c ∷ cs) r
+      second : (c : Published) (cs : List Published) → writes_key c.line.writes key ≡ false → (r : Option Published) → IsNewest key cs r
+          → IsNewest key (c ∷ cs) r
       second c cs e None n = λ d l. elim l [ inl q ↦ ap (λ z. writes_key z.line.writes key) (sym q) ∙ e | inr r ↦ n d r ]
       second c cs e (Some d) n = (inr n.0, n.1, λ x l w. elim l [ inl q ↦ absurd (false≢true (sym e ∙ ap (λ z. writes_key z.line.writes key) q ∙ w)) | inr r ↦ n.2 x r w ])
 
   -- lists of the same members have the same newest, where a prefix names one writer
-  pub newest_same : (xs ys : List Published) → ((c : Published) → Listed c xs → Listed c ys) → ((c : Published) → Listed c ys → Listed c xs) →
-      ((c d : Published) → Listed c xs → Listed d xs → writes_key c.line.writes key ≡ true → writes_key d.line.writes key ≡ true → c.line.prefix ≡ d.line.prefix → c ≡ d) →
-      newest_in key xs ≡ newest_in key ys
+  pub newest_same : (xs ys : List Published) → ((c : Published) → Listed c xs → Listed c ys) → ((c : Published) → Listed c ys → Listed c xs)
+      → ((c d : Published) → Listed c xs → Listed d xs → writes_key c.line.writes key ≡ true → writes_key d.line.writes key ≡ true → c.line.prefix ≡ d.line.prefix → c ≡ d)
+      → newest_in key xs ≡ newest_in key ys
   newest_same xs ys to from one = same (newest_in key xs) (newest_in key ys) (newest_is xs) (newest_is ys)
     where
       same : (r s : Option Published) → IsNewest key xs r → IsNewest key ys s → r ≡ s
@@ -81,20 +84,25 @@ module _ (key : Key) where
       same (Some c) (Some d) m n = ap Some (one c d m.0 (from d n.0) m.1 n.1 (omega (arith, m.2 d (from d n.0) n.1, n.2 c (to c m.0) m.1)))
 
   -- the writers' prefixes rise
+  abbrev pub RisesBy : Published → Published → Type 0
+  RisesBy c d = writes_key c.line.writes key ≡ true → writes_key d.line.writes key ≡ true → c.line.prefix < d.line.prefix
+
   abbrev pub Rises : List Published → Type 0
-  Rises cs = Pairwise (λ c d. writes_key c.line.writes key ≡ true → writes_key d.line.writes key ≡ true → c.line.prefix < d.line.prefix) cs
+  Rises cs = Pairwise RisesBy cs
 
   -- where they rise, the newest is the last
   newest_last : (c : Published) (cs : List Published) → Rises (c ∷ cs) → (d : Published) → newest_in key cs ≡ Some d → newest_in key (c ∷ cs) ≡ Some d
   newest_last c cs r d e =
       let n : IsNewest key cs (Some d) = subst (IsNewest key cs) e (newest_is cs) in
       cond_both (writes_key c.line.writes key) (Some (newer_of c (newest_in key cs))) (newest_in key cs) (λ z. z ≡ Some d)
-      (λ w. let lt : c.line.prefix < d.line.prefix = All-listed (λ d. writes_key c.line.writes key ≡ true → writes_key d.line.writes key ≡ true → c.line.prefix < d.line.prefix) cs d r.0 n.0 w n.1 in
+      (λ w. let lt : c.line.prefix < d.line.prefix = All-listed (RisesBy c) cs d r.0 n.0 w n.1 in
       rw (e, le-ltb d.line.prefix c.line.prefix (omega arith)) refl)
       (λ w. e)
 
-  state_step : (rows : Rows) (c : Published) (cs : List Published) → Rises (c ∷ cs) → state_at (overlay c.line.writes rows) (map entry_of cs) key ≡ value_by (overlay c.line.writes rows) key (newest_in key cs) →
-      (n : Option Published) → newest_in key cs ≡ n → state_at (overlay c.line.writes rows) (map entry_of cs) key ≡ value_by rows key (newest_in key (c ∷ cs))
+  state_step : (rows : Rows) (c : Published) (cs : List Published) → Rises (c ∷ cs)
+      → state_at (overlay c.line.writes rows) (map entry_of cs) key ≡ value_by (overlay c.line.writes rows) key (newest_in key cs)
+      → (n : Option Published) → newest_in key cs ≡ n
+      → state_at (overlay c.line.writes rows) (map entry_of cs) key ≡ value_by rows key (newest_in key (c ∷ cs))
   state_step rows c cs r ih (Some d) e =
       let w : IsNewest key cs (Some d) = subst (IsNewest key cs) e (newest_is cs) in
       ih ∙ ap (value_by (overlay c.line.writes rows) key) e
@@ -113,8 +121,10 @@ module _ (key : Key) where
   stamp_or s None = s
   stamp_or s (Some c) = stamp_of c.line
 
-  stamp_step : (s : Stamp) (c : Published) (cs : List Published) → Rises (c ∷ cs) → newest_from (cond (writes_key c.line.writes key) (stamp_of c.line) s) key (map entry_of cs) ≡ stamp_or (cond (writes_key c.line.writes key) (stamp_of c.line) s) (newest_in key cs) →
-      (n : Option Published) → newest_in key cs ≡ n → newest_from (cond (writes_key c.line.writes key) (stamp_of c.line) s) key (map entry_of cs) ≡ stamp_or s (newest_in key (c ∷ cs))
+  stamp_step : (s : Stamp) (c : Published) (cs : List Published) → Rises (c ∷ cs)
+      → newest_from (cond (writes_key c.line.writes key) (stamp_of c.line) s) key (map entry_of cs) ≡ stamp_or (cond (writes_key c.line.writes key) (stamp_of c.line) s) (newest_in key cs)
+      → (n : Option Published) → newest_in key cs ≡ n
+      → newest_from (cond (writes_key c.line.writes key) (stamp_of c.line) s) key (map entry_of cs) ≡ stamp_or s (newest_in key (c ∷ cs))
   stamp_step s c cs r ih (Some d) e =
       ih ∙ ap (stamp_or (cond (writes_key c.line.writes key) (stamp_of c.line) s)) e ∙ ap (stamp_or s) (sym (newest_last c cs r d e))
   stamp_step s c cs r ih None e =

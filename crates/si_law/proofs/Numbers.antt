@@ -14,13 +14,14 @@ use Rattle.si_model.specs.Setting.{Setting, Asked}
 use Rattle.si_model.specs.Arranged.{level_of, Precedes}
 use Rattle.si_model.specs.Consistency.{NumbersFollow, AreOwned, HaveOrder, AreSound}
 use Rattle.si_model.proofs.ListLemmas.{All-listed, Pairwise-weaker, listed_append_cases, listed_append_left, listed_append_right}
-use Rattle.si_law.proofs.Standing.{worker_of, numbers_above, stamp_path}
-use Rattle.si_law.proofs.Counted.{IsOrdered, from_history, to_history, precedes_level}
+use Rattle.si_law.proofs.Standing.{worker_of, numbers_above, stamp_path, AreOutside}
+use Rattle.si_law.proofs.Counted.{IsOrdered, from_history, to_history, precedes_level, Before}
 use Rattle.si_law.proofs.Order.{precedes_apart, level_outside}
 use Rattle.si_law.proofs.OwnCommits.{own_before}
 
 -- of numbers that follow m, each up to a listed one is listed
-dense_one : (m : ℕ) (cs : List Published) → NumbersFollow m cs → (c : Published) → Listed c cs → (n : ℕ) → m < n → n ≤ c.line.number → (d : Published) × Listed d cs × (d.line.number ≡ n)
+dense_one : (m : ℕ) (cs : List Published) → NumbersFollow m cs → (c : Published) → Listed c cs → (n : ℕ) → m < n → n ≤ c.line.number
+    → (d : Published) × Listed d cs × (d.line.number ≡ n)
 dense_one m [] h c l n a b = elim l [ ]
 dense_one m (x ∷ cs) h c l n a b =
     elim (cases_eq n (suc m)) [
@@ -109,12 +110,12 @@ dense_from start i j (ts ∷ tss) w c l v =
     ]
 
 module _ (s : Setting) (asked : Asked) (rows : Rows) (tss : List (List Tell)) (one_log_each : length tss ≡ s.workers) (ok : HaveOrder s.start tss)
-    (own : (c : Published) → Listed c (published_by tss) → contains c.snap (stamp_of c.line) ≡ false)
+    (own : AreOutside tss)
     (sound : AreSound s asked (by_snapshots rows (published_by tss)) tss 1 tss) (history : List Published) (arr : IsOrdered s.start tss history) where
   -- one worker's numbers rise
   worker_rises : Pairwise RisesWith history
   worker_rises =
-      Pairwise-weaker (λ c. Listed c (published_by tss)) (λ c d. Precedes (level_of s.start tss) arr.depth c.line d.line) RisesWith
+      Pairwise-weaker (λ c. Listed c (published_by tss)) (Before s.start tss arr.depth) RisesWith
       (λ c d l k p e. elim (cases_lt c.line.number d.line.number) [
         | inl less ↦ less
         | inr ge ↦ elim (cases_eq d.line.number c.line.number) [

@@ -52,20 +52,23 @@ module _ (s : Setting) (rows : Rows) (cs : List Published) (tss : List (List Tel
   keeps_prefix n t known None k h = k
   keeps_prefix n t known (Some p) k h = keeps_at_most j n known t.snap k h.1
 
-  keeps_outcome : (n : ℕ) (done : List Tell) (t : Tell) (known : List ℕ) (o : Outcome) → Keeps j known n → SeesOutcome known o → OutcomeCause s v tss j done t o → number_in o ≡ None → Keeps j (known_by j known o) n
+  keeps_outcome : (n : ℕ) (done : List Tell) (t : Tell) (known : List ℕ) (o : Outcome) → Keeps j known n → SeesOutcome known o
+      → OutcomeCause s v tss j done t o → number_in o ≡ None → Keeps j (known_by j known o) n
   keeps_outcome n done t known (Commit number) k h c q = absurd (cc)
   keeps_outcome n done t known (Again i first second) k h c q = keeps_other j n i second known positive h.0 c.0 k
   keeps_outcome n done t known (TooOld i entry horizon) k h c q = keeps_other j n i (max (get_or known (i - 1) 0) horizon) known positive h.0 c.0 k
   keeps_outcome n done t known o k h c q = k
 
-  keeps_after : (n : ℕ) (done : List Tell) (t : Tell) (known : List ℕ) (e : Event) → Keeps j known n → SeesEvent v t known e → EventCause s v tss j done t e → commit_in e ≡ None → Keeps j (known_after v j t known e) n
+  keeps_after : (n : ℕ) (done : List Tell) (t : Tell) (known : List ℕ) (e : Event) → Keeps j known n → SeesEvent v t known e
+      → EventCause s v tss j done t e → commit_in e ≡ None → Keeps j (known_after v j t known e) n
   keeps_after n done t known (Tried a) k h c q = keeps_outcome n done t (known_with v t known a.prefix) a.outcome (keeps_prefix n t known a.prefix k h.0) h.1 c q
   keeps_after n done t known (Collected b p entries cut) k h c q = keeps_at_most j n known t.snap k h.1
   keeps_after n done t known (CollectAgain b i first second) k h c q = keeps_other j n i second known positive h.0 c.0 k
   keeps_after n done t known e k h c q = k
 
   -- before a commit
-  sees_commit : (n : ℕ) (t : Tell) (known : List ℕ) (c : Published) → IsPublishing j t c → Keeps j known n → SeesEvent v t known t.event → Keeps j c.snap n × Keeps j (known_after v j t known t.event) c.line.number
+  sees_commit : (n : ℕ) (t : Tell) (known : List ℕ) (c : Published) → IsPublishing j t c → Keeps j known n → SeesEvent v t known t.event
+      → Keeps j c.snap n × Keeps j (known_after v j t known t.event) c.line.number
   sees_commit n t known c p k h =
       let at : SeesEvent v t known (Tried p.attempt) = subst (SeesEvent v t known) p.event h in
       let seen : SeesPrefix v t known (Some c.line.prefix) = subst (SeesPrefix v t known) p.prefix at.0 in
@@ -80,8 +83,9 @@ module _ (s : Setting) (rows : Rows) (cs : List Published) (tss : List (List Tel
   abbrev SeesOwn : Published → Published → Type 0
   SeesOwn c d = c.line.number ≤ get_or d.snap (j - 1) 0
 
-  sees_own : (start n : ℕ) (done : List Tell) (known : List ℕ) (ts : List Tell) → Keeps j known n → SeesForward v j known ts → HaveCausesAfter s v tss j done ts → AllByRecursion (OwnsSnapshot start) ts → NumbersFollow n (published_of j ts) →
-      AllByRecursion (λ c. n ≤ get_or c.snap (j - 1) 0) (published_of j ts) × Pairwise SeesOwn (published_of j ts)
+  sees_own : (start n : ℕ) (done : List Tell) (known : List ℕ) (ts : List Tell) → Keeps j known n → SeesForward v j known ts
+      → HaveCausesAfter s v tss j done ts → AllByRecursion (OwnsSnapshot start) ts → NumbersFollow n (published_of j ts)
+      → AllByRecursion (λ c. n ≤ get_or c.snap (j - 1) 0) (published_of j ts) × Pairwise SeesOwn (published_of j ts)
   sees_own start n done known [] k h c o f = (tt, tt)
   sees_own start n done known (t ∷ ts) k h c o f =
       elim (publishes j t t.event o.0.commit) [
@@ -99,7 +103,8 @@ module _ (s : Setting) (rows : Rows) (cs : List Published) (tss : List (List Tel
       ]
 
   -- commits stand in the order of their numbers
-  pair_by_number : (n : ℕ) (ds : List Published) → NumbersFollow n ds → Pairwise SeesOwn ds → (c d : Published) → Listed c ds → Listed d ds → c.line.number < d.line.number → SeesOwn c d
+  pair_by_number : (n : ℕ) (ds : List Published) → NumbersFollow n ds → Pairwise SeesOwn ds → (c d : Published) → Listed c ds → Listed d ds
+      → c.line.number < d.line.number → SeesOwn c d
   pair_by_number n [] f p c d l k lt = elim l [ ]
   pair_by_number n (x ∷ ds) f p c d l k lt =
       elim k [
@@ -114,9 +119,10 @@ module _ (s : Setting) (rows : Rows) (cs : List Published) (tss : List (List Tel
       ]
 
 -- of one worker's commits the later has the earlier in its snapshot
-pub own_before : (s : Setting) (asked : Asked) (rows : Rows) (cs : List Published) (all : List (List Tell)) (j : ℕ) (tss : List (List Tell)) → 0 < j → j + length tss ≤ suc s.workers →
-    AreOwned s.start j tss → AreSound s asked (by_snapshots rows cs) all j tss → (c d : Published) → Listed c (published_from j tss) → Listed d (published_from j tss) →
-    c.line.worker ≡ d.line.worker → c.line.number < d.line.number → contains d.snap (stamp_of c.line) ≡ true
+pub own_before : (s : Setting) (asked : Asked) (rows : Rows) (cs : List Published) (all : List (List Tell)) (j : ℕ) (tss : List (List Tell))
+    → 0 < j → j + length tss ≤ suc s.workers → AreOwned s.start j tss → AreSound s asked (by_snapshots rows cs) all j tss
+    → (c d : Published) → Listed c (published_from j tss) → Listed d (published_from j tss) → c.line.worker ≡ d.line.worker
+    → c.line.number < d.line.number → contains d.snap (stamp_of c.line) ≡ true
 own_before s asked rows cs all j [] p w o h c d l k e lt = elim l [ ]
 own_before s asked rows cs all j (ts ∷ tss) p w o h c d l k e lt =
     elim (listed_append_cases (published_of j ts) (published_from (suc j) tss) c l) [

@@ -1,8 +1,9 @@
 -- What stands of the commits and snapshots of logs that own them.
-use Rattle.std.proofs.Common.{◌≡◌, ℕ, suc, ◌+◌, ◌-◌, ◌<◌, ◌≤◌, true, ◌⊎◌, inl, inr, List, [], ◌∷◌, length, drop, refl, ap, sym, ◌∙◌, subst, arith, Option, Some, None}
-use Rattle.std.specs.Prelude.{IsTrue, IfSome, is_some, slice_index_or, map}
+use Rattle.std.proofs.Common.{Bool, false, ◌≡◌, ℕ, suc, ◌+◌, ◌-◌, ◌<◌, ◌≤◌, true, ◌⊎◌, inl, inr, List, [], ◌∷◌, length, drop, refl, ap, sym, ◌∙◌, subst, arith, Option, Some, None}
+use Rattle.std.specs.Prelude.{◌==◌, IsTrue, IfSome, is_some, slice_index_or, map}
 use Rattle.std.specs.List.{AllByRecursion}
 use Rattle.std.proofs.lemmas.Bool.{cond_both, false≢true}
+use Rattle.si_model.specs.declared.row.Key.{Key}
 use Rattle.si_model.specs.declared.row.Item.{Item}
 use Rattle.si_model.specs.declared.op.Op.{Op}
 use Rattle.si_model.specs.declared.log.Lock.{Lock}
@@ -13,12 +14,27 @@ use Rattle.si_model.specs.declared.log.Outcome.TheVariants.{Commit}
 use Rattle.si_model.specs.declared.log.Event.{Event}
 use Rattle.si_model.specs.declared.log.Event.TheVariants.{Tried}
 use Rattle.si_model.specs.Lists.{Listed}
+use Rattle.si_model.specs.Rows.{writes_key}
 use Rattle.si_model.specs.History.{stamp_at, stamp_of}
 use Rattle.si_model.specs.Tells.{Tell, prefix_in, number_in, commit_in, last_number, reads_in, locks_in, writes_in, snaps_in, ops_in, tells_from, tells_of}
-use Rattle.si_model.specs.Commits.{Published, published_in, published_at, published_of, published_from, snaps_of, snaps_by}
-use Rattle.si_model.specs.Snapshots.{sum_above}
+use Rattle.si_model.specs.Commits.{Published, published_in, published_at, published_of, published_from, published_by, snaps_of, snaps_by}
+use Rattle.si_model.specs.Snapshots.{contains, sum_above}
 use Rattle.si_model.specs.Consistency.{OwnsSnapshot, NumbersFollow, AreOwned}
 use Rattle.si_model.proofs.ListLemmas.{All-listed, All-from_listed, listed_append_left, listed_append_right, listed_append_cases}
+
+abbrev pub is_of : ℕ → Published → Bool
+is_of j c = c.line.worker == j
+
+abbrev pub is_writer : Key → Published → Bool
+is_writer key c = writes_key c.line.writes key
+
+-- is the commit in the snapshot
+abbrev pub is_inside : List ℕ → Published → Bool
+is_inside snap c = contains snap (stamp_of c.line)
+
+-- no commit is in its own snapshot
+abbrev pub AreOutside : List (List Tell) → Type 0
+AreOutside tss = (c : Published) → Listed c (published_by tss) → contains c.snap (stamp_of c.line) ≡ false
 
 -- c is what the event of worker j publishes
 pub record IsPublishing (j : ℕ) (t : Tell) (c : Published) : Type 0 where
@@ -32,7 +48,8 @@ pub record IsPublishing (j : ℕ) (t : Tell) (c : Published) : Type 0 where
   pub snap : c.snap ≡ t.snap
   pub ops : c.ops ≡ t.ops
 
-publishing_in : (j : ℕ) (t : Tell) (a : Attempt) (p : Option ℕ) (o : Outcome) (c : Published) → Listed c (published_in j t a p o) → t.event ≡ Tried a → a.prefix ≡ p → a.outcome ≡ o → IsPublishing j t c
+publishing_in : (j : ℕ) (t : Tell) (a : Attempt) (p : Option ℕ) (o : Outcome) (c : Published) → Listed c (published_in j t a p o)
+    → t.event ≡ Tried a → a.prefix ≡ p → a.outcome ≡ o → IsPublishing j t c
 publishing_in j t a (Some p) (Commit n) c l e q r = elim l [
   | inl h ↦ record {
     attempt = a;
@@ -82,7 +99,8 @@ snap_listed (x ∷ ts) t l h =
     (λ e. elim l [ inl q ↦ absurd (false≢true (sym e ∙ ap (λ z. is_some (prefix_in z.event)) q ∙ h)) | inr r ↦ snap_listed ts t r h ])
 
 -- an event with a prefix lists its snapshot, and the prefix is the snapshot's sum
-pub tell_stands : (start j : ℕ) (tss : List (List Tell)) → AreOwned start j tss → (ts : List Tell) → Listed ts tss → (t : Tell) → Listed t ts → (p : ℕ) → prefix_in t.event ≡ Some p → Listed t.snap (snaps_by tss) × (p ≡ sum_above start t.snap)
+pub tell_stands : (start j : ℕ) (tss : List (List Tell)) → AreOwned start j tss → (ts : List Tell) → Listed ts tss → (t : Tell)
+    → Listed t ts → (p : ℕ) → prefix_in t.event ≡ Some p → Listed t.snap (snaps_by tss) × (p ≡ sum_above start t.snap)
 tell_stands start j [] w ts l t k p e = elim l [ ]
 tell_stands start j (us ∷ tss) w ts l t k p e =
     elim l [
@@ -100,7 +118,8 @@ pub record IsStanding (start : ℕ) (tss : List (List Tell)) (c : Published) : T
   pub prefix : c.line.prefix ≡ sum_above start c.snap
 
 -- the log of a listed commit's worker
-pub published_log : (j : ℕ) (tss : List (List Tell)) (c : Published) → Listed c (published_from j tss) → (ts : List Tell) × Listed ts tss × Listed c (published_of c.line.worker ts)
+pub published_log : (j : ℕ) (tss : List (List Tell)) (c : Published) → Listed c (published_from j tss)
+    → (ts : List Tell) × Listed ts tss × Listed c (published_of c.line.worker ts)
 published_log j [] c l = elim l [ ]
 published_log j (ts ∷ tss) c l =
     elim (listed_append_cases (published_of j ts) (published_from (suc j) tss) c l) [
@@ -111,7 +130,8 @@ published_log j (ts ∷ tss) c l =
 pub prefix_at : (j : ℕ) (t : Tell) (c : Published) → IsPublishing j t c → prefix_in t.event ≡ Some c.line.prefix
 prefix_at j t c p = ap prefix_in p.event ∙ p.prefix
 
-pub standing : (start j : ℕ) (tss : List (List Tell)) → AreOwned start j tss → (c : Published) → Listed c (published_from j tss) → IsStanding start tss c
+pub standing : (start j : ℕ) (tss : List (List Tell)) → AreOwned start j tss → (c : Published) → Listed c (published_from j tss)
+    → IsStanding start tss c
 standing start j tss w c l =
     let log = published_log j tss c l in
     let p = publishing c.line.worker log.0 c log.2 in
@@ -127,7 +147,8 @@ pub numbers_above : (m : ℕ) (cs : List Published) → NumbersFollow m cs → A
 numbers_above m [] h = tt
 numbers_above m (c ∷ cs) h = (omega (arith, h.0), All-from_listed (λ c. m < c.line.number) cs (λ x l. omega (arith, All-listed (λ c. suc m < c.line.number) cs x (numbers_above (suc m) cs h.1) l)))
 
-one_number : (m : ℕ) (cs : List Published) → NumbersFollow m cs → (c d : Published) → Listed c cs → Listed d cs → c.line.number ≡ d.line.number → c ≡ d
+one_number : (m : ℕ) (cs : List Published) → NumbersFollow m cs → (c d : Published) → Listed c cs → Listed d cs
+    → c.line.number ≡ d.line.number → c ≡ d
 one_number m [] h c d l k e = elim l [ ]
 one_number m (x ∷ cs) h c d l k e =
     let more = numbers_above (suc m) cs h.1 in
@@ -137,7 +158,8 @@ one_number m (x ∷ cs) h c d l k e =
     ]
 
 -- a stamp names one commit
-pub one_stamp : (start j : ℕ) (tss : List (List Tell)) → AreOwned start j tss → (c d : Published) → Listed c (published_from j tss) → Listed d (published_from j tss) → stamp_of c.line ≡ stamp_of d.line → c ≡ d
+pub one_stamp : (start j : ℕ) (tss : List (List Tell)) → AreOwned start j tss → (c d : Published) → Listed c (published_from j tss)
+    → Listed d (published_from j tss) → stamp_of c.line ≡ stamp_of d.line → c ≡ d
 one_stamp start j [] w c d l k e = elim l [ ]
 one_stamp start j (ts ∷ tss) w c d l k e =
     let same : c.line.worker ≡ d.line.worker = ap (λ s. s.thread) e in
@@ -156,8 +178,8 @@ one_stamp start j (ts ∷ tss) w c d l k e =
 abbrev pub Publishes : ℕ → Tell → Event → Type 0
 Publishes j t e = ((published_at j t e ≡ []) × (commit_in e ≡ None)) ⊎ ((c : Published) × (published_at j t e ≡ c ∷ []) × (commit_in e ≡ Some c.line.number))
 
-publishes_in : (j : ℕ) (t : Tell) (a : Attempt) (p : Option ℕ) (o : Outcome) → (IsTrue (is_some (number_in o)) → IsTrue (is_some p)) →
-    ((published_in j t a p o ≡ []) × (number_in o ≡ None)) ⊎ ((c : Published) × (published_in j t a p o ≡ c ∷ []) × (number_in o ≡ Some c.line.number))
+publishes_in : (j : ℕ) (t : Tell) (a : Attempt) (p : Option ℕ) (o : Outcome) → (IsTrue (is_some (number_in o)) → IsTrue (is_some p))
+    → ((published_in j t a p o ≡ []) × (number_in o ≡ None)) ⊎ ((c : Published) × (published_in j t a p o ≡ c ∷ []) × (number_in o ≡ Some c.line.number))
 publishes_in j t a (Some p) (Commit n) h = inr (record { line = record { worker = j; number = n; prefix = p; txn = a.txn; writes = t.writes }; snap = t.snap; ops = t.ops }, refl, refl)
 publishes_in j t a None (Commit n) h = absurd (false≢true (h refl))
 publishes_in j t a p o h = inl (refl, refl)
@@ -167,7 +189,8 @@ publishes j t (Tried a) h = publishes_in j t a a.prefix a.outcome h
 publishes j t e h = inl (refl, refl)
 
 -- the last number counts the commits
-pub last_number-is : (start j last : ℕ) (ts : List Tell) → AllByRecursion (OwnsSnapshot start) ts → NumbersFollow last (published_of j ts) → last_number last ts ≡ last + length (published_of j ts)
+pub last_number-is : (start j last : ℕ) (ts : List Tell) → AllByRecursion (OwnsSnapshot start) ts → NumbersFollow last (published_of j ts)
+    → last_number last ts ≡ last + length (published_of j ts)
 last_number-is start j last [] w n = omega arith
 last_number-is start j last (t ∷ ts) w n =
     elim (publishes j t t.event w.0.commit) [
@@ -180,7 +203,8 @@ last_number-is start j last (t ∷ ts) w n =
 
 -- ---- operations
 
-tell_ops : (jobs : List (List Op)) (es : List Event) (rs : List Item) (ls : List Lock) (ws : List Item) (ss : List (List ℕ)) (t : Tell) → Listed t (tells_from jobs es rs ls ws ss) → t.ops ≡ ops_in jobs t.event
+tell_ops : (jobs : List (List Op)) (es : List Event) (rs : List Item) (ls : List Lock) (ws : List Item) (ss : List (List ℕ)) (t : Tell)
+    → Listed t (tells_from jobs es rs ls ws ss) → t.ops ≡ ops_in jobs t.event
 tell_ops jobs [] rs ls ws ss t l = elim l [ ]
 tell_ops jobs (e ∷ es) rs ls ws ss t l = elim l [
   | inl q ↦ sym (ap (λ z. z.ops) q) ∙ ap (λ z. ops_in jobs z.event) q
@@ -188,7 +212,8 @@ tell_ops jobs (e ∷ es) rs ls ws ss t l = elim l [
 ]
 
 -- a commit's operations are those of its transaction
-pub commit_ops : (jobs : List (List Op)) (j : ℕ) (logs : List Log) (c : Published) → Listed c (published_from j (map (tells_of jobs) logs)) → c.ops ≡ slice_index_or jobs (c.line.txn - 1) []
+pub commit_ops : (jobs : List (List Op)) (j : ℕ) (logs : List Log) (c : Published) → Listed c (published_from j (map (tells_of jobs) logs))
+    → c.ops ≡ slice_index_or jobs (c.line.txn - 1) []
 commit_ops jobs j [] c l = elim l [ ]
 commit_ops jobs j (log ∷ logs) c l =
     elim (listed_append_cases (published_of j (tells_of jobs log)) (published_from (suc j) (map (tells_of jobs) logs)) c l) [

@@ -56,7 +56,8 @@ module _ (s : Setting) (asked : Asked) (tss : List (List Tell)) (ok : AreConsist
         agrees s.start tss ok.order own ok.first_wins history arr (rows_of s.rows) s.workers t p e here.0 here.1
         (length_within s.start t.snap tss (ok.order.within t.snap here.0) ∙ ok.one_log_each)
 
-    worker_runs : asked ≡ by_script s → (j : ℕ) (more : List (List Tell)) → ((ts : List Tell) → Listed ts more → Listed ts tss) → AreSound s asked (view_by s tss) tss j more → FollowPolicies s (view_by s tss) j more → AreWorkerRuns s w tss j more
+    worker_runs : asked ≡ by_script s → (j : ℕ) (more : List (List Tell)) → ((ts : List Tell) → Listed ts more → Listed ts tss)
+        → AreSound s asked (view_by s tss) tss j more → FollowPolicies s (view_by s tss) j more → AreWorkerRuns s w tss j more
     worker_runs script j [] among sound policies = tt
     worker_runs script j (ts ∷ more) among sound policies =
         let agree = agree_on ts (among ts (inl refl)) in
@@ -71,8 +72,10 @@ module _ (s : Setting) (asked : Asked) (tss : List (List Tell)) (ok : AreConsist
           worker_runs script (suc j) more (λ us l. among us (inr l)) sound.1 policies.1,
         )
 
-run_of : (s : Setting) (logs : List Log) (history : List Published) (audit : List AuditRow) → AreConsistentFor s logs → IsOrdered s.start (map (tells_of s.jobs) logs) history
-    → IsAudit (state_at (rows_of s.rows) (map entry_of history)) (map (tells_of s.jobs) logs) audit → IsRun s (record { history = map entry_of history; logs = logs; audit = audit })
+run_of : (s : Setting) (logs : List Log) (history : List Published) (audit : List AuditRow) → AreConsistentFor s logs
+    → IsOrdered s.start (map (tells_of s.jobs) logs) history
+    → IsAudit (state_at (rows_of s.rows) (map entry_of history)) (map (tells_of s.jobs) logs) audit
+    → IsRun s (record { history = map entry_of history; logs = logs; audit = audit })
 run_of s logs history audit consistent arr is_audit =
     let tss = map (tells_of s.jobs) logs in
     let ok = consistent.calls in

@@ -1,7 +1,7 @@
 -- The view by the arranged history and the view by the snapshots say the same.
 use Rattle.std.proofs.Common.{◌≡◌, ℕ, zero, suc, ◌+◌, ◌-◌, ◌<◌, Bool, true, false, cond, inl, inr, List, [], ◌∷◌, length, get_or, take, drop, refl, ap, sym, ◌∙◌, subst, arith, eqb, Some}
 use Rattle.std.specs.Prelude.{filter, map, unwrap_or, ◌&&◌, ◌||◌}
-use Rattle.std.specs.List.{list_any}
+use Rattle.std.specs.List.{AllByRecursion, list_any}
 use Rattle.std.proofs.Math.Path.{fun_ext}
 use Rattle.std.proofs.lemmas.Bool.{false≢true, true≢false, cases_Bool, false_from_ne_true, eq-eqb, ne_eqb, or_parts}
 use Rattle.std.proofs.lemmas.List.{length-append, length-map, take-map}
@@ -18,12 +18,12 @@ use Rattle.si_model.specs.Tells.{Tell, prefix_in, prefix_of}
 use Rattle.si_model.specs.Commits.{Published, entry_of, published_of, published_from, published_by, snaps_by}
 use Rattle.si_model.specs.Snapshots.{contains, inside, sum_above, is_after}
 use Rattle.si_model.specs.View.{View, by_history, by_snapshots}
-use Rattle.si_model.specs.Consistency.{AreOwned, IsWithin, HaveOrder, share_key, FirstWins}
+use Rattle.si_model.specs.Consistency.{AreOwned, IsWithin, HaveOrder, FirstWins}
 use Rattle.si_model.proofs.ListLemmas.{Pairwise-weaker, Pairwise-filter, All-listed, All-from_listed, filter-all, filter-none, filter_listed, listed_filter, length_filter_permutation, listed_map, map_listed, any_listed, listed_any}
 use Rattle.si_model.proofs.SnapshotLemmas.{contains_at_most}
 use Rattle.si_law.specs.Views.{Extends, Agrees}
 use Rattle.si_law.proofs.Moved.{same_stamp-refl, same_stamp_says}
-use Rattle.si_law.proofs.Standing.{worker_of, worker_from, last_number-is, is_of, is_writer, is_inside, AreOutside}
+use Rattle.si_law.proofs.Standing.{worker_of, worker_from, last_number-is, is_of, is_writer, is_inside, AreOutside, worker_is}
 use Rattle.si_law.proofs.Counted.{IsOrdered, count_one, drop_cons, first_entries, from_history, to_history}
 use Rattle.si_law.proofs.Newest.{share_from}
 use Rattle.si_law.proofs.Order.{stands, before_prefix, writers_in_order, to_inside, from_inside, state_agrees, stamp_agrees, SeesWriter}
@@ -47,7 +47,9 @@ same_bool false false f g = refl
 same_any : {X : Type 0} (p : X → Bool) (xs ys : List X) → ((x : X) → Listed x xs → Listed x ys) → ((x : X) → Listed x ys → Listed x xs)
     → list_any p xs ≡ list_any p ys
 same_any p xs ys to from =
-    same_bool (list_any p xs) (list_any p ys) (λ h. let r = any_listed p xs h in listed_any p ys r.0 (to r.0 r.1) r.2) (λ h. let r = any_listed p ys h in listed_any p xs r.0 (from r.0 r.1) r.2)
+    same_bool (list_any p xs) (list_any p ys)
+    (λ h. let r = any_listed p xs h in listed_any p ys r.0 (to r.0 r.1) r.2)
+    (λ h. let r = any_listed p ys h in listed_any p xs r.0 (from r.0 r.1) r.2)
 
 mapped : {X Y : Type 0} (f : X → Y) (xs ys : List X) → ((x : X) → Listed x xs → Listed x ys) → (y : Y) → Listed y (map f xs) → Listed y (map f ys)
 mapped f xs ys to y l = let r = map_listed f xs y l in subst (λ z. Listed z (map f ys)) r.2 (listed_map f ys r.0 (to r.0 r.1))
@@ -62,6 +64,12 @@ count_filter j (c ∷ cs) =
       | inr e ↦ rw (e, count_filter j cs) (omega arith)
     ]
 
+all_of : (j : ℕ) (cs : List Published) → ((c : Published) → Listed c cs → c.line.worker ≡ j) → filter (is_of j) cs ≡ cs
+all_of j cs h = filter-all (is_of j) cs (All-from_listed (λ c. is_of j c ≡ true) cs (λ c l. eq-eqb c.line.worker j (h c l)))
+
+none_of : (j : ℕ) (cs : List Published) → ((c : Published) → Listed c cs → c.line.worker ≡ j → ⊥) → filter (is_of j) cs ≡ []
+none_of j cs h = filter-none (is_of j) cs (All-from_listed (λ c. is_of j c ≡ false) cs (λ c l. ne_eqb c.line.worker j (h c l)))
+
 -- of the commits inside a snapshot, those of worker i + 1 + k are as many as its entry says
 count_worker : (start i : ℕ) (snap ns : List ℕ) (tss : List (List Tell)) → drop i snap ≡ ns → IsWithin start ns tss
     → AreOwned start (suc i) tss → (k : ℕ) → k < length ns
@@ -75,10 +83,10 @@ count_worker start i snap (n ∷ ns) (ts ∷ tss) e w h zero lt =
     let here : get_or snap (suc i - 1) 0 ≡ n = let q : suc i - 1 ≡ i = omega arith in rw q (drop_cons snap i n ns e).0 in
     let one = count_one (suc i) start n snap (omega arith) here A (worker_of (suc i) ts) h.0.numbers in
     let last = last_number-is start (suc i) start ts h.0.snapshots h.0.numbers in
-    let mine : filter (is_of (suc i + 0)) (filter p A) ≡ filter p A = filter-all (is_of (suc i + 0)) (filter p A) (All-from_listed (λ c. is_of (suc i + 0) c ≡ true) (filter p A) (λ c l.
-    eq-eqb c.line.worker (suc i + 0) (omega (arith, All-listed (λ c. c.line.worker ≡ suc i) A c (worker_of (suc i) ts) (filter_listed p A c l).0)))) in
-    let none : filter (is_of (suc i + 0)) (filter p B) ≡ [] = filter-none (is_of (suc i + 0)) (filter p B) (All-from_listed (λ c. is_of (suc i + 0) c ≡ false) (filter p B) (λ c l.
-    ne_eqb c.line.worker (suc i + 0) (λ q. omega (arith, q, worker_from (suc (suc i)) tss c (filter_listed p B c l).0)))) in
+    let mine : filter (is_of (suc i + 0)) (filter p A) ≡ filter p A =
+    all_of (suc i + 0) (filter p A) (λ c l. omega (arith, worker_is (suc i) ts c (filter_listed p A c l).0)) in
+    let none : filter (is_of (suc i + 0)) (filter p B) ≡ [] =
+    none_of (suc i + 0) (filter p B) (λ c l q. omega (arith, q, worker_from (suc (suc i)) tss c (filter_listed p B c l).0)) in
     rw (filter-append p A B, filter-append (is_of (suc i + 0)) (filter p A) (filter p B), mine, none)
     (omega (arith, length-append (filter p A) [], one, last, w.0, w.1))
 count_worker start i snap (n ∷ ns) (ts ∷ tss) e w h (suc k) lt =
@@ -87,17 +95,18 @@ count_worker start i snap (n ∷ ns) (ts ∷ tss) e w h (suc k) lt =
     let B = published_from (suc (suc i)) tss in
     let rest = count_worker start (suc i) snap ns tss (drop_cons snap i n ns e).1 w.2 h.1 k (omega arith) in
     let same : suc (suc i) + k ≡ suc i + suc k = omega arith in
-    let rest' : start + length (filter (is_of (suc i + suc k)) (filter p B)) ≡ get_or ns k 0 = subst (λ j. start + length (filter (is_of j) (filter p B)) ≡ get_or ns k 0) same rest in
-    let none : filter (is_of (suc i + suc k)) (filter p A) ≡ [] = filter-none (is_of (suc i + suc k)) (filter p A) (All-from_listed (λ c. is_of (suc i + suc k) c ≡ false) (filter p A) (λ c l.
-    ne_eqb c.line.worker (suc i + suc k) (λ q. omega (arith, q, All-listed (λ c. c.line.worker ≡ suc i) A c (worker_of (suc i) ts) (filter_listed p A c l).0)))) in
+    let rest' : start + length (filter (is_of (suc i + suc k)) (filter p B)) ≡ get_or ns k 0 =
+    subst (λ j. start + length (filter (is_of j) (filter p B)) ≡ get_or ns k 0) same rest in
+    let none : filter (is_of (suc i + suc k)) (filter p A) ≡ [] =
+    none_of (suc i + suc k) (filter p A) (λ c l q. omega (arith, q, worker_is (suc i) ts c (filter_listed p A c l).0)) in
     rw (filter-append p A B, filter-append (is_of (suc i + suc k)) (filter p A) (filter p B), none) rest'
 
 entries_are : (start i : ℕ) (ns : List ℕ) (es : List CommitLine)
     → ((k : ℕ) → k < length ns → start + count_of (suc i + k) es ≡ get_or ns k 0) → entries_from (length ns) (suc i) start es ≡ ns
 entries_are start i [] es h = refl
 entries_are start i (n ∷ ns) es h =
-    let at : start + count_of (suc i) es ≡ n = let z : suc i + 0 ≡ suc i = omega arith in subst (λ j. start + count_of j es ≡ n) z (h 0 (omega arith)) in
-    let rest = entries_are start (suc i) ns es (λ k lt. let z : suc i + suc k ≡ suc (suc i) + k = omega arith in subst (λ j. start + count_of j es ≡ get_or ns k 0) z (h (suc k) (omega arith))) in
+    let at : start + count_of (suc i) es ≡ n = subst (λ j. start + count_of j es ≡ n) (omega arith) (h 0 (omega arith)) in
+    let rest = entries_are start (suc i) ns es (λ k lt. subst (λ j. start + count_of j es ≡ get_or ns k 0) (omega arith) (h (suc k) (omega arith))) in
     rw (at, rest) refl
 
 -- ---- versions after a version
@@ -133,10 +142,14 @@ after_count e (c ∷ cs) p own has apart =
       | inl t ↦
           let q = same_stamp_says (stamp_of c.line) (stamp_of e.line) t in
           let here : contains c.snap (stamp_of e.line) ≡ false = subst (λ z. contains c.snap z ≡ false) q (own c (inl refl)) in
-          let rest : filter (λ c. contains c.snap (stamp_of e.line)) cs ≡ cs = filter-all (λ c. contains c.snap (stamp_of e.line)) cs (All-from_listed (λ c. contains c.snap (stamp_of e.line) ≡ true) cs (λ d l. subst (λ z. contains d.snap z ≡ true) q (All-listed (λ d. contains d.snap (stamp_of c.line) ≡ true) cs d p.0 l))) in
+          let rest : filter (λ c. contains c.snap (stamp_of e.line)) cs ≡ cs =
+          filter-all (λ c. contains c.snap (stamp_of e.line)) cs (subst (λ z. AllByRecursion (λ d. contains d.snap z ≡ true) cs) q p.0) in
           rw (t, here, rest) (length-map cs (λ c. stamp_of c.line))
       | inr f ↦
-          let later : Listed e (c ∷ cs) → Listed e cs = λ l. elim l [ inl q ↦ absurd (false≢true (sym f ∙ ap (λ z. same_stamp (stamp_of z.line) (stamp_of e.line)) q ∙ same_stamp-refl (stamp_of e.line))) | inr r ↦ r ] in
+          let later : Listed e (c ∷ cs) → Listed e cs = λ l. elim l [
+            | inl q ↦ absurd (false≢true (sym f ∙ ap (λ z. same_stamp (stamp_of z.line) (stamp_of e.line)) q ∙ same_stamp-refl (stamp_of e.line)))
+            | inr r ↦ r
+          ] in
           let here : contains c.snap (stamp_of e.line) ≡ false = false_from_ne_true (contains c.snap (stamp_of e.line)) (λ t.
           let l = later (has c (inl refl) t) in
           apart c e (inl refl) (inr l) (All-listed (λ d. contains d.snap (stamp_of c.line) ≡ true) cs e p.0 l) t) in
@@ -168,13 +181,16 @@ module _ (start : ℕ) (tss : List (List Tell)) (ok : HaveOrder start tss) (own 
   pub extends : Extends by_s by_h
   extends = record {
     listed = mapped entry_of (published_by tss) history (to_history start tss ok history arr);
-    long = let same = length_permutation (map entry_of (published_by tss)) H (IsPermutation-map entry_of (published_by tss) history arr.same) in omega (arith, same);
+    long = omega (arith, length_permutation (map entry_of (published_by tss)) H (IsPermutation-map entry_of (published_by tss) history arr.same));
     unversioned = λ t key q out. rw out refl;
   }
 
-  module _ (t : Tell) (p : ℕ) (here : prefix_in t.event ≡ Some p) (l : Listed t.snap (snaps_by tss)) (owns : p ≡ sum_above start t.snap) (wide : length t.snap ≡ workers) where
+  module _ (t : Tell) (p : ℕ) (here : prefix_in t.event ≡ Some p)
+      (l : Listed t.snap (snaps_by tss)) (owns : p ≡ sum_above start t.snap) (wide : length t.snap ≡ workers) where
     firsts : take (prefix_of t) H ≡ map entry_of (inside t.snap history)
-    firsts = ap (λ o. take (unwrap_or o 0) H) here ∙ ap (λ n. take n H) owns ∙ take-map entry_of (sum_above start t.snap) history ∙ ap (map entry_of) (first_entries start tss ok history arr t.snap l)
+    firsts =
+        ap (λ o. take (unwrap_or o 0) H) here ∙ ap (λ n. take n H) owns
+        ∙ take-map entry_of (sum_above start t.snap) history ∙ ap (map entry_of) (first_entries start tss ok history arr t.snap l)
 
     value_agrees : by_s.value t ≡ by_h.value t
     value_agrees = sym (ap (state_at rows) firsts ∙ state_agrees start tss ok own first history arr t.snap l rows)
@@ -222,7 +238,10 @@ module _ (start : ℕ) (tss : List (List Tell)) (ok : HaveOrder start tss) (own 
           let lc = in_published c k in
           let sc = stands start tss ok own c lc in
           elim (ok.ordered c.snap t.snap sc.snap l) [
-            | inl b ↦ listed_filter (is_writer key) (inside t.snap history) e (listed_filter (is_inside t.snap) history e (to_history start tss ok history arr e le) (contains_at_most c.snap t.snap (stamp_of e.line) b h)) we
+            | inl b ↦
+                let here = contains_at_most c.snap t.snap (stamp_of e.line) b h in
+                let among = listed_filter (is_inside t.snap) history e (to_history start tss ok history arr e le) here in
+                listed_filter (is_writer key) (inside t.snap history) e among we
             | inr b ↦ absurd (true≢false (sym (contains_at_most t.snap c.snap (stamp_of c.line) b (contained c k)) ∙ own c lc))
           ]
 
@@ -237,7 +256,10 @@ module _ (start : ℕ) (tss : List (List Tell)) (ok : HaveOrder start tss) (own 
           (Pairwise-filter SeesWriter (is_inside t.snap) history (writers_in_order start tss ok own first history arr))))
           (λ c k. own c (in_published c k))
           (seen_inside e le we)
-          (λ c d k m p q. omega (arith, before_prefix start tss ok own c d (in_published c k) (in_published d m) p, before_prefix start tss ok own d c (in_published d m) (in_published c k) q))
+          (λ c d k m p q.
+          let lc = in_published c k in
+          let ld = in_published d m in
+          omega (arith, before_prefix start tss ok own c d lc ld p, before_prefix start tss ok own d c ld lc q))
 
       abbrev V : List Published
       V = filter (is_writer key) (published_by tss)
@@ -251,7 +273,8 @@ module _ (start : ℕ) (tss : List (List Tell)) (ok : HaveOrder start tss) (own 
 
       later_one : (s : Stamp) (b : Bool) → same_stamp loader s ≡ b → (b || list_any (λ q. same_stamp q s) (stamps V)) ≡ true
           → length (cond b (stamps W) (after_stamp s (stamps W))) ≡ length (filter (λ c. b || contains c.snap s) W)
-      later_one s true z h = length-map W (λ c. stamp_of c.line) ∙ sym (ap length (filter-all (λ c. true) W (All-from_listed (λ c. true ≡ true) W (λ c k. refl))))
+      later_one s true z h =
+          length-map W (λ c. stamp_of c.line) ∙ sym (ap length (filter-all (λ c. true) W (All-from_listed (λ c. true ≡ true) W (λ c k. refl))))
       later_one s false z h =
           let r = any_listed (λ q. same_stamp q s) (stamps V) h in
           let c = map_listed (λ c. stamp_of c.line) V r.0 r.1 in
@@ -269,11 +292,13 @@ module _ (start : ℕ) (tss : List (List Tell)) (ok : HaveOrder start tss) (own 
 
       later_none : (s : Stamp) → is_version key s (map entry_of (published_by tss)) ≡ false → by_h.later t key s ≡ 0
       later_none s h =
+          let among : (c : Published) → Listed c W → Listed (stamp_of c.line) (stamps V) = λ c k.
+          listed_map (λ c. stamp_of c.line) V c (listed_filter (is_writer key) (published_by tss) c (in_published c k) (in_inside c k).1) in
           let both = or_parts (same_stamp loader s) (list_any (λ q. same_stamp q s) (stamps V)) (sym (version_is s) ∙ h) in
           later_is s
           ∙ ap (λ b. length (cond b (stamps W) (after_stamp s (stamps W)))) both.0
           ∙ ap length (after_none s W (λ c k. false_from_ne_true (same_stamp (stamp_of c.line) s) (λ q.
-          true≢false (sym (listed_any (λ q. same_stamp q s) (stamps V) (stamp_of c.line) (listed_map (λ c. stamp_of c.line) V c (listed_filter (is_writer key) (published_by tss) c (in_published c k) (in_inside c k).1)) q) ∙ both.1))))
+          true≢false (sym (listed_any (λ q. same_stamp q s) (stamps V) (stamp_of c.line) (among c k) q) ∙ both.1))))
 
       later_agrees : (s : Stamp) → by_s.later t key s ≡ by_h.later t key s
       later_agrees s = elim (cases_Bool (is_version key s (map entry_of (published_by tss)))) [

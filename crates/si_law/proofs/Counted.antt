@@ -40,7 +40,9 @@ ordered_lines start tss lines a =
         same = h.1;
         depth = a.depth;
         depths = a.depths;
-        ordered = Pairwise-unmap entry_of (Precedes (level_of start tss) a.depth) h.0 (subst (Pairwise (Precedes (level_of start tss) a.depth)) (sym h.2) a.ordered);
+        ordered =
+            let before = Precedes (level_of start tss) a.depth in
+            Pairwise-unmap entry_of before h.0 (subst (Pairwise before) (sym h.2) a.ordered);
       },
       h.2,
     )
@@ -109,7 +111,9 @@ module _ (start : ℕ) (tss : List (List Tell)) (ok : HaveOrder start tss) (snap
       let small = sum_within start 1 snap tss (ok.within snap l) ok.owned in
       elim (level_says start (suc (length (published_by tss))) (snaps_by tss) s) [
         | inl t ↦ absurd (omega arith)
-        | inr (other, k, c, q) ↦ contains_at_most other snap s (at_most_by_sum start other snap tss (ok.within other k) (ok.within snap l) (ok.ordered other snap k l) (omega (arith, q, h))) c
+        | inr (other, k, c, q) ↦
+            let most = at_most_by_sum start other snap tss (ok.within other k) (ok.within snap l) (ok.ordered other snap k l) (omega (arith, q, h)) in
+            contains_at_most other snap s most c
       ]
 
   pub level_inside : (s : Stamp) → contains snap s ≡ true → level_of start tss s ≤ sum_above start snap
@@ -131,8 +135,10 @@ module _ (start : ℕ) (tss : List (List Tell)) (ok : HaveOrder start tss) (hist
   module _ (snap : List ℕ) (l : Listed snap (snaps_by tss)) where
     closed : Pairwise (λ c d. contains snap (stamp_of d.line) ≡ true → contains snap (stamp_of c.line) ≡ true) history
     closed =
-        Pairwise-weaker (λ c. Unit {0}) (Before start tss arr.depth) (λ c d. contains snap (stamp_of d.line) ≡ true → contains snap (stamp_of c.line) ≡ true)
-        (λ c d _ _ p h. inside_level start tss ok snap l (stamp_of c.line) (omega (arith, precedes_level (level_of start tss) arr.depth c.line d.line p, level_inside start tss ok snap l (stamp_of d.line) h)))
+        Pairwise-weaker (λ c. Unit {0}) (Before start tss arr.depth) (λ c d. is_inside snap d ≡ true → is_inside snap c ≡ true)
+        (λ c d _ _ p h.
+        let up = precedes_level (level_of start tss) arr.depth c.line d.line p in
+        inside_level start tss ok snap l (stamp_of c.line) (omega (arith, up, level_inside start tss ok snap l (stamp_of d.line) h)))
         history (λ z _. tt) arr.ordered
 
     length_inside : length (inside snap history) ≡ sum_above start snap

@@ -22,7 +22,8 @@ use Rattle.si_law.proofs.Moved.{AgreesAt}
 module _ (s : Setting) (asked : Asked) (v w : View) (j : ℕ) where
   moved_outcome : (done : List Part) (t : Tell) → Agrees v w t → (o : Outcome) → FullOutcome v j done t o → FullOutcome w j done t o
   moved_outcome done t same (Full l) h =
-      subst (λ (newest : Key → Stamp). (newest (lock_key l)).thread ≡ j → IsTrue (failed_after (newest (lock_key l)).number (lock_key l) false done)) same.newest h
+      let key = lock_key l in
+      subst (λ (newest : Key → Stamp). (newest key).thread ≡ j → IsTrue (failed_after (newest key).number key false done)) same.newest h
   moved_outcome done t same o h = h
 
   -- an attempt without a snapshot finds no full ring

@@ -1,5 +1,5 @@
 -- Logs that are consistent and arranged: a guard stands before the write that it didn't see, though its worker comes later.
-use Rattle.std.proofs.Common.{◌≡◌, ℕ, ◌<◌, Bool, true, false, List, [], ◌∷◌, refl, ap, sym, ◌∙◌, subst, arith, Some, None, inl, inr}
+use Rattle.std.proofs.Common.{◌≡◌, ℕ, ◌<◌, true, false, List, [], ◌∷◌, refl, subst, arith, Some, inl, inr}
 use Rattle.std.specs.Prelude.{IsTrue, filter, map, ◌⊎◌, ◌≤◌, ◌==◌, if◌then◌else◌}
 use Rattle.std.proofs.lemmas.Bool.{false≢true}
 use Rattle.std.proofs.lemmas.Bool.Decides.{nat_tests}
@@ -7,8 +7,8 @@ use Rattle.std.proofs.lemmas.List.Sorted.{IsPermutation-append_comm}
 use Rattle.si_model.specs.declared.row.Key.{Key}
 use Rattle.si_model.specs.declared.row.Row.{Row}
 use Rattle.si_model.specs.declared.row.Item.{Item}
-use Rattle.si_model.specs.declared.op.Op.{Op}
 use Rattle.si_model.specs.declared.op.Op.TheVariants.{Add, Guard}
+use Rattle.si_model.specs.declared.evaluated.Evaluated.TheVariants.{Done}
 use Rattle.si_model.specs.declared.log.Stamp.{Stamp}
 use Rattle.si_model.specs.declared.log.Lock.{Lock}
 use Rattle.si_model.specs.declared.log.Outcome.TheVariants.{Commit}
@@ -20,17 +20,17 @@ use Rattle.si_model.specs.declared.report.AuditRow.{AuditRow}
 use Rattle.si_model.specs.Lists.{Listed}
 use Rattle.si_model.specs.Rows.{key_at, rows_of}
 use Rattle.si_model.specs.State.{state_at}
-use Rattle.si_model.specs.History.{stamp_at, stamp_of}
+use Rattle.si_model.specs.History.{stamp_at, stamp_of, keys_of, none_writes}
 use Rattle.si_model.specs.Tells.{Tell, tells_of}
 use Rattle.si_model.specs.Commits.{Published, published_by, snaps_by}
 use Rattle.si_model.specs.Snapshots.{contains}
-use Rattle.si_model.specs.Setting.{Setting, by_script}
+use Rattle.si_model.specs.Setting.{Setting}
 use Rattle.si_model.specs.Arranged.{level_of, guards_beside, above_all, IsArranged}
 use Rattle.si_model.specs.Knowledge.{AreAtMost}
 use Rattle.si_model.specs.Tries.Part.{attempted}
 use Rattle.si_model.specs.Audit.{IsAudit}
 use Rattle.si_model.specs.Run.{IsRun}
-use Rattle.si_model.specs.Consistency.{IsWithin, HaveOrder, HaveNoCircle, MayBePublished, share_key, FirstWins, is_overtaking, KeepsGuards, AreConsistent, AreConsistentFor}
+use Rattle.si_model.specs.Consistency.{IsWithin, HaveOrder, MayBePublished, share_key, is_overtaking, AreConsistentFor}
 use Rattle.si_model.proofs.ListLemmas.{All-listed}
 use Rattle.si_law.proofs.TheLaw.{arranged_is_run}
 
@@ -74,7 +74,13 @@ setting = record {
 abbrev logs : List Log
 logs =
     record { events = committed 1 1 1 ∷ []; reads = item 1 60 ∷ []; locks = lock 1 ∷ []; writes = item 1 0 ∷ []; snaps = (0 ∷ 0 ∷ []) ∷ [] }
-    ∷ record { events = committed 2 2 2 ∷ []; reads = item 1 60 ∷ item 0 60 ∷ []; locks = lock 0 ∷ lock 1 ∷ []; writes = item 0 0 ∷ []; snaps = (0 ∷ 0 ∷ []) ∷ [] }
+    ∷ record {
+      events = committed 2 2 2 ∷ [];
+      reads = item 1 60 ∷ item 0 60 ∷ [];
+      locks = lock 0 ∷ lock 1 ∷ [];
+      writes = item 0 0 ∷ [];
+      snaps = (0 ∷ 0 ∷ []) ∷ [];
+    }
     ∷ []
 
 abbrev told : List (List Tell)
@@ -115,6 +121,11 @@ of_pairs : (P : Published → Published → Type 0) → P writer writer → P wr
     → (c d : Published) → Listed c commits → Listed d commits → P c d
 of_pairs P ww wg gw gg c d l k = of_commits (λ c. P c d) (of_commits (P writer) ww wg d k) (of_commits (P guarder) gw gg d k) c l
 
+outside : (snap : List ℕ) → Listed snap (snaps_by told) → (c : Published) → Listed c commits → IsTrue (contains snap (stamp_of c.line)) → false ≡ true
+outside snap l c k =
+    of_snaps (λ snap. IsTrue (contains snap (stamp_of c.line)) → false ≡ true)
+    (of_commits (λ c. IsTrue (contains (0 ∷ 0 ∷ []) (stamp_of c.line)) → false ≡ true) (λ h. h) (λ h. h) c k) snap l
+
 -- the guarding commit has place 0
 abbrev place : Stamp → ℕ
 place s = if s.thread == 1 then 1 else 0
@@ -129,10 +140,12 @@ consistent = record {
         (record { own = refl; reads = item 1 60 ∷ []; guards = []; evaluates = refl; writes = omega arith })
         (record { own = refl; reads = item 1 60 ∷ item 0 60 ∷ []; guards = key_at 0 1 ∷ []; evaluates = refl; writes = omega arith });
     first_wins = λ c d l k apart share.
-        of_pairs (λ c d. (stamp_of c.line ≡ stamp_of d.line → ⊥) → IsTrue (share_key c d) → IsTrue (contains d.snap (stamp_of c.line)) ⊎ IsTrue (contains c.snap (stamp_of d.line)))
+        of_pairs
+        (λ c d. (stamp_of c.line ≡ stamp_of d.line → ⊥) → IsTrue (share_key c d)
+        → IsTrue (contains d.snap (stamp_of c.line)) ⊎ IsTrue (contains c.snap (stamp_of d.line)))
         (λ n s. absurd (n refl)) (λ n s. absurd (false≢true s)) (λ n s. absurd (false≢true s)) (λ n s. absurd (n refl)) c d l k apart share;
     guards = λ snap l c d m k over inside.
-        absurd (false≢true (of_snaps (λ snap. IsTrue (contains snap (stamp_of d.line)) → false ≡ true) (of_commits (λ d. IsTrue (contains (0 ∷ 0 ∷ []) (stamp_of d.line)) → false ≡ true) (λ h. h) (λ h. h) d k) snap l inside));
+        absurd (false≢true (outside snap l d k inside));
     no_circle = record {
       place = place;
       below = of_commits (λ c. place (stamp_of c.line) < 2) (omega arith) (omega arith);
@@ -178,3 +191,15 @@ is_audit = record {
 
 run : IsRun setting (record { history = history; logs = logs; audit = audit })
 run = arranged_is_run setting logs history audit consistent arranged is_audit
+
+other_guards : {reads : List Item} {guards : List Key}
+    → Done (item 1 60 ∷ item 0 60 ∷ []) (item 0 0 ∷ []) (key_at 0 1 ∷ []) ≡ Done reads (item 0 0 ∷ []) guards → guards ≡ key_at 0 1 ∷ []
+other_guards e = cc
+
+-- in the order of the workers they are none: the guarded key is written before the guard
+other_order : IsRun setting (record { history = entry 1 (item 1 0) ∷ entry 2 (item 0 0) ∷ []; logs = logs; audit = audit }) → ⊥
+other_order h =
+    let second = h.legal.1.0 in
+    let written : IsTrue (none_writes (keys_of (item 0 0 ∷ []) (key_at 0 1 ∷ [])) (entry 1 (item 1 0) ∷ [])) =
+    subst (λ gs. IsTrue (none_writes (keys_of (item 0 0 ∷ []) gs) (entry 1 (item 1 0) ∷ []))) (other_guards second.evaluates) second.first_wins in
+    false≢true written

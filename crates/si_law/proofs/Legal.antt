@@ -15,8 +15,7 @@ use Rattle.si_model.specs.History.{stamp_of, keys_of, none_writes, MayFollow, Is
 use Rattle.si_model.specs.Tells.{Tell}
 use Rattle.si_model.specs.Commits.{Published, entry_of, published_by, snaps_by}
 use Rattle.si_model.specs.Snapshots.{contains, inside, rows_in}
-use Rattle.si_model.specs.Arranged.{guards_write}
-use Rattle.si_model.specs.Consistency.{HaveOrder, MayBePublished, share_key, FirstWins, KeepsGuards}
+use Rattle.si_model.specs.Consistency.{HaveOrder, MayBePublished, FirstWins, KeepsGuards}
 use Rattle.si_model.proofs.ListLemmas.{Pairwise-before, filter_listed, listed_any, listed_append_left, listed_append_right, listed_append_cases, map_listed}
 use Rattle.si_model.proofs.EvaluationLemmas.{done-guards}
 use Rattle.si_law.proofs.Counted.{IsOrdered, first_entries, later_entries, from_history}
@@ -45,7 +44,8 @@ none_writes_from keys [] h = refl
 none_writes_from keys (c ∷ cs) h = rw (all_not (writes_key c.line.writes) keys (h c (inl refl))) (none_writes_from keys cs (λ d l. h d (inr l)))
 
 module _ (start : ℕ) (tss : List (List Tell)) (ok : HaveOrder start tss) (own : AreOutside tss)
-    (first : FirstWins (published_by tss)) (keeps : (snap : List ℕ) → Listed snap (snaps_by tss) → KeepsGuards (published_by tss) snap) (history : List Published) (arr : IsOrdered start tss history)
+    (first : FirstWins (published_by tss)) (keeps : (snap : List ℕ) → Listed snap (snaps_by tss) → KeepsGuards (published_by tss) snap)
+    (history : List Published) (arr : IsOrdered start tss history)
     (widths : List ℕ) (rows : Rows) (jobs : List (List Op))
     (published : (c : Published) → Listed c (published_by tss) → MayBePublished widths rows (published_by tss) c)
     (jobs_in_range : (c : Published) → Listed c (published_by tss) → (1 ≤ c.line.txn) × (c.line.txn ≤ length jobs))
@@ -68,11 +68,14 @@ module _ (start : ℕ) (tss : List (List Tell)) (ok : HaveOrder start tss) (own 
       ] in
       let firsts_done : take p done ≡ inside c.snap history = sym (take-append-le p done (c ∷ rest) short) ∙ ap (take p) (sym e) ∙ firsts in
       let same : state_at rows (take p (map entry_of done)) ≡ rows_in rows (published_by tss) c.snap =
-      ap (state_at rows) (take-map entry_of p done ∙ ap (map entry_of) firsts_done) ∙ state_agrees start tss ok own first history arr c.snap s.snap rows in
-      let evaluates : evaluation_of widths (state_at rows (take p (map entry_of done))) (slice_index_or jobs (c.line.txn - 1) []) ≡ Done m.reads c.line.writes m.guards =
-      ap (λ z. evaluation_of widths z (slice_index_or jobs (c.line.txn - 1) [])) same
+      ap (state_at rows) (take-map entry_of p done ∙ ap (map entry_of) firsts_done)
+      ∙ state_agrees start tss ok own first history arr c.snap s.snap rows in
+      let job = slice_index_or jobs (c.line.txn - 1) [] in
+      let evaluates : evaluation_of widths (state_at rows (take p (map entry_of done))) job ≡ Done m.reads c.line.writes m.guards =
+      ap (λ z. evaluation_of widths z job) same
       ∙ ap (λ ops. evaluation_of widths (rows_in rows (published_by tss) c.snap) ops) (sym (scripted c l)) ∙ m.evaluates in
-      let guards : m.guards ≡ guard_keys c.ops = done-guards widths (rows_in rows (published_by tss) c.snap) c.ops m.reads c.line.writes m.guards m.evaluates in
+      let guards : m.guards ≡ guard_keys c.ops =
+      done-guards widths (rows_in rows (published_by tss) c.snap) c.ops m.reads c.line.writes m.guards m.evaluates in
       let later : (d : Published) → Listed d (drop p done) → contains c.snap (stamp_of d.line) ≡ false = λ d k.
       later_entries start tss ok history arr c.snap s.snap d
       (rw (← s.prefix) (rw (e, drop-append-le p done (c ∷ rest) short) (listed_append_left (drop p done) (c ∷ rest) d k))) in
@@ -102,7 +105,8 @@ module _ (start : ℕ) (tss : List (List Tell)) (ok : HaveOrder start tss) (own 
   legal_from done [] e = tt
   legal_from done (c ∷ rest) e = (
     follows done c rest e,
-    subst (λ z. IsLegalAfter widths rows jobs z (map entry_of rest)) (map-append entry_of done (c ∷ [])) (legal_from (done ++ c ∷ []) rest (e ∙ sym (append_assoc done (c ∷ []) rest))),
+    subst (λ z. IsLegalAfter widths rows jobs z (map entry_of rest)) (map-append entry_of done (c ∷ []))
+        (legal_from (done ++ c ∷ []) rest (e ∙ sym (append_assoc done (c ∷ []) rest))),
   )
 
   pub legal : IsLegal widths rows jobs (map entry_of history)

@@ -15,8 +15,8 @@ use Rattle.si_model.specs.Tells.{Tell, attempt_in, number_in}
 use Rattle.si_model.specs.Commits.{Published, published_in, published_at, published_of, published_from, published_by}
 use Rattle.si_model.specs.Consistency.{NumbersFollow, AreOwned}
 use Rattle.si_model.specs.Run.{is_entry_of, is_listed_as, times_listed}
-use Rattle.si_model.proofs.ListLemmas.{All-listed, All-from_listed, filter-none, listed_filter}
-use Rattle.si_law.proofs.Standing.{worker_of, worker_from, numbers_above}
+use Rattle.si_model.proofs.ListLemmas.{All-from_listed, filter-none, listed_filter}
+use Rattle.si_law.proofs.Standing.{worker_from, worker_is, number_above}
 
 -- has the commit the entry's worker, number, prefix and transaction
 abbrev is_line : CommitLine → Published → Bool
@@ -30,8 +30,14 @@ never : (b : Bool) → (b && false) ≡ false
 never true = refl
 never false = refl
 
+-- an attempt of these words is listed as the entry
+abbrev is_entry : CommitLine → ℕ → ℕ → Option ℕ → Outcome → Bool
+is_entry e j txn p o =
+    (e.worker == j) && elim (number_in o) [ None ↦ false | Some n ↦ n == e.number ]
+    && elim p [ None ↦ false | Some q ↦ q == e.prefix ] && (txn == e.txn)
+
 counted_in : (e : CommitLine) (j : ℕ) (t : Tell) (a : Attempt) (p : Option ℕ) (o : Outcome)
-    → cond ((e.worker == j) && elim (number_in o) [ None ↦ false | Some n ↦ n == e.number ] && elim p [ None ↦ false | Some q ↦ q == e.prefix ] && (a.txn == e.txn)) 1 0 ≡ length (filter (is_line e) (published_in j t a p o))
+    → cond (is_entry e j a.txn p o) 1 0 ≡ length (filter (is_line e) (published_in j t a p o))
 counted_in e j t a (Some p) (Commit n) =
     one_or_none ((e.worker == j) && (n == e.number) && (p == e.prefix) && (a.txn == e.txn))
     (record { line = record { worker = j; number = n; prefix = p; txn = a.txn; writes = t.writes }; snap = t.snap; ops = t.ops })
@@ -65,7 +71,8 @@ counted e j (ts ∷ tss) =
     omega (arith, rest, counted_of e j ts, apart, long)
 
 -- a test that only commits of one worker and one number pass
-module _ (q : Published → Bool) (worker number : ℕ) (says : (d : Published) → q d ≡ true → (d.line.worker ≡ worker) × (d.line.number ≡ number)) where
+module _ (q : Published → Bool) (worker number : ℕ)
+    (says : (d : Published) → q d ≡ true → (d.line.worker ≡ worker) × (d.line.number ≡ number)) where
   no_other : (cs : List Published) → ((d : Published) → Listed d cs → q d ≡ true → ⊥) → length (filter q cs) ≡ 0
   no_other cs h = ap length (filter-none q cs (All-from_listed (λ d. q d ≡ false) cs (λ d l. false_from_ne_true (q d) (h d l))))
 
@@ -74,7 +81,7 @@ module _ (q : Published → Bool) (worker number : ℕ) (says : (d : Published) 
   once_of m (c ∷ cs) h =
       let rest = once_of (suc m) cs h.1 in
       cond_both (q c) (c ∷ filter q cs) (filter q cs) (λ zs. length zs ≤ 1)
-      (λ t. let others = no_other cs (λ d l u. omega (arith, h.0, (says c t).1, (says d u).1, All-listed (λ d. suc m < d.line.number) cs d (numbers_above (suc m) cs h.1) l)) in omega (arith, others))
+      (λ t. let others = no_other cs (λ d l u. omega (arith, h.0, (says c t).1, (says d u).1, number_above (suc m) cs h.1 d l)) in omega (arith, others))
       (λ _. rest)
 
   once_from : (start j : ℕ) (tss : List (List Tell)) → AreOwned start j tss → length (filter q (published_from j tss)) ≤ 1
@@ -89,7 +96,7 @@ module _ (q : Published → Bool) (worker number : ℕ) (says : (d : Published) 
             omega (arith, apart, long, one, others)
         | inr e ↦
             let rest = once_from start (suc j) tss w.1 in
-            let others = no_other (published_of j ts) (λ d l u. e (sym (says d u).0 ∙ All-listed (λ c. c.line.worker ≡ j) (published_of j ts) d (worker_of j ts) l)) in
+            let others = no_other (published_of j ts) (λ d l u. e (sym (says d u).0 ∙ worker_is j ts d l)) in
             omega (arith, apart, long, rest, others)
       ]
 
@@ -104,7 +111,8 @@ listed_once start tss w c l =
     let says : (d : Published) → is_line e d ≡ true → (d.line.worker ≡ e.worker) × (d.line.number ≡ e.number) = λ d t.
     let h = and_parts _ _ (and_parts _ _ (and_parts _ _ t).0).0 in
     (sym (eqb-true e.worker d.line.worker h.0), eqb-true d.line.number e.number h.1) in
-    let own : is_line e c ≡ true = and_from _ _ (and_from _ _ (and_from _ _ (eq-eqb e.worker e.worker refl) (eq-eqb e.number e.number refl)) (eq-eqb e.prefix e.prefix refl)) (eq-eqb e.txn e.txn refl) in
+    let same = λ (n : ℕ). eq-eqb n n refl in
+    let own : is_line e c ≡ true = and_from _ _ (and_from _ _ (and_from _ _ (same e.worker) (same e.number)) (same e.prefix)) (same e.txn) in
     let once = once_from (is_line e) e.worker e.number says start 1 tss w in
     let some = length_listed (filter (is_line e) (published_by tss)) c (listed_filter (is_line e) (published_by tss) c l own) in
     omega (arith, counted e 1 tss, once, some)

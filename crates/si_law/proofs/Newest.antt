@@ -46,7 +46,9 @@ overlay_some (i ∷ ws) rows rest key h =
 -- what the newest is
 abbrev pub IsNewest : Key → List Published → Option Published → Type 0
 IsNewest key cs None = (c : Published) → Listed c cs → writes_key c.line.writes key ≡ false
-IsNewest key cs (Some d) = Listed d cs × (writes_key d.line.writes key ≡ true) × ((c : Published) → Listed c cs → writes_key c.line.writes key ≡ true → c.line.prefix ≤ d.line.prefix)
+IsNewest key cs (Some d) =
+    Listed d cs × (writes_key d.line.writes key ≡ true)
+    × ((c : Published) → Listed c cs → writes_key c.line.writes key ≡ true → c.line.prefix ≤ d.line.prefix)
 
 module _ (key : Key) where
   pub newest_is : (cs : List Published) → IsNewest key cs (newest_in key cs)
@@ -58,7 +60,8 @@ module _ (key : Key) where
     where
       first : (c : Published) (cs : List Published) → writes_key c.line.writes key ≡ true → (r : Option Published) → IsNewest key cs r
           → IsNewest key (c ∷ cs) (Some (newer_of c r))
-      first c cs e None n = (inl refl, e, λ d l w. elim l [ inl q ↦ omega (arith, ap (λ z. z.line.prefix) q) | inr r ↦ absurd (false≢true (sym (n d r) ∙ w)) ])
+      first c cs e None n =
+          (inl refl, e, λ d l w. elim l [ inl q ↦ omega (arith, ap (λ z. z.line.prefix) q) | inr r ↦ absurd (false≢true (sym (n d r) ∙ w)) ])
       first c cs e (Some d) n =
           cond_both (ltb d.line.prefix c.line.prefix) c d (λ z. IsNewest key (c ∷ cs) (Some z))
           (λ t. let lt = ltb-true d.line.prefix c.line.prefix t in
@@ -69,11 +72,16 @@ module _ (key : Key) where
       second : (c : Published) (cs : List Published) → writes_key c.line.writes key ≡ false → (r : Option Published) → IsNewest key cs r
           → IsNewest key (c ∷ cs) r
       second c cs e None n = λ d l. elim l [ inl q ↦ ap (λ z. writes_key z.line.writes key) (sym q) ∙ e | inr r ↦ n d r ]
-      second c cs e (Some d) n = (inr n.0, n.1, λ x l w. elim l [ inl q ↦ absurd (false≢true (sym e ∙ ap (λ z. writes_key z.line.writes key) q ∙ w)) | inr r ↦ n.2 x r w ])
+      second c cs e (Some d) n = (
+        inr n.0,
+        n.1,
+        λ x l w. elim l [ inl q ↦ absurd (false≢true (sym e ∙ ap (λ z. writes_key z.line.writes key) q ∙ w)) | inr r ↦ n.2 x r w ],
+      )
 
   -- lists of the same members have the same newest, where a prefix names one writer
   pub newest_same : (xs ys : List Published) → ((c : Published) → Listed c xs → Listed c ys) → ((c : Published) → Listed c ys → Listed c xs)
-      → ((c d : Published) → Listed c xs → Listed d xs → writes_key c.line.writes key ≡ true → writes_key d.line.writes key ≡ true → c.line.prefix ≡ d.line.prefix → c ≡ d)
+      → ((c d : Published) → Listed c xs → Listed d xs → writes_key c.line.writes key ≡ true → writes_key d.line.writes key ≡ true
+      → c.line.prefix ≡ d.line.prefix → c ≡ d)
       → newest_in key xs ≡ newest_in key ys
   newest_same xs ys to from one = same (newest_in key xs) (newest_in key ys) (newest_is xs) (newest_is ys)
     where
@@ -91,7 +99,8 @@ module _ (key : Key) where
   Rises cs = Pairwise RisesBy cs
 
   -- where they rise, the newest is the last
-  newest_last : (c : Published) (cs : List Published) → Rises (c ∷ cs) → (d : Published) → newest_in key cs ≡ Some d → newest_in key (c ∷ cs) ≡ Some d
+  newest_last : (c : Published) (cs : List Published) → Rises (c ∷ cs) → (d : Published) → newest_in key cs ≡ Some d
+      → newest_in key (c ∷ cs) ≡ Some d
   newest_last c cs r d e =
       let n : IsNewest key cs (Some d) = subst (IsNewest key cs) e (newest_is cs) in
       cond_both (writes_key c.line.writes key) (Some (newer_of c (newest_in key cs))) (newest_in key cs) (λ z. z ≡ Some d)
@@ -109,7 +118,8 @@ module _ (key : Key) where
       ∙ overlay_some d.line.writes (overlay c.line.writes rows) rows key w.1 ∙ ap (value_by rows key) (sym (newest_last c cs r d e))
   state_step rows c cs r ih None e =
       ih ∙ ap (value_by (overlay c.line.writes rows) key) e
-      ∙ cond_both (writes_key c.line.writes key) (Some (newer_of c (newest_in key cs))) (newest_in key cs) (λ z. overlay c.line.writes rows key ≡ value_by rows key z)
+      ∙ cond_both (writes_key c.line.writes key) (Some (newer_of c (newest_in key cs))) (newest_in key cs)
+      (λ z. overlay c.line.writes rows key ≡ value_by rows key z)
       (λ w. rw e refl) (λ w. rw e (overlay_none c.line.writes rows key w))
 
   -- the state after the commits
@@ -122,7 +132,8 @@ module _ (key : Key) where
   stamp_or s (Some c) = stamp_of c.line
 
   stamp_step : (s : Stamp) (c : Published) (cs : List Published) → Rises (c ∷ cs)
-      → newest_from (cond (writes_key c.line.writes key) (stamp_of c.line) s) key (map entry_of cs) ≡ stamp_or (cond (writes_key c.line.writes key) (stamp_of c.line) s) (newest_in key cs)
+      → newest_from (cond (writes_key c.line.writes key) (stamp_of c.line) s) key (map entry_of cs)
+      ≡ stamp_or (cond (writes_key c.line.writes key) (stamp_of c.line) s) (newest_in key cs)
       → (n : Option Published) → newest_in key cs ≡ n
       → newest_from (cond (writes_key c.line.writes key) (stamp_of c.line) s) key (map entry_of cs) ≡ stamp_or s (newest_in key (c ∷ cs))
   stamp_step s c cs r ih (Some d) e =

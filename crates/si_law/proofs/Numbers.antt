@@ -1,5 +1,5 @@
 -- Each worker's numbers follow one by one in the arranged history.
-use Rattle.std.proofs.Common.{◌≡◌, ℕ, suc, ◌+◌, ◌<◌, ◌≤◌, false, cond, inl, inr, List, [], ◌∷◌, ◌++◌, length, refl, ap, sym, ◌∙◌, subst, arith, eqb}
+use Rattle.std.proofs.Common.{◌≡◌, ℕ, suc, ◌+◌, ◌<◌, ◌≤◌, cond, inl, inr, List, [], ◌∷◌, ◌++◌, length, refl, ap, sym, ◌∙◌, subst, arith, eqb}
 use Rattle.std.specs.Prelude.{map}
 use Rattle.std.proofs.lemmas.Bool.{cond_both, cases_Bool, cases_lt, cases_eq, eqb-true, eqb-false}
 use Rattle.si_model.specs.declared.report.CommitLine.{CommitLine}
@@ -8,13 +8,12 @@ use Rattle.si_model.specs.Rows.{Rows}
 use Rattle.si_model.specs.History.{stamp_of, count_of, IsNumberedAfter, IsNumbered}
 use Rattle.si_model.specs.Tells.{Tell}
 use Rattle.si_model.specs.Commits.{Published, entry_of, published_of, published_from, published_by}
-use Rattle.si_model.specs.Snapshots.{contains}
 use Rattle.si_model.specs.View.{by_snapshots}
 use Rattle.si_model.specs.Setting.{Setting, Asked}
-use Rattle.si_model.specs.Arranged.{level_of, Precedes}
+use Rattle.si_model.specs.Arranged.{level_of}
 use Rattle.si_model.specs.Consistency.{NumbersFollow, AreOwned, HaveOrder, AreSound}
 use Rattle.si_model.proofs.ListLemmas.{All-listed, Pairwise-weaker, listed_append_cases, listed_append_left, listed_append_right}
-use Rattle.si_law.proofs.Standing.{worker_of, numbers_above, stamp_path, AreOutside}
+use Rattle.si_law.proofs.Standing.{stamp_path, AreOutside, worker_is, number_above}
 use Rattle.si_law.proofs.Counted.{IsOrdered, from_history, to_history, precedes_level, Before}
 use Rattle.si_law.proofs.Order.{precedes_apart, level_outside}
 use Rattle.si_law.proofs.OwnCommits.{own_before}
@@ -34,7 +33,9 @@ dense_one m (x ∷ cs) h c l n a b =
 
 -- the numbers of worker j in a list: above n, and each from there up to a listed one
 abbrev DenseAbove : ℕ → ℕ → List Published → Type 0
-DenseAbove j n cs = (c : Published) → Listed c cs → c.line.worker ≡ j → (n < c.line.number) × ((m : ℕ) → n < m → m ≤ c.line.number → (d : Published) × Listed d cs × (d.line.worker ≡ j) × (d.line.number ≡ m))
+DenseAbove j n cs =
+    (c : Published) → Listed c cs → c.line.worker ≡ j
+    → (n < c.line.number) × ((m : ℕ) → n < m → m ≤ c.line.number → (d : Published) × Listed d cs × (d.line.worker ≡ j) × (d.line.number ≡ m))
 
 abbrev RisesWith : Published → Published → Type 0
 RisesWith c d = c.line.worker ≡ d.line.worker → c.line.number < d.line.number
@@ -99,10 +100,10 @@ dense_from start i j [] w c l v = elim l [ ]
 dense_from start i j (ts ∷ tss) w c l v =
     elim (listed_append_cases (published_of i ts) (published_from (suc i) tss) c l) [
       | inl h ↦
-          let at : c.line.worker ≡ i = All-listed (λ c. c.line.worker ≡ i) (published_of i ts) c (worker_of i ts) h in (
-            All-listed (λ c. start < c.line.number) (published_of i ts) c (numbers_above start (published_of i ts) w.0.numbers) h,
+          let at : c.line.worker ≡ i = worker_is i ts c h in (
+            number_above start (published_of i ts) w.0.numbers c h,
             λ m a b. let d = dense_one start (published_of i ts) w.0.numbers c h m a b in
-                (d.0, listed_append_left (published_of i ts) (published_from (suc i) tss) d.0 d.1, All-listed (λ c. c.line.worker ≡ i) (published_of i ts) d.0 (worker_of i ts) d.1 ∙ sym at ∙ v, d.2),
+                (d.0, listed_append_left (published_of i ts) (published_from (suc i) tss) d.0 d.1, worker_is i ts d.0 d.1 ∙ sym at ∙ v, d.2),
           )
       | inr h ↦
           let r = dense_from start (suc i) j tss w.1 c h v in
@@ -119,15 +120,21 @@ module _ (s : Setting) (asked : Asked) (rows : Rows) (tss : List (List Tell)) (o
       (λ c d l k p e. elim (cases_lt c.line.number d.line.number) [
         | inl less ↦ less
         | inr ge ↦ elim (cases_eq d.line.number c.line.number) [
-          | inl q ↦ absurd (precedes_apart (level_of s.start tss) arr.depth c.line d.line p (stamp_path c.line.worker d.line.worker c.line.number d.line.number e (sym q)))
+          | inl q ↦
+              let one = stamp_path c.line.worker d.line.worker c.line.number d.line.number e (sym q) in
+              absurd (precedes_apart (level_of s.start tss) arr.depth c.line d.line p one)
           | inr q ↦
-              let before = own_before s asked rows (published_by tss) tss 1 tss (omega arith) (omega (arith, one_log_each)) ok.owned sound d c k l (sym e) (omega arith) in
+              let few : 1 + length tss ≤ suc s.workers = omega (arith, one_log_each) in
+              let before = own_before s asked rows (published_by tss) tss 1 tss (omega arith) few ok.owned sound d c k l (sym e) (omega arith) in
               absurd (level_outside s.start tss ok own c l (stamp_of d.line) before (precedes_level (level_of s.start tss) arr.depth c.line d.line p))
         ]
       ])
       history (from_history s.start tss ok history arr) arr.ordered
 
   pub numbered : IsNumbered s.start (map entry_of history)
-  numbered = numbered_after s.start [] (map entry_of history) (λ j. subst (λ n. NumberedFrom j n (map entry_of history)) (omega arith) (numbered_from j s.start history worker_rises (λ c l v.
+  numbered =
+      let dense : (j : ℕ) → DenseAbove j s.start history = λ j c l v.
       let r = dense_from s.start 1 j tss ok.owned c (from_history s.start tss ok history arr c l) v in
-      (r.0, λ m a b. let d = r.1 m a b in (d.0, to_history s.start tss ok history arr d.0 d.1, d.2, d.3)))))
+      (r.0, λ m a b. let d = r.1 m a b in (d.0, to_history s.start tss ok history arr d.0 d.1, d.2, d.3)) in
+      numbered_after s.start [] (map entry_of history)
+      (λ j. subst (λ n. NumberedFrom j n (map entry_of history)) (omega arith) (numbered_from j s.start history worker_rises (dense j)))

@@ -31,7 +31,10 @@ SeesGuarded c d = guards_write d c ≡ true → contains d.snap (stamp_of c.line
 
 stamp_cases : (a b : Stamp) → (a ≡ b) ⊎ (a ≢ b)
 stamp_cases a b = elim (cases_eq a.thread b.thread) [
-  | inl p ↦ elim (cases_eq a.number b.number) [ inl q ↦ inl (stamp_path a.thread b.thread a.number b.number p q) | inr q ↦ inr (λ e. q (ap (λ s. s.number) e)) ]
+  | inl p ↦ elim (cases_eq a.number b.number) [
+    | inl q ↦ inl (stamp_path a.thread b.thread a.number b.number p q)
+    | inr q ↦ inr (λ e. q (ap (λ s. s.number) e))
+  ]
   | inr p ↦ inr (λ e. p (ap (λ s. s.thread) e))
 ]
 
@@ -46,7 +49,10 @@ precedes_apart level depth a b h e =
 
 precedes_depth : (level depth : Stamp → ℕ) (a b : CommitLine) → Precedes level depth a b → level (stamp_of a) ≡ level (stamp_of b)
     → depth (stamp_of a) ≤ depth (stamp_of b)
-precedes_depth level depth a b h e = elim h [ inl p ↦ absurd (omega (arith, p, e)) | inr p ↦ elim p.1 [ inl q ↦ omega (arith, q) | inr q ↦ omega (arith, q.0) ] ]
+precedes_depth level depth a b h e = elim h [
+  | inl p ↦ absurd (omega (arith, p, e))
+  | inr p ↦ elim p.1 [ inl q ↦ omega (arith, q) | inr q ↦ omega (arith, q.0) ]
+]
 
 above_one : (depth : Stamp → ℕ) (cs : List Published) (d : Published) → Listed d cs → depth (stamp_of d.line) < above_all depth cs
 above_one depth [] d l = elim l [ ]
@@ -64,7 +70,9 @@ module _ (start : ℕ) (tss : List (List Tell)) (ok : HaveOrder start tss) (own 
       let sd = stands d k in
       elim (cases_lt (sum_above start c.snap) (sum_above start d.snap)) [
         | inl lt ↦ omega (arith, sc.prefix, sd.prefix)
-        | inr ge ↦ absurd (true≢false (sym (contains_at_most d.snap c.snap (stamp_of c.line) (at_most_by_sum start d.snap c.snap tss (ok.within d.snap sd.snap) (ok.within c.snap sc.snap) (ok.ordered d.snap c.snap sd.snap sc.snap) ge) h) ∙ own c l))
+        | inr ge ↦
+            let most = at_most_by_sum start d.snap c.snap tss (ok.within d.snap sd.snap) (ok.within c.snap sc.snap) (ok.ordered d.snap c.snap sd.snap sc.snap) ge in
+            absurd (true≢false (sym (contains_at_most d.snap c.snap (stamp_of c.line) most h) ∙ own c l))
       ]
 
   -- the level of a commit is above its prefix
@@ -129,13 +137,15 @@ module _ (start : ℕ) (tss : List (List Tell)) (ok : HaveOrder start tss) (own 
               → guards_write d c ≡ true → contains d.snap (stamp_of c.line) ≡ false → ⊥
           overtaken c d l k p g f =
               let over : is_overtaking d c ≡ true = and_from _ _ g (ap not f) in
-              let up : level (stamp_of d.line) ≤ level (stamp_of c.line) = elim (level_says start (suc (length (published_by tss))) (snaps_by tss) (stamp_of c.line)) [
+              let says = level_says start (suc (length (published_by tss))) (snaps_by tss) (stamp_of c.line) in
+              let up : level (stamp_of d.line) ≤ level (stamp_of c.line) = elim says [
                 | inl t ↦ omega (arith, t, level_top start tss ok (stamp_of d.line))
                 | inr (snap, m, h, q) ↦ omega (arith, q, level_inside start tss ok snap m (stamp_of d.line) (keeps snap m d c k l over h))
               ] in
               let same : level (stamp_of d.line) ≡ level (stamp_of c.line) = omega (arith, up, precedes_level level arr.depth c.line d.line p) in
               let beside : guards_beside level d c ≡ true = and_from _ _ (eq-eqb _ _ same) g in
-              let deep = above_one arr.depth (filter (λ x. guards_beside level x c) (published_by tss)) d (listed_filter (λ x. guards_beside level x c) (published_by tss) d k beside) in
+              let among = listed_filter (λ x. guards_beside level x c) (published_by tss) d k beside in
+              let deep = above_one arr.depth (filter (λ x. guards_beside level x c) (published_by tss)) d among in
               omega (arith, deep, arr.depths c l, precedes_depth level arr.depth c.line d.line p (sym same))
 
       pub rises : (key : Key) → Rises key history
@@ -154,10 +164,14 @@ module _ (start : ℕ) (tss : List (List Tell)) (ok : HaveOrder start tss) (own 
 
       module _ (snap : List ℕ) (l : Listed snap (snaps_by tss)) where
         pub to_inside : (c : Published) → Listed c (inside snap (published_by tss)) → Listed c (inside snap history)
-        to_inside c h = let f = filter_listed (is_inside snap) (published_by tss) c h in listed_filter (is_inside snap) history c (to_history start tss ok history arr c f.0) f.1
+        to_inside c h =
+            let f = filter_listed (is_inside snap) (published_by tss) c h in
+            listed_filter (is_inside snap) history c (to_history start tss ok history arr c f.0) f.1
 
         pub from_inside : (c : Published) → Listed c (inside snap history) → Listed c (inside snap (published_by tss))
-        from_inside c h = let f = filter_listed (is_inside snap) history c h in listed_filter (is_inside snap) (published_by tss) c (from_history start tss ok history arr c f.0) f.1
+        from_inside c h =
+            let f = filter_listed (is_inside snap) history c h in
+            listed_filter (is_inside snap) (published_by tss) c (from_history start tss ok history arr c f.0) f.1
 
         inside_published : (c : Published) → Listed c (inside snap history) → Listed c (published_by tss)
         inside_published c h = from_history start tss ok history arr c (filter_listed (is_inside snap) history c h).0
@@ -166,7 +180,9 @@ module _ (start : ℕ) (tss : List (List Tell)) (ok : HaveOrder start tss) (own 
         rises_inside key = Pairwise-filter (RisesBy key) (is_inside snap) history (rises key)
 
         newest_agrees : (key : Key) → newest_in key (inside snap history) ≡ newest_in key (inside snap (published_by tss))
-        newest_agrees key = newest_same key (inside snap history) (inside snap (published_by tss)) from_inside to_inside (λ c d h k. one_writer key c d (inside_published c h) (inside_published d k))
+        newest_agrees key =
+            newest_same key (inside snap history) (inside snap (published_by tss)) from_inside to_inside
+            (λ c d h k. one_writer key c d (inside_published c h) (inside_published d k))
 
         -- the state at a prefix is what the snapshot shows
         pub state_agrees : (rows : Rows) → state_at rows (map entry_of (inside snap history)) ≡ rows_in rows (published_by tss) snap
@@ -175,7 +191,9 @@ module _ (start : ℕ) (tss : List (List Tell)) (ok : HaveOrder start tss) (own 
         -- and so is the newest stamp of a key
         pub stamp_agrees : (key : Key)
             → newest_writer key (map entry_of (inside snap history)) ≡ stamp_or_loader (newest_in key (inside snap (published_by tss)))
-        stamp_agrees key = stamp_newest key loader (inside snap history) (rises_inside key) ∙ ap (stamp_or key loader) (newest_agrees key) ∙ or_loader (newest_in key (inside snap (published_by tss)))
+        stamp_agrees key =
+            stamp_newest key loader (inside snap history) (rises_inside key)
+            ∙ ap (stamp_or key loader) (newest_agrees key) ∙ or_loader (newest_in key (inside snap (published_by tss)))
           where
             or_loader : (r : Option Published) → stamp_or key loader r ≡ stamp_or_loader r
             or_loader None = refl

@@ -20,7 +20,7 @@ use Rattle.si_model.specs.Causes.{OutcomeCause, EventCause, HaveCausesAfter}
 use Rattle.si_model.specs.Consistency.{OwnsSnapshot, NumbersFollow, AreOwned, AreSound}
 use Rattle.si_model.proofs.ListLemmas.{All-listed, All-from_listed, listed_append_cases}
 use Rattle.si_model.proofs.SnapshotLemmas.{at_most_at, contains_is}
-use Rattle.si_law.proofs.Standing.{IsPublishing, publishing_at, worker_of, worker_from, publishes, numbers_above}
+use Rattle.si_law.proofs.Standing.{IsPublishing, publishing_at, worker_from, publishes, worker_is, number_above}
 
 length_at_most : (as' bs : List ℕ) → AreAtMost as' bs → length as' ≤ length bs
 length_at_most [] bs h = omega arith
@@ -74,7 +74,8 @@ module _ (s : Setting) (rows : Rows) (cs : List Published) (tss : List (List Tel
       let seen : SeesPrefix v t known (Some c.line.prefix) = subst (SeesPrefix v t known) p.prefix at.0 in
       let here = keeps_at_most j n known t.snap k seen.1 in
       let after : known_after v j t known t.event ≡ learnt t.snap j c.line.number =
-      ap (known_after v j t known) p.event ∙ ap (λ q. known_by j (known_with v t known q) p.attempt.outcome) p.prefix ∙ ap (known_by j t.snap) p.number in (
+      ap (known_after v j t known) p.event
+      ∙ ap (λ q. known_by j (known_with v t known q) p.attempt.outcome) p.prefix ∙ ap (known_by j t.snap) p.number in (
         subst (λ z. Keeps j z n) (sym p.snap) here,
         subst (λ z. Keeps j z c.line.number) (sym after) (keeps_own j c.line.number t.snap positive here.0),
       )
@@ -90,14 +91,19 @@ module _ (s : Setting) (rows : Rows) (cs : List Published) (tss : List (List Tel
   sees_own start n done known (t ∷ ts) k h c o f =
       elim (publishes j t t.event o.0.commit) [
         | inl q ↦
-            rw q.0 (sees_own start n (done ++ t ∷ []) (known_after v j t known t.event) ts (keeps_after n done t known t.event k h.0 c.0 q.1) h.1 c.1 o.1 (rw q.0 at f))
+            let after = keeps_after n done t known t.event k h.0 c.0 q.1 in
+            rw q.0 (sees_own start n (done ++ t ∷ []) (known_after v j t known t.event) ts after h.1 c.1 o.1 (rw q.0 at f))
         | inr q ↦
             let p : IsPublishing j t q.0 = publishing_at j t t.event q.0 (rw q.1 (inl refl)) refl in
             let f' : NumbersFollow n (q.0 ∷ published_of j ts) = rw q.1 at f in
             let here = sees_commit n t known q.0 p k h.0 in
             let rest = sees_own start q.0.line.number (done ++ t ∷ []) (known_after v j t known t.event) ts here.1 h.1 c.1 o.1 (rw f'.0 f'.1) in
             rw q.1 (
-              (here.0.1, All-from_listed (λ c. n ≤ get_or c.snap (j - 1) 0) (published_of j ts) (λ c l. omega (arith, f'.0, All-listed (λ c. q.0.line.number ≤ get_or c.snap (j - 1) 0) (published_of j ts) c rest.0 l))),
+              (
+                here.0.1,
+                All-from_listed (λ c. n ≤ get_or c.snap (j - 1) 0) (published_of j ts)
+                    (λ c l. omega (arith, f'.0, All-listed (λ c. q.0.line.number ≤ get_or c.snap (j - 1) 0) (published_of j ts) c rest.0 l)),
+              ),
               (rest.0, rest.1),
             )
       ]
@@ -110,7 +116,7 @@ module _ (s : Setting) (rows : Rows) (cs : List Published) (tss : List (List Tel
       elim k [
         | inl q ↦ elim l [
           | inl r ↦ absurd (omega (arith, lt, ap (λ z. z.line.number) q, ap (λ z. z.line.number) r))
-          | inr r ↦ absurd (omega (arith, lt, f.0, ap (λ z. z.line.number) q, All-listed (λ c. suc n < c.line.number) ds c (numbers_above (suc n) ds f.1) r))
+          | inr r ↦ absurd (omega (arith, lt, f.0, ap (λ z. z.line.number) q, number_above (suc n) ds f.1 c r))
         ]
         | inr q ↦ elim l [
           | inl r ↦ subst (λ z. SeesOwn z d) r (All-listed (SeesOwn x) ds d p.0 q)
@@ -128,15 +134,16 @@ own_before s asked rows cs all j (ts ∷ tss) p w o h c d l k e lt =
     elim (listed_append_cases (published_of j ts) (published_from (suc j) tss) c l) [
       | inl a ↦ elim (listed_append_cases (published_of j ts) (published_from (suc j) tss) d k) [
         | inl b ↦
-            let seen = sees_own s rows cs all j p s.start s.start [] (replicate s.workers s.start) ts
-            (omega (arith, w, length-replicate s.workers s.start), omega (arith, get_or-replicate s.workers (j - 1) s.start 0 (omega (arith, w, p)))) h.0.sees h.0.causes o.0.snapshots o.0.numbers in
+            let knows : Keeps j (replicate s.workers s.start) s.start =
+            (omega (arith, w, length-replicate s.workers s.start), omega (arith, get_or-replicate s.workers (j - 1) s.start 0 (omega (arith, w, p)))) in
+            let seen = sees_own s rows cs all j p s.start s.start [] (replicate s.workers s.start) ts knows h.0.sees h.0.causes o.0.snapshots o.0.numbers in
             let le = pair_by_number s rows cs all j p s.start (published_of j ts) o.0.numbers seen.1 c d a b lt in
-            let is : c.line.worker ≡ j = All-listed (λ c. c.line.worker ≡ j) (published_of j ts) c (worker_of j ts) a in
+            let is : c.line.worker ≡ j = worker_is j ts c a in
             contains_is d.snap (stamp_of c.line) (omega (arith, is, p)) (rw is le)
-        | inr b ↦ absurd (omega (arith, e, All-listed (λ c. c.line.worker ≡ j) (published_of j ts) c (worker_of j ts) a, worker_from (suc j) tss d b))
+        | inr b ↦ absurd (omega (arith, e, worker_is j ts c a, worker_from (suc j) tss d b))
       ]
       | inr a ↦ elim (listed_append_cases (published_of j ts) (published_from (suc j) tss) d k) [
-        | inl b ↦ absurd (omega (arith, e, All-listed (λ c. c.line.worker ≡ j) (published_of j ts) d (worker_of j ts) b, worker_from (suc j) tss c a))
+        | inl b ↦ absurd (omega (arith, e, worker_is j ts d b, worker_from (suc j) tss c a))
         | inr b ↦ own_before s asked rows cs all (suc j) tss (omega arith) (omega (arith, w)) o.1 h.1 c d a b e lt
       ]
     ]

@@ -83,11 +83,14 @@ publishing j (t ∷ ts) c l =
 pub worker_of : (j : ℕ) (ts : List Tell) → AllByRecursion (λ c. c.line.worker ≡ j) (published_of j ts)
 worker_of j ts = All-from_listed (λ c. c.line.worker ≡ j) (published_of j ts) (λ c l. (publishing j ts c l).2.worker)
 
+pub worker_is : (j : ℕ) (ts : List Tell) (c : Published) → Listed c (published_of j ts) → c.line.worker ≡ j
+worker_is j ts c l = (publishing j ts c l).2.worker
+
 pub worker_from : (j : ℕ) (tss : List (List Tell)) (c : Published) → Listed c (published_from j tss) → j ≤ c.line.worker
 worker_from j [] c l = elim l [ ]
 worker_from j (ts ∷ tss) c l =
     elim (listed_append_cases (published_of j ts) (published_from (suc j) tss) c l) [
-      | inl h ↦ omega (arith, All-listed (λ c. c.line.worker ≡ j) (published_of j ts) c (worker_of j ts) h)
+      | inl h ↦ omega (arith, worker_is j ts c h)
       | inr h ↦ omega (arith, worker_from (suc j) tss c h)
     ]
 
@@ -123,7 +126,7 @@ pub published_log : (j : ℕ) (tss : List (List Tell)) (c : Published) → Liste
 published_log j [] c l = elim l [ ]
 published_log j (ts ∷ tss) c l =
     elim (listed_append_cases (published_of j ts) (published_from (suc j) tss) c l) [
-      | inl h ↦ (ts, inl refl, subst (λ i. Listed c (published_of i ts)) (sym (All-listed (λ c. c.line.worker ≡ j) (published_of j ts) c (worker_of j ts) h)) h)
+      | inl h ↦ (ts, inl refl, subst (λ i. Listed c (published_of i ts)) (sym (worker_is j ts c h)) h)
       | inr h ↦ let r = published_log (suc j) tss c h in (r.0, inr r.1, r.2)
     ]
 
@@ -143,18 +146,27 @@ standing start j tss w c l =
 pub stamp_path : (a b c d : ℕ) → a ≡ b → c ≡ d → stamp_at a c ≡ stamp_at b d
 stamp_path a b c d e f = ap (λ x. stamp_at x c) e ∙ ap (λ y. stamp_at b y) f
 
-pub numbers_above : (m : ℕ) (cs : List Published) → NumbersFollow m cs → AllByRecursion (λ c. m < c.line.number) cs
-numbers_above m [] h = tt
-numbers_above m (c ∷ cs) h = (omega (arith, h.0), All-from_listed (λ c. m < c.line.number) cs (λ x l. omega (arith, All-listed (λ c. suc m < c.line.number) cs x (numbers_above (suc m) cs h.1) l)))
+-- numbers that follow m are above it
+pub number_above : (m : ℕ) (cs : List Published) → NumbersFollow m cs → (c : Published) → Listed c cs → m < c.line.number
+number_above m [] h c l = elim l [ ]
+number_above m (x ∷ cs) h c l = elim l [
+  | inl q ↦ omega (arith, h.0, ap (λ z. z.line.number) q)
+  | inr r ↦ omega (arith, number_above (suc m) cs h.1 c r)
+]
 
 one_number : (m : ℕ) (cs : List Published) → NumbersFollow m cs → (c d : Published) → Listed c cs → Listed d cs
     → c.line.number ≡ d.line.number → c ≡ d
 one_number m [] h c d l k e = elim l [ ]
 one_number m (x ∷ cs) h c d l k e =
-    let more = numbers_above (suc m) cs h.1 in
     elim l [
-      | inl p ↦ elim k [ inl q ↦ sym p ∙ q | inr q ↦ absurd (omega (arith, h.0, e, ap (λ z. z.line.number) p, All-listed (λ c. suc m < c.line.number) cs d more q)) ]
-      | inr p ↦ elim k [ inl q ↦ absurd (omega (arith, h.0, e, ap (λ z. z.line.number) q, All-listed (λ c. suc m < c.line.number) cs c more p)) | inr q ↦ one_number (suc m) cs h.1 c d p q e ]
+      | inl p ↦ elim k [
+        | inl q ↦ sym p ∙ q
+        | inr q ↦ absurd (omega (arith, h.0, e, ap (λ z. z.line.number) p, number_above (suc m) cs h.1 d q))
+      ]
+      | inr p ↦ elim k [
+        | inl q ↦ absurd (omega (arith, h.0, e, ap (λ z. z.line.number) q, number_above (suc m) cs h.1 c p))
+        | inr q ↦ one_number (suc m) cs h.1 c d p q e
+      ]
     ]
 
 -- a stamp names one commit
@@ -166,21 +178,25 @@ one_stamp start j (ts ∷ tss) w c d l k e =
     elim (listed_append_cases (published_of j ts) (published_from (suc j) tss) c l) [
       | inl p ↦ elim (listed_append_cases (published_of j ts) (published_from (suc j) tss) d k) [
         | inl q ↦ one_number start (published_of j ts) w.0.numbers c d p q (ap (λ s. s.number) e)
-        | inr q ↦ absurd (omega (arith, same, All-listed (λ c. c.line.worker ≡ j) (published_of j ts) c (worker_of j ts) p, worker_from (suc j) tss d q))
+        | inr q ↦ absurd (omega (arith, same, worker_is j ts c p, worker_from (suc j) tss d q))
       ]
       | inr p ↦ elim (listed_append_cases (published_of j ts) (published_from (suc j) tss) d k) [
-        | inl q ↦ absurd (omega (arith, same, All-listed (λ c. c.line.worker ≡ j) (published_of j ts) d (worker_of j ts) q, worker_from (suc j) tss c p))
+        | inl q ↦ absurd (omega (arith, same, worker_is j ts d q, worker_from (suc j) tss c p))
         | inr q ↦ one_stamp start (suc j) tss w.1 c d p q e
       ]
     ]
 
 -- an event publishes nothing, or one commit of its number
 abbrev pub Publishes : ℕ → Tell → Event → Type 0
-Publishes j t e = ((published_at j t e ≡ []) × (commit_in e ≡ None)) ⊎ ((c : Published) × (published_at j t e ≡ c ∷ []) × (commit_in e ≡ Some c.line.number))
+Publishes j t e =
+    ((published_at j t e ≡ []) × (commit_in e ≡ None))
+    ⊎ ((c : Published) × (published_at j t e ≡ c ∷ []) × (commit_in e ≡ Some c.line.number))
 
 publishes_in : (j : ℕ) (t : Tell) (a : Attempt) (p : Option ℕ) (o : Outcome) → (IsTrue (is_some (number_in o)) → IsTrue (is_some p))
-    → ((published_in j t a p o ≡ []) × (number_in o ≡ None)) ⊎ ((c : Published) × (published_in j t a p o ≡ c ∷ []) × (number_in o ≡ Some c.line.number))
-publishes_in j t a (Some p) (Commit n) h = inr (record { line = record { worker = j; number = n; prefix = p; txn = a.txn; writes = t.writes }; snap = t.snap; ops = t.ops }, refl, refl)
+    → ((published_in j t a p o ≡ []) × (number_in o ≡ None))
+    ⊎ ((c : Published) × (published_in j t a p o ≡ c ∷ []) × (number_in o ≡ Some c.line.number))
+publishes_in j t a (Some p) (Commit n) h =
+    inr (record { line = record { worker = j; number = n; prefix = p; txn = a.txn; writes = t.writes }; snap = t.snap; ops = t.ops }, refl, refl)
 publishes_in j t a None (Commit n) h = absurd (false≢true (h refl))
 publishes_in j t a p o h = inl (refl, refl)
 
@@ -220,6 +236,7 @@ commit_ops jobs j (log ∷ logs) c l =
       | inl h ↦
           let r = publishing j (tells_of jobs log) c h in
           let s = r.2 in
-          s.ops ∙ tell_ops jobs log.events log.reads log.locks log.writes log.snaps r.0 r.1 ∙ ap (ops_in jobs) s.event ∙ ap (λ x. slice_index_or jobs (x - 1) []) (sym s.txn)
+          s.ops ∙ tell_ops jobs log.events log.reads log.locks log.writes log.snaps r.0 r.1
+          ∙ ap (ops_in jobs) s.event ∙ ap (λ x. slice_index_or jobs (x - 1) []) (sym s.txn)
       | inr h ↦ commit_ops jobs (suc j) logs c h
     ]

@@ -17,7 +17,7 @@ use Rattle.si_model.specs.Consistency.{AreConsistent, AreConsistentFor, AreSound
 use Rattle.si_model.specs.Audit.{IsAudit}
 use Rattle.si_model.specs.Run.{times_listed, AreWorkerRuns, IsRun}
 use Rattle.si_model.proofs.ListLemmas.{All-from_listed, All-map}
-use Rattle.si_law.specs.Views.{AgreeOn, KeepCauses}
+use Rattle.si_law.specs.Views.{AsksMore, AgreeOn, KeepCauses}
 use Rattle.si_law.specs.Law.{ArrangedIsRun, ConsistentArrange, ConsistentNoCircle, StateIsNewest}
 use Rattle.si_law.proofs.Standing.{tell_stands, commit_ops}
 use Rattle.si_law.proofs.Counted.{IsOrdered, ordered_lines, from_history, length_within}
@@ -61,7 +61,9 @@ module _ (s : Setting) (asked : Asked) (tss : List (List Tell)) (ok : AreConsist
     worker_runs script j [] among sound policies = tt
     worker_runs script j (ts ∷ more) among sound policies =
         let agree = agree_on ts (among ts (inl refl)) in
-        let moved = moved_sound s asked (by_script s) (view_by s tss) w tss tss j ts (record { ops = λ op l. subst (λ a. Listed op a.ops) script l; by_calls = λ h. subst (λ a. a.by_calls ≡ true) script h })
+        let asks : AsksMore asked (by_script s) =
+        record { ops = λ op l. subst (λ a. Listed op a.ops) script l; by_calls = λ h. subst (λ a. a.by_calls ≡ true) script h } in
+        let moved = moved_sound s asked (by_script s) (view_by s tss) w tss tss j ts asks
         (extends s.start tss ok.order own ok.first_wins history arr (rows_of s.rows) s.workers) (keep_causes s w tss j ts) agree sound.0 in (
           record {
             sees = moved.sees;
@@ -82,10 +84,14 @@ run_of s logs history audit consistent arr is_audit =
     let owns = own s (by_script s) tss ok in
     record {
       one_log_each = sym (length-map logs (tells_of s.jobs)) ∙ ok.one_log_each;
-      legal = legal s.start tss ok.order owns ok.first_wins ok.guards history arr s.widths (rows_of s.rows) s.jobs ok.published consistent.jobs_in_range (commit_ops s.jobs 1 logs);
+      legal =
+          legal s.start tss ok.order owns ok.first_wins ok.guards history arr s.widths (rows_of s.rows) s.jobs
+          ok.published consistent.jobs_in_range (commit_ops s.jobs 1 logs);
       numbered = numbered s (by_script s) (rows_of s.rows) tss ok.one_log_each ok.order owns ok.sound history arr;
       workers = worker_runs s (by_script s) tss ok history arr refl 1 tss (λ ts l. l) ok.sound consistent.policies;
-      listed = All-map entry_of (λ e. times_listed e 1 tss ≡ 1) history (All-from_listed (λ c. times_listed c.line 1 tss ≡ 1) history (λ c l. listed_once s.start tss ok.order.owned c (from_history s.start tss ok.order history arr c l)));
+      listed =
+          let once = λ (c : Published) (l : Listed c history). listed_once s.start tss ok.order.owned c (from_history s.start tss ok.order history arr c l) in
+          All-map entry_of (λ e. times_listed e 1 tss ≡ 1) history (All-from_listed (λ c. times_listed c.line 1 tss ≡ 1) history once);
       audit = is_audit;
     }
 

@@ -9,8 +9,9 @@ pub fn run_law()
     ensures { ArrangedIsRun }
 {}
 
-/// Consistent logs can be arranged: their commits have an order by the snapshots, and within a level of that order no
-/// circle of commits guards what the next one writes. The latter also where the transactions come call by call.
+/// Consistent logs can be arranged. A commit's level is the length of the history that the first snapshot with it saw;
+/// within a level there is no circle of commits in which each guards a key that the next one writes. The latter also
+/// where the transactions come call by call.
 pub fn arrange_law()
     ensures arrange { ConsistentArrange }
     ensures no_circle { ConsistentNoCircle }

@@ -1,2 +1,4 @@
 pub mod GrowthCrowded
 pub mod Moved
+pub mod GrowthEnds
+pub mod GrowthCommits

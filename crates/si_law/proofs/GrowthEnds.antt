@@ -66,12 +66,11 @@ moves_behind b front was now le = omega (arith, le, move_count-append b front wa
 
 -- ---- the number of the worker after the first logs
 
-pub number_after : ℕ → List (List Tell) → ℕ
+abbrev pub number_after : ℕ → List (List Tell) → ℕ
 number_after k [] = k
 number_after k (ts ∷ tss) = number_after (suc k) tss
 
 pub number_after_is : (k : ℕ) (tss : List (List Tell)) → number_after k tss ≡ k + length tss
-unfolding number_after
 number_after_is k [] = omega arith
 number_after_is k (ts ∷ tss) = omega (arith, number_after_is (suc k) tss)
 
@@ -82,7 +81,6 @@ number_is before = omega (arith, number_after_is 1 before)
 
 module _ (ts : List Tell) (after : List (List Tell)) where
   published_after : (k : ℕ) (before : List (List Tell)) → published_from k (before ++ ts ∷ after) ≡ published_from k before ++ (published_of (number_after k before) ts ++ published_from (suc (number_after k before)) after)
-  unfolding number_after
   published_after k [] = refl
   published_after k (b ∷ before) =
       ap (λ cs. published_of k b ++ cs) (published_after (suc k) before)
@@ -116,7 +114,6 @@ others_skip k j ts tss apart = rw (not_equal k j apart) refl
 
 module _ (j : ℕ) (ts : List Tell) (after : List (List Tell)) where
   others_apart : (k : ℕ) (before : List (List Tell)) → number_after k before ≢ j → others_from k j (before ++ ts ∷ after) ≡ others_from k j before ++ (ts ++ others_from (suc (number_after k before)) j after)
-  unfolding number_after
   others_apart k [] apart = others_skip k j ts after apart
   others_apart k (b ∷ before) apart =
       let rest = others_apart (suc k) before apart in
@@ -126,7 +123,6 @@ module _ (j : ℕ) (ts : List Tell) (after : List (List Tell)) where
       ]
 
   others_same : (k : ℕ) (before : List (List Tell)) → number_after k before ≡ j → others_from k j (before ++ ts ∷ after) ≡ others_from k j before ++ others_from (suc (number_after k before)) j after
-  unfolding number_after
   others_same k [] same = rw (equal k j same) refl
   others_same k (b ∷ before) same =
       let rest = others_same (suc k) before same in

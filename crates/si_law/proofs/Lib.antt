@@ -2,3 +2,4 @@ pub mod GrowthCrowded
 pub mod Moved
 pub mod GrowthEnds
 pub mod GrowthCommits
+pub mod GrowthKeeps

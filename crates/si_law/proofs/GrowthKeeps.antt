@@ -107,7 +107,7 @@ module _ (s : Setting) (before : List (List Tell)) (ts was now : List Tell) (aft
       subst (λ xs. list_all p xs ≡ true) (sym (parts now)) (all_between p front was now (joined after) k (subst (λ xs. list_all p xs ≡ true) (parts was) h))
 
   -- where the worker was stopped, it is still, or published the version, or nobody found that version
-  abbrev Stops : View → Type 0
+  abbrev pub Stops : View → Type 0
   Stops w =
       (key : Key) → ends_locking key (ts ++ was) ≡ true
       → (is_written w key (stamp_at (worker_of before) (last_number s.start ts + 1)) ≡ true)

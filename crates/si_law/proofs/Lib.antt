@@ -3,3 +3,4 @@ pub mod Moved
 pub mod GrowthEnds
 pub mod GrowthCommits
 pub mod GrowthKeeps
+pub mod GrowthQuiet

@@ -4,3 +4,4 @@ pub mod GrowthEnds
 pub mod GrowthCommits
 pub mod GrowthKeeps
 pub mod GrowthQuiet
+pub mod GrowthView

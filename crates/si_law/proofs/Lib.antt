@@ -5,3 +5,4 @@ pub mod GrowthCommits
 pub mod GrowthKeeps
 pub mod GrowthQuiet
 pub mod GrowthView
+pub mod GrowthCommit

@@ -1,0 +1,278 @@
+-- An end may be exchanged for one that starts with a commit.
+use Rattle.std.proofs.Common.{◌≡◌, ◌≢◌, ℕ, zero, suc, ◌+◌, ◌-◌, ◌<◌, ◌≤◌, Bool, true, false, cond, ◌⊎◌, inl, inr, List, [], ◌∷◌, ◌++◌, length, get_or, refl, ap, sym, ◌∙◌, subst, arith, not, Option, Some, None}
+use Rattle.std.specs.Prelude.{IsTrue, ◌&&◌, if◌then◌else◌, replicate, map, filter, slice_index_or}
+use Rattle.std.specs.List.{list_any, AllByRecursion}
+use Rattle.std.proofs.lemmas.Bool.{cases_Bool, cond_both, false≢true, true≢false, false_from_ne_true, and_parts}
+use Rattle.std.proofs.lemmas.List.{append_assoc, append-nil}
+use Rattle.si_model.specs.declared.row.Key.{Key}
+use Rattle.si_model.specs.declared.row.Item.{Item}
+use Rattle.si_model.specs.declared.log.Stamp.{Stamp}
+use Rattle.si_model.specs.declared.log.Attempt.{Attempt}
+use Rattle.si_model.specs.declared.log.Outcome.{Outcome}
+use Rattle.si_model.specs.declared.log.Outcome.TheVariants.{Commit}
+use Rattle.si_model.specs.declared.log.Event.{Event}
+use Rattle.si_model.specs.declared.log.Event.TheVariants.{Tried}
+use Rattle.si_model.specs.declared.report.CommitLine.{CommitLine}
+use Rattle.si_model.specs.declared.evaluated.Evaluated.TheVariants.{Done}
+use Rattle.si_model.specs.Lists.{Listed, joined}
+use Rattle.si_model.specs.Rows.{Rows, rows_of, item_key, same_key, writes_key}
+use Rattle.si_model.specs.Evaluation.{evaluation_of, guard_keys, keys_from, key_guarded, ops_write}
+use Rattle.si_model.specs.History.{stamp_at, stamp_of, same_stamp, keys_of}
+use Rattle.si_model.specs.Tells.{Tell, prefix_in, last_number}
+use Rattle.si_model.specs.Commits.{Published, entry_of, published_of, published_from, published_by, snaps_of, snaps_by}
+use Rattle.si_model.specs.Snapshots.{contains, rows_in}
+use Rattle.si_model.specs.View.{View, by_snapshots}
+use Rattle.si_model.specs.Setting.{Setting, Asked}
+use Rattle.si_model.specs.Arranged.{guards_write}
+use Rattle.si_model.specs.Answers.{lock_key, AnswersWith, AnswersOn, AnswersIn, AnswersMatch, AreNewest}
+use Rattle.si_model.specs.Causes.{others_of, is_written, EventCause, OutcomeCause, HaveCausesAfter}
+use Rattle.si_model.specs.Consistency.{OwnsSnapshot, NumbersFollow, OwnsAll, IsWithin, MayBePublished, share_key, FirstWins, is_overtaking, KeepsGuards, HaveNoCircle, IsSound, AreSound, AreConsistent, view_by}
+use Rattle.si_law.specs.Views.{AsksMore, Extends, Agrees, AgreeOn, KeepCauses}
+use Rattle.si_law.specs.Growth.{ending, worker_of, IsNoCommit, OwesCommit, CommitGrowth}
+use Rattle.si_model.proofs.ListLemmas.{All-append, listed_append_left, listed_append_right, listed_append_cases, filter_listed, listed_map, any_listed, listed_any}
+use Rattle.si_model.proofs.SnapshotLemmas.{contains_says}
+use Rattle.si_model.proofs.EvaluationLemmas.{same_key-refl, same_key_says, done-writes_key, done-guards}
+use Rattle.si_law.proofs.Moved.{same_stamp-refl, same_stamp_says, moved_answers, moved_sees, moved_causes_after, moved_sound}
+use Rattle.si_law.proofs.GrowthEnds.{number_after, number_is, published_ending, tells_own, last_number-append, within_entry, listed_snap, listed_joined_snap, others_joined, listed_own, snaps_cases}
+use Rattle.si_law.proofs.GrowthCommits.{IsCommitOn, published_on, owned_commit, published_of-append, silent_last, commit_published, commit_last, last_is, follow_append, published_snap, published_number}
+use Rattle.si_law.proofs.GrowthKeeps.{All-front, sees_front, sees_append, causes_front, causes_append, same_known_all, keeps_causes, order_end, owned_end, sound_end, Stops}
+use Rattle.si_law.proofs.GrowthQuiet.{silent_end}
+use Rattle.si_law.proofs.GrowthView.{IsWithOneMore, one_more_listed, one_more_keeps, one_more_cases, one_more_length, one_more_rows, one_more_extends, one_more_agrees}
+
+-- ---- keys of write sets
+
+writes_listed : (is : List Item) (key : Key) → writes_key is key ≡ true → Listed key (map item_key is)
+writes_listed [] key h = absurd (false≢true h)
+writes_listed (i ∷ is) key h =
+    cond_both (same_key (item_key i) key) true (writes_key is key) (λ b. b ≡ true → Listed key (item_key i ∷ map item_key is))
+    (λ same e. inl (same_key_says (item_key i) key same))
+    (λ other e. inr (writes_listed is key e)) h
+
+item_writes : (is : List Item) (i : Item) → Listed i is → writes_key is (item_key i) ≡ true
+item_writes [] i l = elim l [ ]
+item_writes (x ∷ is) i l =
+    cond_both (same_key (item_key x) (item_key i)) true (writes_key is (item_key i)) (λ b. b ≡ true)
+    (λ same. refl)
+    (λ other. elim l [
+      | inl e ↦ absurd (false≢true (sym other ∙ ap (λ z. same_key (item_key z) (item_key i)) e ∙ same_key-refl (item_key i)))
+      | inr r ↦ item_writes is i r
+    ])
+
+module _ (s : Setting) (asked more : Asked) (before : List (List Tell)) (ts was : List Tell) (t : Tell) (rest : List Tell) (after : List (List Tell))
+    (asks : AsksMore asked more) (consistent : AreConsistent s asked (ending before ts was after)) (silent : AllByRecursion IsNoCommit was)
+    (owes : OwesCommit s more before ts was t rest after) where
+  abbrev old : List (List Tell)
+  old = ending before ts was after
+
+  abbrev new : List (List Tell)
+  new = ending before ts (t ∷ rest) after
+
+  abbrev worker : ℕ
+  worker = worker_of before
+
+  abbrev number : ℕ
+  number = last_number s.start ts + 1
+
+  abbrev cs : List Published
+  cs = published_by old
+
+  abbrev cs' : List Published
+  cs' = published_by new
+
+  abbrev v : View
+  v = view_by s old
+
+  abbrev w : View
+  w = view_by s new
+
+  tried : (a : Attempt) × (p : ℕ) × IsCommitOn t a p number
+  tried = owned_commit s.start t number owes.owes.owned.0 owes.commit.number
+
+  -- the commit as it is listed
+  abbrev mine : Published
+  mine = published_on worker t tried.0 tried.1 number
+
+  abbrev stamp : Stamp
+  stamp = stamp_at worker number
+
+  last_was : last_number s.start (ts ++ was) ≡ last_number s.start ts
+  last_was = last_number-append s.start ts was ∙ silent_last (last_number s.start ts) was silent
+
+  last_now : last_number s.start (ts ++ t ∷ rest) ≡ number
+  last_now = last_number-append s.start ts (t ∷ rest) ∙ commit_last (last_number s.start ts) number t rest owes.commit.number owes.silent
+
+  published_now : (j : ℕ) → published_of j (ts ++ t ∷ rest) ≡ published_of j ts ++ published_on j t tried.0 tried.1 number ∷ []
+  published_now j = published_of-append j ts (t ∷ rest) ∙ ap (λ ds. published_of j ts ++ ds) (commit_published j t rest tried.0 tried.1 number tried.2 owes.silent)
+
+  one_more : IsWithOneMore mine cs cs'
+  one_more =
+      let own = published_of worker ts in
+      let back = published_from (suc worker) after in
+      record {
+        front = published_by before ++ own;
+        back = back;
+        was = published_ending (ts ++ was) after before ∙ ap (λ ds. published_by before ++ (ds ++ back)) (silent_end worker ts was silent) ∙ sym (append_assoc (published_by before) own back);
+        now = published_ending (ts ++ t ∷ rest) after before ∙ ap (λ ds. published_by before ++ (ds ++ back)) (published_now worker)
+            ∙ ap (λ ds. published_by before ++ ds) (append_assoc own (mine ∷ []) back) ∙ sym (append_assoc (published_by before) own (mine ∷ back));
+      }
+
+  -- ---- no snapshot contains it, and none of the others bears its stamp
+
+  outside : (snap : List ℕ) → IsWithin s.start snap old → contains snap stamp ≡ false
+  outside snap within = false_from_ne_true (contains snap stamp) refuted
+    where
+      refuted : contains snap stamp ≡ true → ⊥
+      refuted e =
+          let says = (contains_says snap stamp e).1 in
+          let entry = within_entry s.start snap before (ts ++ was) after within in
+          let place : worker_of before - 1 ≡ length before = omega arith in
+          omega (arith, says, entry, last_was, ap (λ i. get_or snap i 0) place)
+
+  old_outside : (snap : List ℕ) → Listed snap (snaps_by old) → contains snap stamp ≡ false
+  old_outside snap l = outside snap (consistent.order.within snap l)
+
+  new_outside : (snap : List ℕ) → Listed snap (snaps_of (t ∷ rest)) → contains snap stamp ≡ false
+  new_outside snap l = outside snap ((owes.owes.moments snap l).within)
+
+  commit_outside : (d : Published) → Listed d cs → contains d.snap stamp ≡ false
+  commit_outside d l = old_outside d.snap (published_snap 1 old d l)
+
+  own_snap : Listed t.snap (snaps_of (t ∷ rest))
+  own_snap = listed_snap t (t ∷ rest) tried.1 (inl refl) (ap prefix_in tried.2.tried ∙ tried.2.prefix)
+
+  other_stamp : (d : Published) → Listed d cs → stamp_of d.line ≢ stamp
+  other_stamp d l e =
+      let h = published_number s.start 1 old d consistent.order.owned l in
+      let place : h.0 ≡ length before = omega (arith, h.1, ap (λ z. z.thread) e) in
+      let log = ap (λ i. last_number s.start (slice_index_or old i [])) place ∙ ap (last_number s.start) (tells_own (ts ++ was) after before) in
+      omega (arith, h.2, log, last_was, ap (λ z. z.number) e)
+
+  -- ---- the views
+
+  extends : Extends v w
+  extends = one_more_extends mine cs cs' one_more (rows_of s.rows)
+
+  agrees : (u : Tell) → contains u.snap stamp ≡ false → Agrees v w u
+  agrees u out = one_more_agrees mine cs cs' one_more (rows_of s.rows) u commit_outside out
+
+  agree_old : (log : List Tell) → ((u : Tell) → Listed u log → Listed u (joined old)) → AgreeOn v w log
+  agree_old log within u l p e = agrees u (old_outside u.snap (listed_joined_snap u old p (within u l) e))
+
+  agree_new : AgreeOn v w (t ∷ rest)
+  agree_new u l p e = agrees u (new_outside u.snap (listed_snap u (t ∷ rest) p l e))
+
+  agree_front : AgreeOn v w ts
+  agree_front = agree_old ts (λ u l. listed_own u before (ts ++ was) after (listed_append_left ts was u l))
+
+  same_rows : (snap : List ℕ) → contains snap stamp ≡ false → rows_in (rows_of s.rows) cs snap ≡ rows_in (rows_of s.rows) cs' snap
+  same_rows snap out = one_more_rows mine cs cs' one_more (rows_of s.rows) snap out
+
+  evaluates : evaluation_of s.widths (w.value t) t.ops ≡ Done t.reads t.writes owes.commit.guards
+  evaluates = subst (λ rows. evaluation_of s.widths rows t.ops ≡ Done t.reads t.writes owes.commit.guards) (same_rows t.snap (new_outside t.snap own_snap)) owes.commit.evaluates
+
+  -- ---- what the commits are to each other
+
+  may_be : (c : Published) → Listed c cs' → MayBePublished s.widths (rows_of s.rows) cs' c
+  may_be c l = elim (one_more_cases mine cs cs' one_more c l) [
+    | inl a ↦
+        let h = consistent.published c a in
+        record {
+          own = h.own;
+          reads = h.reads;
+          guards = h.guards;
+          evaluates = subst (λ rows. evaluation_of s.widths rows c.ops ≡ Done h.reads c.line.writes h.guards) (same_rows c.snap (commit_outside c a)) h.evaluates;
+          writes = h.writes;
+        }
+    | inr e ↦ subst (MayBePublished s.widths (rows_of s.rows) cs') e (record {
+      own = new_outside t.snap own_snap;
+      reads = t.reads;
+      guards = owes.commit.guards;
+      evaluates = evaluates;
+      writes = owes.commit.writes;
+    })
+  ]
+
+  sees_item : (d : Published) (i : Item) → Listed d cs → Listed i t.writes → writes_key d.line.writes (item_key i) ≡ true → contains t.snap (stamp_of d.line) ≡ true
+  sees_item d i l m e =
+      owes.commit.sees_writers d (item_key i) l (listed_append_left (map item_key t.writes) owes.commit.guards (item_key i) (listed_map item_key t.writes i m)) e
+
+  sees_sharing : (d : Published) → Listed d cs → share_key mine d ≡ true → contains t.snap (stamp_of d.line) ≡ true
+  sees_sharing d l e = let a = any_listed (λ i. writes_key d.line.writes (item_key i)) t.writes e in sees_item d a.0 l a.1 a.2
+
+  sees_shared : (d : Published) → Listed d cs → share_key d mine ≡ true → contains t.snap (stamp_of d.line) ≡ true
+  sees_shared d l e =
+      let a = any_listed (λ i. writes_key t.writes (item_key i)) d.line.writes e in
+      owes.commit.sees_writers d (item_key a.0) l
+      (listed_append_left (map item_key t.writes) owes.commit.guards (item_key a.0) (writes_listed t.writes (item_key a.0) a.2))
+      (item_writes d.line.writes a.0 a.1)
+
+  first_wins : FirstWins cs'
+  first_wins c d l m apart shares = elim (one_more_cases mine cs cs' one_more c l) [
+    | inl a ↦ elim (one_more_cases mine cs cs' one_more d m) [
+      | inl b ↦ consistent.first_wins c d a b apart shares
+      | inr f ↦ inl (subst (λ z. contains z.snap (stamp_of c.line) ≡ true) f (sees_shared c a (subst (λ z. share_key c z ≡ true) (sym f) shares)))
+    ]
+    | inr e ↦ elim (one_more_cases mine cs cs' one_more d m) [
+      | inl b ↦ inr (subst (λ z. contains z.snap (stamp_of d.line) ≡ true) e (sees_sharing d b (subst (λ z. share_key z d ≡ true) (sym e) shares)))
+      | inr f ↦ absurd (apart (ap (λ z. stamp_of z.line) (sym e ∙ f)))
+    ]
+  ]
+
+  guards_are : owes.commit.guards ≡ guard_keys t.ops
+  guards_are = done-guards s.widths (v.value t) t.ops t.reads t.writes owes.commit.guards owes.commit.evaluates
+
+  guarded_key : (d : Published) → guards_write mine d ≡ true → (key : Key) × Listed key (guard_keys t.ops) × (writes_key d.line.writes key ≡ true)
+  guarded_key d h = any_listed (λ key. writes_key d.line.writes key) (guard_keys t.ops) h
+
+  -- it overtakes none of the others, nor itself
+  overtakes_none : (d : Published) → Listed d cs' → is_overtaking mine d ≡ true → ⊥
+  overtakes_none d l h =
+      let both = and_parts (guards_write mine d) (not (contains t.snap (stamp_of d.line))) h in
+      let g = guarded_key d both.0 in
+      elim (one_more_cases mine cs cs' one_more d l) [
+        | inl a ↦
+            let key : Listed g.0 (keys_of t.writes owes.commit.guards) = listed_append_right (map item_key t.writes) owes.commit.guards g.0 (subst (Listed g.0) (sym guards_are) g.1) in
+            false≢true (sym (ap not (owes.commit.sees_writers d g.0 a key g.2)) ∙ both.1)
+        | inr e ↦
+            let unwritten : not (ops_write g.0 t.ops) ≡ true = (filter_listed (λ key. not (ops_write key t.ops)) (keys_from key_guarded [] t.ops) g.0 g.1).1 in
+            let written : ops_write g.0 t.ops ≡ true =
+                sym (done-writes_key s.widths (v.value t) t.ops t.reads t.writes owes.commit.guards owes.commit.evaluates g.0) ∙ subst (λ z. writes_key z.line.writes g.0 ≡ true) (sym e) g.2 in
+            false≢true (sym (ap not written) ∙ unwritten)
+      ]
+
+  keeps_guards : (snap : List ℕ) → contains snap stamp ≡ false → KeepsGuards cs snap → KeepsGuards cs' snap
+  keeps_guards snap out keep c d l m overtakes contained = elim (one_more_cases mine cs cs' one_more d m) [
+    | inr f ↦ absurd (false≢true (sym out ∙ ap (λ z. contains snap (stamp_of z.line)) f ∙ contained))
+    | inl b ↦ elim (one_more_cases mine cs cs' one_more c l) [
+      | inl a ↦ keep c d a b overtakes contained
+      | inr e ↦ absurd (overtakes_none d m (subst (λ z. is_overtaking z d ≡ true) (sym e) overtakes))
+    ]
+  ]
+
+  abbrev place_now : Stamp → ℕ
+  place_now z = if same_stamp z stamp then length cs else consistent.no_circle.place z
+
+  place_old : (d : Published) → Listed d cs → place_now (stamp_of d.line) ≡ consistent.no_circle.place (stamp_of d.line)
+  place_old d l = rw (false_from_ne_true (same_stamp (stamp_of d.line) stamp) (λ e. other_stamp d l (same_stamp_says (stamp_of d.line) stamp e))) refl
+
+  place_mine : place_now stamp ≡ length cs
+  place_mine = rw (same_stamp-refl stamp) refl
+
+  no_circle : HaveNoCircle is_overtaking cs'
+  no_circle = record { place = place_now; below = below; rises = rises }
+    where
+      long : length cs' ≡ suc (length cs)
+      long = one_more_length mine cs cs' one_more
+      below : (c : Published) → Listed c cs' → place_now (stamp_of c.line) < length cs'
+      below c l = elim (one_more_cases mine cs cs' one_more c l) [
+        | inl a ↦ omega (arith, place_old c a, consistent.no_circle.below c a, long)
+        | inr e ↦ subst (λ z. place_now (stamp_of z.line) < length cs') e (omega (arith, place_mine, long))
+      ]
+      rises : (c d : Published) → Listed c cs' → Listed d cs' → IsTrue (is_overtaking c d) → place_now (stamp_of c.line) < place_now (stamp_of d.line)
+      rises c d l m overtakes = elim (one_more_cases mine cs cs' one_more c l) [
+        | inr e ↦ absurd (overtakes_none d m (subst (λ z. is_overtaking z d ≡ true) (sym e) overtakes))
+        | inl a ↦ elim (one_more_cases mine cs cs' one_more d m) [
+          | inl b ↦ omega (arith, place_old c a, place_old d b, consistent.no_circle.rises c d a b overtakes)
+          | inr f ↦ subst (λ z. place_now (stamp_of c.line) < place_now (stamp_of z.line)) f (omega (arith, place_old c a, consistent.no_circle.below c a, place_mine))
+        ]
+      ]

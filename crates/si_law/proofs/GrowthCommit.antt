@@ -24,11 +24,12 @@ use Rattle.si_model.specs.Snapshots.{contains, rows_in}
 use Rattle.si_model.specs.View.{View, by_snapshots}
 use Rattle.si_model.specs.Setting.{Setting, Asked}
 use Rattle.si_model.specs.Arranged.{guards_write}
+use Rattle.si_model.specs.Knowledge.{SeesForward}
 use Rattle.si_model.specs.Answers.{lock_key, AnswersWith, AnswersOn, AnswersIn, AnswersMatch, AreNewest}
 use Rattle.si_model.specs.Causes.{others_of, is_written, EventCause, OutcomeCause, HaveCausesAfter}
 use Rattle.si_model.specs.Consistency.{OwnsSnapshot, NumbersFollow, OwnsAll, IsWithin, MayBePublished, share_key, FirstWins, is_overtaking, KeepsGuards, HaveNoCircle, IsSound, AreSound, AreConsistent, view_by}
 use Rattle.si_law.specs.Views.{AsksMore, Extends, Agrees, AgreeOn, KeepCauses}
-use Rattle.si_law.specs.Growth.{ending, worker_of, IsNoCommit, OwesCommit, CommitGrowth}
+use Rattle.si_law.specs.Growth.{ending, worker_of, known_after_all, IsNoCommit, OwesCommit, CommitGrowth}
 use Rattle.si_model.proofs.ListLemmas.{All-append, listed_append_left, listed_append_right, listed_append_cases, filter_listed, listed_map, any_listed, listed_any}
 use Rattle.si_model.proofs.SnapshotLemmas.{contains_says}
 use Rattle.si_model.proofs.EvaluationLemmas.{same_key-refl, same_key_says, done-writes_key, done-guards}
@@ -276,3 +277,124 @@ module _ (s : Setting) (asked more : Asked) (before : List (List Tell)) (ts was 
           | inr f ↦ subst (λ z. place_now (stamp_of c.line) < place_now (stamp_of z.line)) f (omega (arith, place_old c a, consistent.no_circle.below c a, place_mine))
         ]
       ]
+
+  -- ---- what is right of each log
+
+  commit_stops : Stops s before ts was (t ∷ rest) after w
+  commit_stops key ends = elim (owes.stops key ends) [
+    | inl writes ↦ inl (listed_any (λ e. same_stamp (stamp_of e) stamp && writes_key e.writes key) (map entry_of cs') mine.line
+        (listed_map entry_of cs' mine (one_more_listed mine cs cs' one_more)) (rw (same_stamp-refl stamp, writes) refl))
+    | inr unfound ↦ inr (inr unfound)
+  ]
+
+  keep_of : (i : ℕ) (log : List Tell) → i ≢ worker → ((u : Tell) → Listed u log → Listed u (others_of worker old)) → KeepCauses s w old new i log
+  keep_of i log apart listed =
+      keeps_causes s before ts was (t ∷ rest) after w silent commit_stops i log (λ _. listed) owes.owes.listed owes.owes.buckets (λ u l. others_joined 1 worker old u (listed u l))
+
+  keep_own : KeepCauses s w old new worker ts
+  keep_own =
+      keeps_causes s before ts was (t ∷ rest) after w silent commit_stops worker ts (λ apart. absurd (apart refl)) owes.owes.listed owes.owes.buckets
+      (λ u l. listed_own u before (ts ++ was) after (listed_append_left ts was u l))
+
+  each_sound : (i : ℕ) (log : List Tell) → i ≢ worker → ((u : Tell) → Listed u log → Listed u (others_of worker old)) → IsSound s asked v old i log → IsSound s more w new i log
+  each_sound i log apart listed sound =
+      moved_sound s asked more v w old new i log asks extends (keep_of i log apart listed) (agree_old log (λ u l. others_joined 1 worker old u (listed u l))) sound
+
+  commit_answer : AnswersWith s more w worker t tried.0 (evaluation_of s.widths (w.value t) t.ops) tried.1 (Commit number)
+  commit_answer = (t.writes, owes.commit.guards, evaluates, (listed_map entry_of cs' mine (one_more_listed mine cs cs' one_more), owes.commit.locks))
+
+  commit_newest : AreNewest w t
+  commit_newest = subst (λ newest. AllByRecursion (λ l. l.stamp ≡ newest (lock_key l)) t.locks) (agrees t (new_outside t.snap own_snap)).newest owes.commit.newest
+
+  commit_answers : AnswersIn s more w worker t t.event
+  commit_answers =
+      let h = tried.2 in
+      let on : AnswersOn s more w worker t tried.0 (Some tried.1) =
+          (subst (λ o. AnswersWith s more w worker t tried.0 (evaluation_of s.widths (w.value t) t.ops) tried.1 o) (sym h.outcome) commit_answer, commit_newest) in
+      subst (λ e. AnswersIn s more w worker t e) (sym h.tried) (subst (λ q. AnswersOn s more w worker t tried.0 q) (sym h.prefix) on)
+
+  commit_cause : EventCause s w new worker ts t t.event
+  commit_cause = subst (λ e. EventCause s w new worker ts t e) (sym tried.2.tried) (subst (λ o. OutcomeCause s w new worker ts t o) (sym tried.2.outcome) tt)
+
+  keep_rest : KeepCauses s w new new worker rest
+  keep_rest = record {
+    locks = λ key q h. h;
+    entries = λ i n h. h;
+    collects = λ h. h;
+    done = λ key q h. h;
+    moves = λ b. omega arith;
+    all_moves = λ b. omega arith;
+    buckets = λ b key moves h. h;
+    stops = λ key q tells apart ends next. inr (ends, next);
+  }
+
+  rest_causes : HaveCausesAfter s w new worker (ts ++ t ∷ []) rest
+  rest_causes =
+      moved_causes_after s more more v w more_refl extends new new worker rest (ts ++ t ∷ []) rest keep_rest front
+      (λ u l. agree_new u (inr l)) (λ u l. l) owes.answers owes.owes.causes.1
+    where
+      more_refl : AsksMore more more
+      more_refl = record { ops = λ op l. l; by_calls = λ h. h }
+      front : AgreeOn v w (ts ++ t ∷ [])
+      front u l = elim (listed_append_cases ts (t ∷ []) u l) [
+        | inl a ↦ agree_front u a
+        | inr a ↦ agree_new u (elim a [ inl e ↦ inl e | inr b ↦ elim b [ ] ])
+      ]
+
+  own_sound : IsSound s asked v old worker (ts ++ was) → IsSound s more w new worker (ts ++ t ∷ rest)
+  own_sound sound =
+      let known = replicate s.workers s.start in
+      let answers = All-front (λ u. AnswersIn s asked v worker u u.event) ts was sound.answers in
+      let causes = causes_front s v old worker [] ts was sound.causes in
+      let sees : SeesForward w worker (known_after_all w worker known ts) (t ∷ rest) =
+          subst (λ k. SeesForward w worker k (t ∷ rest)) (same_known_all s asked more v w asks extends worker known ts agree_front)
+          (moved_sees s asked more v w asks extends worker (known_after_all v worker known ts) (t ∷ rest) agree_new owes.owes.sees) in
+      record {
+        sees = sees_append w worker known ts (t ∷ rest) (moved_sees s asked more v w asks extends worker known ts agree_front (sees_front v worker known ts was sound.sees)) sees;
+        answers = All-append (λ u. AnswersIn s more w worker u u.event) ts (t ∷ rest)
+            (moved_answers s asked more v w asks extends worker ts agree_front answers)
+            (commit_answers, moved_answers s more more v w (record { ops = λ op l. l; by_calls = λ h. h }) extends worker rest (λ u l. agree_new u (inr l)) owes.answers);
+        causes = causes_append s w new worker [] ts (t ∷ rest)
+            (moved_causes_after s asked more v w asks extends old new worker ts [] ts keep_own (λ u l. elim l [ ]) agree_front (λ u l. l) answers causes)
+            (commit_cause, rest_causes);
+      }
+
+  commit_sound : AreSound s more w new 1 new
+  commit_sound = sound_end s asked more v w old new worker each_sound 1 before (ts ++ was) (ts ++ t ∷ rest) after (number_is before) own_sound (λ u l. l) consistent.sound
+
+  -- ---- all together
+
+  commit_owned : (j : ℕ) → OwnsAll s.start j (ts ++ was) → OwnsAll s.start j (ts ++ t ∷ rest)
+  commit_owned j owned =
+      let snapshots = All-front (OwnsSnapshot s.start) ts was owned.snapshots in
+      let numbers : NumbersFollow s.start (published_of j ts) = subst (NumbersFollow s.start) (silent_end j ts was silent) owned.numbers in
+      let last = last_is s.start j s.start ts snapshots numbers in
+      record {
+        snapshots = All-append (OwnsSnapshot s.start) ts (t ∷ rest) snapshots owes.owes.owned;
+        numbers = subst (NumbersFollow s.start) (sym (published_now j)) (follow_append s.start (published_of j ts) (published_on j t tried.0 tried.1 number) numbers (omega (arith, last)));
+      }
+
+  commit_guards : (snap : List ℕ) → Listed snap (snaps_by new) → KeepsGuards cs' snap
+  commit_guards snap l = elim (snaps_cases snap before ts was (t ∷ rest) after l) [
+    | inl a ↦ keeps_guards snap (old_outside snap a) (consistent.guards snap a)
+    | inr a ↦ keeps_guards snap (new_outside snap a) (owes.owes.moments snap a).guards
+  ]
+
+  commit_consistent : AreConsistent s more new
+  commit_consistent = record {
+    one_log_each = same_length before ∙ consistent.one_log_each;
+    order = order_end s before ts was (t ∷ rest) after consistent.order owes.owes.moments (omega (arith, last_was, last_now))
+        (owned_end s.start 1 before (ts ++ was) (ts ++ t ∷ rest) after (commit_owned (number_after 1 before)) consistent.order.owned);
+    published = may_be;
+    first_wins = first_wins;
+    guards = commit_guards;
+    no_circle = no_circle;
+    sound = commit_sound;
+  }
+    where
+      same_length : (before : List (List Tell)) → length (ending before ts (t ∷ rest) after) ≡ length (ending before ts was after)
+      same_length [] = refl
+      same_length (b ∷ before) = ap suc (same_length before)
+
+pub commit_growth : CommitGrowth
+commit_growth s asked more before ts was t rest after asks consistent silent owes = commit_consistent s asked more before ts was t rest after asks consistent silent owes

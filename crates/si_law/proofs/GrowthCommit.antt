@@ -1,32 +1,28 @@
 -- An end may be exchanged for one that starts with a commit.
-use Rattle.std.proofs.Common.{◌≡◌, ◌≢◌, ℕ, zero, suc, ◌+◌, ◌-◌, ◌<◌, ◌≤◌, Bool, true, false, cond, ◌⊎◌, inl, inr, List, [], ◌∷◌, ◌++◌, length, get_or, refl, ap, sym, ◌∙◌, subst, arith, not, Option, Some, None}
-use Rattle.std.specs.Prelude.{IsTrue, ◌&&◌, if◌then◌else◌, replicate, map, filter, slice_index_or}
-use Rattle.std.specs.List.{list_any, AllByRecursion}
-use Rattle.std.proofs.lemmas.Bool.{cases_Bool, cond_both, false≢true, true≢false, false_from_ne_true, and_parts}
-use Rattle.std.proofs.lemmas.List.{append_assoc, append-nil}
+use Rattle.std.proofs.Common.{◌≡◌, ◌≢◌, ℕ, suc, ◌+◌, ◌-◌, ◌<◌, true, false, inl, inr, List, [], ◌∷◌, ◌++◌, length, get_or, refl, ap, sym, ◌∙◌, subst, arith, not, Some}
+use Rattle.std.specs.Prelude.{IsTrue, ◌&&◌, if◌then◌else◌, replicate, map, slice_index_or}
+use Rattle.std.specs.List.{AllByRecursion}
+use Rattle.std.proofs.lemmas.Bool.{cond_both, false≢true, false_from_ne_true, and_parts}
+use Rattle.std.proofs.lemmas.List.{append_assoc}
 use Rattle.si_model.specs.declared.row.Key.{Key}
 use Rattle.si_model.specs.declared.row.Item.{Item}
 use Rattle.si_model.specs.declared.log.Stamp.{Stamp}
 use Rattle.si_model.specs.declared.log.Attempt.{Attempt}
-use Rattle.si_model.specs.declared.log.Outcome.{Outcome}
 use Rattle.si_model.specs.declared.log.Outcome.TheVariants.{Commit}
-use Rattle.si_model.specs.declared.log.Event.{Event}
-use Rattle.si_model.specs.declared.log.Event.TheVariants.{Tried}
-use Rattle.si_model.specs.declared.report.CommitLine.{CommitLine}
 use Rattle.si_model.specs.declared.evaluated.Evaluated.TheVariants.{Done}
 use Rattle.si_model.specs.Lists.{Listed, joined}
-use Rattle.si_model.specs.Rows.{Rows, rows_of, item_key, same_key, writes_key}
+use Rattle.si_model.specs.Rows.{rows_of, item_key, same_key, writes_key}
 use Rattle.si_model.specs.Evaluation.{evaluation_of, guard_keys, keys_from, key_guarded, ops_write}
 use Rattle.si_model.specs.History.{stamp_at, stamp_of, same_stamp, keys_of}
 use Rattle.si_model.specs.Tells.{Tell, prefix_in, last_number}
 use Rattle.si_model.specs.Commits.{Published, entry_of, published_of, published_from, published_by, snaps_of, snaps_by}
 use Rattle.si_model.specs.Snapshots.{contains, rows_in}
-use Rattle.si_model.specs.View.{View, by_snapshots}
+use Rattle.si_model.specs.View.{View}
 use Rattle.si_model.specs.Setting.{Setting, Asked}
 use Rattle.si_model.specs.Arranged.{guards_write}
 use Rattle.si_model.specs.Knowledge.{SeesForward}
-use Rattle.si_model.specs.Answers.{lock_key, AnswersWith, AnswersOn, AnswersIn, AnswersMatch, AreNewest}
-use Rattle.si_model.specs.Causes.{others_of, is_written, EventCause, OutcomeCause, HaveCausesAfter}
+use Rattle.si_model.specs.Answers.{lock_key, AnswersWith, AnswersOn, AnswersIn, AreNewest}
+use Rattle.si_model.specs.Causes.{others_of, EventCause, OutcomeCause, HaveCausesAfter}
 use Rattle.si_model.specs.Consistency.{OwnsSnapshot, NumbersFollow, OwnsAll, IsWithin, MayBePublished, share_key, FirstWins, is_overtaking, KeepsGuards, HaveNoCircle, IsSound, AreSound, AreConsistent, view_by}
 use Rattle.si_law.specs.Views.{AsksMore, Extends, Agrees, AgreeOn, KeepCauses}
 use Rattle.si_law.specs.Growth.{ending, worker_of, known_after_all, IsNoCommit, OwesCommit, CommitGrowth}
@@ -38,7 +34,7 @@ use Rattle.si_law.proofs.GrowthEnds.{number_after, number_is, published_ending, 
 use Rattle.si_law.proofs.GrowthCommits.{IsCommitOn, published_on, owned_commit, published_of-append, silent_last, commit_published, commit_last, last_is, follow_append, published_snap, published_number}
 use Rattle.si_law.proofs.GrowthKeeps.{All-front, sees_front, sees_append, causes_front, causes_append, same_known_all, keeps_causes, order_end, owned_end, sound_end, Stops}
 use Rattle.si_law.proofs.GrowthQuiet.{silent_end}
-use Rattle.si_law.proofs.GrowthView.{IsWithOneMore, one_more_listed, one_more_keeps, one_more_cases, one_more_length, one_more_rows, one_more_extends, one_more_agrees}
+use Rattle.si_law.proofs.GrowthView.{IsWithOneMore, one_more_listed, one_more_cases, one_more_length, one_more_rows, one_more_extends, one_more_agrees}
 
 -- ---- keys of write sets
 
@@ -237,7 +233,7 @@ module _ (s : Setting) (asked more : Asked) (before : List (List Tell)) (ts was 
         | inr e ↦
             let unwritten : not (ops_write g.0 t.ops) ≡ true = (filter_listed (λ key. not (ops_write key t.ops)) (keys_from key_guarded [] t.ops) g.0 g.1).1 in
             let written : ops_write g.0 t.ops ≡ true =
-                sym (done-writes_key s.widths (v.value t) t.ops t.reads t.writes owes.commit.guards owes.commit.evaluates g.0) ∙ subst (λ z. writes_key z.line.writes g.0 ≡ true) (sym e) g.2 in
+            sym (done-writes_key s.widths (v.value t) t.ops t.reads t.writes owes.commit.guards owes.commit.evaluates g.0) ∙ subst (λ z. writes_key z.line.writes g.0 ≡ true) (sym e) g.2 in
             false≢true (sym (ap not written) ∙ unwritten)
       ]
 
@@ -264,11 +260,13 @@ module _ (s : Setting) (asked more : Asked) (before : List (List Tell)) (ts was 
     where
       long : length cs' ≡ suc (length cs)
       long = one_more_length mine cs cs' one_more
+
       below : (c : Published) → Listed c cs' → place_now (stamp_of c.line) < length cs'
       below c l = elim (one_more_cases mine cs cs' one_more c l) [
         | inl a ↦ omega (arith, place_old c a, consistent.no_circle.below c a, long)
         | inr e ↦ subst (λ z. place_now (stamp_of z.line) < length cs') e (omega (arith, place_mine, long))
       ]
+
       rises : (c d : Published) → Listed c cs' → Listed d cs' → IsTrue (is_overtaking c d) → place_now (stamp_of c.line) < place_now (stamp_of d.line)
       rises c d l m overtakes = elim (one_more_cases mine cs cs' one_more c l) [
         | inr e ↦ absurd (overtakes_none d m (subst (λ z. is_overtaking z d ≡ true) (sym e) overtakes))
@@ -310,7 +308,7 @@ module _ (s : Setting) (asked more : Asked) (before : List (List Tell)) (ts was 
   commit_answers =
       let h = tried.2 in
       let on : AnswersOn s more w worker t tried.0 (Some tried.1) =
-          (subst (λ o. AnswersWith s more w worker t tried.0 (evaluation_of s.widths (w.value t) t.ops) tried.1 o) (sym h.outcome) commit_answer, commit_newest) in
+      (subst (λ o. AnswersWith s more w worker t tried.0 (evaluation_of s.widths (w.value t) t.ops) tried.1 o) (sym h.outcome) commit_answer, commit_newest) in
       subst (λ e. AnswersIn s more w worker t e) (sym h.tried) (subst (λ q. AnswersOn s more w worker t tried.0 q) (sym h.prefix) on)
 
   commit_cause : EventCause s w new worker ts t t.event
@@ -335,6 +333,7 @@ module _ (s : Setting) (asked more : Asked) (before : List (List Tell)) (ts was 
     where
       more_refl : AsksMore more more
       more_refl = record { ops = λ op l. l; by_calls = λ h. h }
+
       front : AgreeOn v w (ts ++ t ∷ [])
       front u l = elim (listed_append_cases ts (t ∷ []) u l) [
         | inl a ↦ agree_front u a
@@ -347,8 +346,8 @@ module _ (s : Setting) (asked more : Asked) (before : List (List Tell)) (ts was 
       let answers = All-front (λ u. AnswersIn s asked v worker u u.event) ts was sound.answers in
       let causes = causes_front s v old worker [] ts was sound.causes in
       let sees : SeesForward w worker (known_after_all w worker known ts) (t ∷ rest) =
-          subst (λ k. SeesForward w worker k (t ∷ rest)) (same_known_all s asked more v w asks extends worker known ts agree_front)
-          (moved_sees s asked more v w asks extends worker (known_after_all v worker known ts) (t ∷ rest) agree_new owes.owes.sees) in
+      subst (λ k. SeesForward w worker k (t ∷ rest)) (same_known_all s asked more v w asks extends worker known ts agree_front)
+      (moved_sees s asked more v w asks extends worker (known_after_all v worker known ts) (t ∷ rest) agree_new owes.owes.sees) in
       record {
         sees = sees_append w worker known ts (t ∷ rest) (moved_sees s asked more v w asks extends worker known ts agree_front (sees_front v worker known ts was sound.sees)) sees;
         answers = All-append (λ u. AnswersIn s more w worker u u.event) ts (t ∷ rest)

@@ -1,11 +1,9 @@
 -- The commits of a log: what each of its events publishes, and in which order.
-use Rattle.std.proofs.Common.{◌≡◌, ◌≢◌, ℕ, zero, suc, ◌+◌, ◌-◌, ◌<◌, ◌≤◌, Bool, true, false, cond, ◌⊎◌, inl, inr, List, [], ◌∷◌, ◌++◌, length, get_or, refl, ap, sym, ◌∙◌, subst, arith, Option, Some, None}
+use Rattle.std.proofs.Common.{◌≡◌, ◌≢◌, ℕ, suc, ◌+◌, ◌≤◌, Bool, true, false, cond, inl, inr, List, [], ◌∷◌, ◌++◌, length, refl, ap, sym, ◌∙◌, subst, arith, Option, Some, None}
 use Rattle.std.specs.Prelude.{is_some, unwrap_or, slice_index_or}
 use Rattle.std.specs.List.{AllByRecursion}
 use Rattle.std.proofs.lemmas.Bool.{true≢false}
-use Rattle.std.proofs.lemmas.List.{append_assoc, append-nil, length-append}
-use Rattle.si_model.specs.declared.op.Op.{Op}
-use Rattle.si_model.specs.declared.row.Item.{Item}
+use Rattle.std.proofs.lemmas.List.{append_assoc}
 use Rattle.si_model.specs.declared.log.Attempt.{Attempt}
 use Rattle.si_model.specs.declared.log.Outcome.{Outcome}
 use Rattle.si_model.specs.declared.log.Outcome.TheVariants.{Commit}
@@ -13,11 +11,11 @@ use Rattle.si_model.specs.declared.log.Event.{Event}
 use Rattle.si_model.specs.declared.log.Event.TheVariants.{Tried}
 use Rattle.si_model.specs.Lists.{Listed}
 use Rattle.si_model.specs.Tells.{Tell, prefix_in, number_in, commit_in, last_number}
-use Rattle.si_model.specs.Commits.{Published, published_in, published_at, published_of, published_from, published_by, snaps_of, snaps_by}
-use Rattle.si_model.specs.Consistency.{OwnsSnapshot, NumbersFollow, OwnsAll, AreOwned}
+use Rattle.si_model.specs.Commits.{Published, published_in, published_at, published_of, published_from, snaps_of, snaps_by}
+use Rattle.si_model.specs.Consistency.{OwnsSnapshot, NumbersFollow, AreOwned}
 use Rattle.si_law.specs.Growth.{IsNoCommit}
-use Rattle.si_model.proofs.ListLemmas.{All-listed, listed_append_cases, listed_append_left, listed_append_right}
-use Rattle.si_law.proofs.GrowthEnds.{listed_snap, number_after, number_after_is}
+use Rattle.si_model.proofs.ListLemmas.{listed_append_cases, listed_append_left, listed_append_right}
+use Rattle.si_law.proofs.GrowthEnds.{listed_snap}
 
 Some≢None : {X : Type 0} (x : X) → Some x ≢ None
 Some≢None x e = true≢false (ap is_some e)

@@ -1,16 +1,15 @@
 -- What logs list where one worker's log has another end.
-use Rattle.std.proofs.Common.{◌≡◌, ◌≢◌, ℕ, zero, suc, ◌+◌, ◌-◌, ◌<◌, ◌≤◌, Bool, true, false, cond, ◌⊎◌, inl, inr, List, [], ◌∷◌, ◌++◌, length, get_or, refl, ap, sym, ◌∙◌, subst, arith, not, Option, Some, None}
-use Rattle.std.specs.Prelude.{◌&&◌, ◌||◌, ◌==◌, filter, is_some, slice_index_or, slice_index}
-use Rattle.std.specs.List.{list_any, list_all, AllByRecursion}
-use Rattle.std.proofs.lemmas.Bool.{cases_Bool, cond_both, false≢true, true≢false, and_parts, or_cases, or_left, or_right, or_from}
+use Rattle.std.proofs.Common.{◌≡◌, ◌≢◌, ℕ, zero, suc, ◌+◌, ◌≤◌, Bool, true, false, cond, ◌⊎◌, inl, inr, List, [], ◌∷◌, ◌++◌, length, get_or, refl, ap, sym, ◌∙◌, subst, arith, Some}
+use Rattle.std.specs.Prelude.{◌==◌, filter, is_some, slice_index_or}
+use Rattle.std.specs.List.{list_any, list_all}
+use Rattle.std.proofs.lemmas.Bool.{cases_Bool, cond_both, true≢false, and_parts, or_cases, or_left, or_right}
 use Rattle.std.proofs.lemmas.Bool.Decides.{nat_tests}
 use Rattle.std.proofs.lemmas.List.{append_assoc, append-nil, length-append}
 use Rattle.std.proofs.lemmas.List.Elements.{filter-append}
 use Rattle.std.proofs.lemmas.List.Folds.{list_any-append, list_all-append}
-use Rattle.si_model.specs.declared.log.Event.{Event}
-use Rattle.si_model.specs.Lists.{Listed, joined, last_of}
-use Rattle.si_model.specs.Tells.{Tell, prefix_in, commit_in, last_number}
-use Rattle.si_model.specs.Commits.{Published, published_of, published_from, published_by, snaps_of, snaps_by}
+use Rattle.si_model.specs.Lists.{Listed, joined}
+use Rattle.si_model.specs.Tells.{Tell, prefix_in, last_number}
+use Rattle.si_model.specs.Commits.{published_of, published_from, published_by, snaps_of, snaps_by}
 use Rattle.si_model.specs.Causes.{others_from, others_of, tells_by, moves_into, move_count}
 use Rattle.si_model.specs.Consistency.{IsWithin}
 use Rattle.si_law.specs.Growth.{ending, worker_of}
@@ -233,5 +232,6 @@ snaps_cases snap before ts was now after l =
   where
     old : Listed snap (snaps_by before ++ (snaps_of (ts ++ was) ++ snaps_by after)) → Listed snap (snaps_by (ending before ts was after))
     old m = subst (Listed snap) (sym (snaps_ending (ts ++ was) after before)) m
+
     right : Listed snap (snaps_of (ts ++ was) ++ snaps_by after) → Listed snap (snaps_by before ++ (snaps_of (ts ++ was) ++ snaps_by after))
     right m = listed_append_right (snaps_by before) (snaps_of (ts ++ was) ++ snaps_by after) snap m

@@ -1,8 +1,8 @@
 -- What stays where one worker's log gets another end: the causes of other events, the order, and what is right of each log.
-use Rattle.std.proofs.Common.{◌≡◌, ◌≢◌, ℕ, zero, suc, ◌+◌, ◌-◌, ◌<◌, ◌≤◌, Bool, true, false, cond, ◌⊎◌, inl, inr, List, [], ◌∷◌, ◌++◌, length, refl, ap, sym, ◌∙◌, subst, arith, Option, Some, None}
-use Rattle.std.specs.Prelude.{IsTrue, ◌==◌, replicate}
+use Rattle.std.proofs.Common.{◌≡◌, ◌≢◌, ℕ, suc, ◌+◌, ◌<◌, ◌≤◌, Bool, true, false, cond, ◌⊎◌, inl, inr, List, [], ◌∷◌, ◌++◌, refl, ap, sym, ◌∙◌, subst, arith}
+use Rattle.std.specs.Prelude.{◌==◌}
 use Rattle.std.specs.List.{list_any, list_all, AllByRecursion}
-use Rattle.std.proofs.lemmas.Bool.{cases_Bool, false≢true, true≢false}
+use Rattle.std.proofs.lemmas.Bool.{cases_Bool, false≢true}
 use Rattle.std.proofs.lemmas.Bool.Decides.{nat_tests}
 use Rattle.std.proofs.lemmas.List.{append_assoc, append-nil}
 use Rattle.si_model.specs.declared.row.Key.{Key}
@@ -16,11 +16,11 @@ use Rattle.si_model.specs.Setting.{Setting, Asked}
 use Rattle.si_model.specs.Knowledge.{AreAtMost, known_after, SeesForward}
 use Rattle.si_model.specs.Causes.{others_from, others_of, tells_by, lists_lock, collects_entry, has_collected, move_count, moves_version, is_done, keeps_bucket, ends_locking, is_written, HaveCausesAfter}
 use Rattle.si_model.specs.Consistency.{OwnsAll, AreOwned, HaveOrder, IsWithin, IsSound, AreSound}
-use Rattle.si_model.proofs.ListLemmas.{listed_append_cases, listed_append_left, listed_append_right}
+use Rattle.si_model.proofs.ListLemmas.{listed_append_left, listed_append_right}
 use Rattle.si_law.specs.Views.{AsksMore, Extends, AgreeOn, moves_key_into, tells_newer, KeepCauses}
 use Rattle.si_law.specs.Growth.{ending, worker_of, known_after_all, KeepsListed, IsMoment, is_found, IsNoCommit}
 use Rattle.si_law.proofs.Moved.{list_any_moves, same_known}
-use Rattle.si_law.proofs.GrowthEnds.{any_between, any_behind, all_between, moves_between, moves_behind, number_after, number_after_is, number_is, joined_ending, tells_own, others_skip, others_of_other, others_of_own, tells_other, last_number-append, within_end, snaps_cases}
+use Rattle.si_law.proofs.GrowthEnds.{any_between, any_behind, all_between, moves_between, moves_behind, number_after, number_after_is, joined_ending, tells_own, others_skip, others_of_other, others_of_own, tells_other, last_number-append, within_end, snaps_cases}
 use Rattle.si_law.proofs.GrowthCommits.{silent_last}
 
 -- ---- walks over two lists, one after another
@@ -60,6 +60,7 @@ same_or_apart a b = elim (cases_Bool (a == b)) [ inl e ↦ inl (yes_same a b e) 
   where
     yes_same : (a b : ℕ) → (a == b) ≡ true → a ≡ b
     yes_same a b e = grind (arith, nat_tests)
+
     no_same : (a b : ℕ) → (a == b) ≡ false → a ≢ b
     no_same a b e = grind (arith, nat_tests)
 
@@ -103,7 +104,7 @@ module _ (s : Setting) (before : List (List Tell)) (ts was now : List Tell) (aft
   all_pass_too p h k =
       let front = joined before ++ ts in
       let parts : (end : List Tell) → joined (ending before ts end after) ≡ front ++ (end ++ joined after) = λ end.
-          joined_ending (ts ++ end) after before ∙ ap (λ xs. joined before ++ xs) (append_assoc ts end (joined after)) ∙ sym (append_assoc (joined before) ts (end ++ joined after)) in
+      joined_ending (ts ++ end) after before ∙ ap (λ xs. joined before ++ xs) (append_assoc ts end (joined after)) ∙ sym (append_assoc (joined before) ts (end ++ joined after)) in
       subst (λ xs. list_all p xs ≡ true) (sym (parts now)) (all_between p front was now (joined after) k (subst (λ xs. list_all p xs ≡ true) (parts was) h))
 
   -- where the worker was stopped, it is still, or published the version, or nobody found that version
@@ -168,6 +169,7 @@ module _ (s : Setting) (before : List (List Tell)) (ts was now : List Tell) (aft
     where
       within : (snap : List ℕ) → Listed snap (snaps_by new) → IsWithin s.start snap old
       within snap l = elim (snaps_cases snap before ts was now after l) [ inl a ↦ order.within snap a | inr a ↦ (moments snap a).within ]
+
       ordered : (a b : List ℕ) → Listed a (snaps_by old) ⊎ Listed a (snaps_of now) → Listed b (snaps_by old) ⊎ Listed b (snaps_of now) → AreAtMost a b ⊎ AreAtMost b a
       ordered a b (inl l) (inl m) = order.ordered a b l m
       ordered a b (inr l) m = (moments a l).ordered b m

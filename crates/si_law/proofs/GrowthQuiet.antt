@@ -1,15 +1,15 @@
 -- An end may be exchanged for one that publishes nothing.
-use Rattle.std.proofs.Common.{◌≡◌, ◌≢◌, ℕ, suc, ◌≤◌, Bool, true, false, ◌⊎◌, inl, inr, List, [], ◌∷◌, ◌++◌, length, refl, ap, sym, ◌∙◌, subst, arith}
-use Rattle.std.specs.Prelude.{IsTrue, replicate, map}
+use Rattle.std.proofs.Common.{◌≡◌, ◌≢◌, ℕ, suc, inl, inr, List, [], ◌∷◌, ◌++◌, length, refl, ap, sym, ◌∙◌, subst, arith}
+use Rattle.std.specs.Prelude.{replicate}
 use Rattle.std.specs.List.{AllByRecursion}
-use Rattle.std.proofs.lemmas.List.{append-nil, length-append}
+use Rattle.std.proofs.lemmas.List.{append-nil}
 use Rattle.si_model.specs.Lists.{Listed}
 use Rattle.si_model.specs.Rows.{rows_of}
 use Rattle.si_model.specs.Tells.{Tell, last_number}
 use Rattle.si_model.specs.Commits.{Published, published_of, published_from, published_by, snaps_by}
 use Rattle.si_model.specs.View.{View, by_snapshots}
 use Rattle.si_model.specs.Setting.{Setting, Asked}
-use Rattle.si_model.specs.Answers.{AnswersIn, AnswersMatch}
+use Rattle.si_model.specs.Answers.{AnswersIn}
 use Rattle.si_model.specs.Causes.{others_of}
 use Rattle.si_model.specs.Consistency.{OwnsSnapshot, NumbersFollow, OwnsAll, KeepsGuards, MayBePublished, FirstWins, is_overtaking, HaveNoCircle, IsSound, AreSound, AreConsistent, view_by}
 use Rattle.si_law.specs.Views.{AsksMore, Extends, AgreeOn, KeepCauses}

@@ -1,8 +1,7 @@
 -- Snapshots that don't contain one more commit say what they said.
-use Rattle.std.proofs.Common.{◌≡◌, ◌≢◌, ℕ, suc, ◌+◌, ◌≤◌, Bool, true, false, cond, ◌⊎◌, inl, inr, List, [], ◌∷◌, ◌++◌, length, refl, ap, sym, ◌∙◌, subst, arith, Option}
-use Rattle.std.specs.Prelude.{◌&&◌, ◌||◌, filter, map}
-use Rattle.std.specs.List.{list_any}
-use Rattle.std.proofs.lemmas.Bool.{cases_Bool, false≢true, true≢false, false_from_ne_true, or_parts, or_from, and_right}
+use Rattle.std.proofs.Common.{◌≡◌, ℕ, suc, Bool, true, false, ◌⊎◌, inl, inr, List, ◌∷◌, ◌++◌, length, refl, ap, sym, ◌∙◌, subst, arith}
+use Rattle.std.specs.Prelude.{◌&&◌, filter, map}
+use Rattle.std.proofs.lemmas.Bool.{cases_Bool, true≢false, false_from_ne_true, or_parts, or_from, and_right}
 use Rattle.std.proofs.lemmas.List.{length-append, length-map}
 use Rattle.std.proofs.lemmas.List.Elements.{filter-append}
 use Rattle.si_model.specs.declared.row.Key.{Key}
@@ -14,7 +13,7 @@ use Rattle.si_model.specs.History.{loader, stamp_of, same_stamp, has_stamp, vers
 use Rattle.si_model.specs.Tells.{Tell}
 use Rattle.si_model.specs.Commits.{Published, entry_of}
 use Rattle.si_model.specs.Snapshots.{contains, inside, newest_in, stamp_or_loader, value_by, rows_in, is_after, later_in}
-use Rattle.si_model.specs.View.{View, by_snapshots}
+use Rattle.si_model.specs.View.{by_snapshots}
 use Rattle.si_model.proofs.ListLemmas.{All-from_listed, listed_append_cases, listed_append_left, listed_append_right, filter_listed, listed_filter, listed_map, map_listed, any_listed, listed_any, filter-none}
 use Rattle.si_law.specs.Views.{Extends, Agrees}
 use Rattle.si_law.proofs.Moved.{same_stamp-refl, same_stamp_says, is_version_moves}
@@ -73,7 +72,7 @@ module _ (c : Published) (cs more : List Published) (adds : IsWithOneMore c cs m
       let writes : CommitLine → Bool = λ e. writes_key e.writes key in
       let a = any_listed (λ p. same_stamp p q) (versions_of key (map entry_of more)) h in
       let refuted : (p : Stamp) → Listed p (versions_of key (map entry_of cs)) → same_stamp p q ≡ true → ⊥ = λ p l e.
-          true≢false (sym (listed_any (λ p. same_stamp p q) (versions_of key (map entry_of cs)) p l e) ∙ none) in
+      true≢false (sym (listed_any (λ p. same_stamp p q) (versions_of key (map entry_of cs)) p l e) ∙ none) in
       elim a.1 [
         | inl e ↦ absurd (refuted a.0 (inl e) a.2)
         | inr r ↦
@@ -97,9 +96,9 @@ module _ (c : Published) (cs more : List Published) (adds : IsWithOneMore c cs m
         let not_loader : same_stamp q loader ≡ false = false_from_ne_true (same_stamp q loader) (λ e.
         true≢false (sym (same_stamp-refl q) ∙ sym (ap (λ z. same_stamp z q) (sym (same_stamp_says q loader e))) ∙ (or_parts (same_stamp loader q) _ none).0)) in
         ap length (filter-none (λ d. writes_key d.line.writes key && is_after q d) (inside snap cs)
-            (All-from_listed (λ d. (writes_key d.line.writes key && is_after q d) ≡ false) (inside snap cs) (λ d l.
-            let hidden : contains d.snap q ≡ false = subst (λ z. contains d.snap z ≡ false) is (unseen d (filter_listed (λ d. contains snap (stamp_of d.line)) cs d l).0) in
-            and_right (writes_key d.line.writes key) (is_after q d) (or_from (same_stamp q loader) (contains d.snap q) not_loader hidden))))
+        (All-from_listed (λ d. (writes_key d.line.writes key && is_after q d) ≡ false) (inside snap cs) (λ d l.
+        let hidden : contains d.snap q ≡ false = subst (λ z. contains d.snap z ≡ false) is (unseen d (filter_listed (λ d. contains snap (stamp_of d.line)) cs d l).0) in
+        and_right (writes_key d.line.writes key) (is_after q d) (or_from (same_stamp q loader) (contains d.snap q) not_loader hidden))))
 
     same_later : (key : Key) (q : Stamp) → later_in cs key q (inside snap cs) ≡ later_in more key q (inside snap more)
     same_later key q =

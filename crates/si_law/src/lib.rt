@@ -3,3 +3,5 @@
 //!
 //! The crate has no code that runs: its functions carry laws over the definitions of `si_model`.
 #![tactic(auto)]
+
+pub mod growth;

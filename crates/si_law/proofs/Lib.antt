@@ -6,3 +6,5 @@ pub mod GrowthKeeps
 pub mod GrowthQuiet
 pub mod GrowthView
 pub mod GrowthCommit
+pub mod GrowthStart
+pub mod Outcomes

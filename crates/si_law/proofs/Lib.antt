@@ -8,3 +8,4 @@ pub mod GrowthView
 pub mod GrowthCommit
 pub mod GrowthStart
 pub mod Outcomes
+pub mod GrowthListed

@@ -1,6 +1,6 @@
 -- What an event owes, by its outcome: answers and causes from plain facts.
 use Rattle.std.proofs.Common.{◌≡◌, ◌≢◌, ℕ, suc, ◌+◌, ◌-◌, ◌<◌, ◌≤◌, Bool, true, false, ◌⊎◌, inl, inr, List, [], ◌∷◌, ◌++◌, length, take, refl, ap, sym, ◌∙◌, subst, arith, Option, Some, None}
-use Rattle.std.specs.Prelude.{IsTrue, ◌^◌, map, slice_index, is_some}
+use Rattle.std.specs.Prelude.{IsTrue, ◌^◌, map, slice_index, is_some, IfSome}
 use Rattle.std.specs.List.{list_any, list_all, AllByRecursion}
 use Rattle.std.proofs.lemmas.List.{append-nil}
 use Rattle.std.proofs.lemmas.Bool.{true≢false}
@@ -24,7 +24,11 @@ use Rattle.si_model.specs.Lists.{Listed, IsFront, StandsAt, joined}
 use Rattle.si_model.specs.Rows.{key_at, writes_key}
 use Rattle.si_model.specs.Evaluation.{evaluation_of, reads_of}
 use Rattle.si_model.specs.History.{stamp_at, stamp_of, has_stamp, is_version, keys_of}
-use Rattle.si_model.specs.Tells.{Tell, attempt_in, last_number}
+use Rattle.si_model.specs.Tells.{Tell, attempt_in, prefix_in, number_in, commit_in, last_number}
+use Rattle.si_model.specs.Snapshots.{sum_above}
+use Rattle.si_model.specs.Knowledge.{AreAtMost, SeesPrefix, SeesFirst, SeesOutcome, SeesEvent, known_with, known_by, known_after, learnt}
+use Rattle.si_model.specs.Consistency.{OwnsSnapshot}
+use Rattle.si_law.specs.Growth.{IsNoCommit}
 use Rattle.si_model.specs.View.{View}
 use Rattle.si_model.specs.Setting.{Setting, Asked, is_crowded}
 use Rattle.si_model.specs.Answers.{lock_key, reads_overtaken, ClaimsFirst, ReadsFirst, LocksBefore, AnswersWith, AnswersWithout, AnswersOn, AnswersIn, AreNewest}
@@ -222,3 +226,58 @@ module _ (s : Setting) (v : View) (tss : List (List Tell)) (j : ℕ) (done : Lis
       by : (how : Finish) → how ≢ RolledOn → EventCause s v tss j done t (Finished how)
       by RolledOn apart = absurd (apart refl)
       by how apart = (held, stopped)
+
+module _ (s : Setting) (v : View) (j : ℕ) (known : List ℕ) (t : Tell) where
+  -- ---- knowledge: what is seen is no less than is known, and what is known then
+
+  module _ (a : Attempt) (o : Outcome) where
+    pub sees_attempt : (p : ℕ) → IsAttempt t a (Some p) o → p ≤ length v.all → AreAtMost known (v.entries t) → SeesOutcome (v.entries t) o → SeesEvent v t known t.event
+    sees_attempt p is below least outcome =
+        subst (SeesEvent v t known) (sym is.event) (
+          subst (SeesPrefix v t known) (sym is.prefix) (below, least),
+          subst (λ q. SeesOutcome (known_with v t known q) a.outcome) (sym is.prefix) (subst (SeesOutcome (v.entries t)) (sym is.outcome) outcome),
+        )
+
+    pub sees_attempt_without : IsAttempt t a None o → SeesOutcome known o → SeesEvent v t known t.event
+    sees_attempt_without is outcome =
+        subst (SeesEvent v t known) (sym is.event) (
+          subst (SeesPrefix v t known) (sym is.prefix) tt,
+          subst (λ q. SeesOutcome (known_with v t known q) a.outcome) (sym is.prefix) (subst (SeesOutcome known) (sym is.outcome) outcome),
+        )
+
+    pub known_attempt : (p : Option ℕ) → IsAttempt t a p o → known_after v j t known t.event ≡ known_by j (known_with v t known p) o
+    known_attempt p is = ap (known_after v j t known) is.event ∙ ap (λ q. known_by j (known_with v t known q) a.outcome) is.prefix ∙ ap (known_by j (known_with v t known p)) is.outcome
+
+  pub sees_collected : (b prefix : ℕ) (entries : List ℕ) (cut : Bool) → t.event ≡ Collected b prefix entries cut → prefix ≤ length v.all → AreAtMost known (v.entries t) → SeesEvent v t known t.event
+  sees_collected b prefix entries cut is below least = subst (SeesEvent v t known) (sym is) (below, least)
+
+  pub known_collected : (b prefix : ℕ) (entries : List ℕ) (cut : Bool) → t.event ≡ Collected b prefix entries cut → known_after v j t known t.event ≡ v.entries t
+  known_collected b prefix entries cut is = ap (known_after v j t known) is
+
+  pub sees_collect_again : (b i first second : ℕ) → t.event ≡ CollectAgain b i first second → SeesFirst known i first → SeesEvent v t known t.event
+  sees_collect_again b i first second is sees = subst (SeesEvent v t known) (sym is) sees
+
+  pub known_collect_again : (b i first second : ℕ) → t.event ≡ CollectAgain b i first second → known_after v j t known t.event ≡ learnt known i second
+  known_collect_again b i first second is = ap (known_after v j t known) is
+
+-- ---- snapshots owned, and nothing published
+
+-- a prefix is the sum of the snapshot
+pub owns_prefix : (start : ℕ) (t : Tell) (p : ℕ) → prefix_in t.event ≡ Some p → p ≡ sum_above start t.snap → OwnsSnapshot start t
+owns_prefix start t p is same = record {
+  sum = subst (λ o. IfSome o (λ q. q ≡ sum_above start t.snap)) (sym is) same;
+  commit = λ h. ap is_some is;
+}
+
+-- no prefix and no commit
+pub owns_nothing : (start : ℕ) (t : Tell) → prefix_in t.event ≡ None → commit_in t.event ≡ None → OwnsSnapshot start t
+owns_nothing start t none silent = record {
+  sum = subst (λ o. IfSome o (λ q. q ≡ sum_above start t.snap)) (sym none) tt;
+  commit = λ h. absurd (true≢false (sym h ∙ ap is_some silent));
+}
+
+pub silent_attempt : (t : Tell) (a : Attempt) (p : Option ℕ) (o : Outcome) → IsAttempt t a p o → number_in o ≡ None → IsNoCommit t
+silent_attempt t a p o is none = ap commit_in is.event ∙ ap number_in is.outcome ∙ none
+
+pub silent_other : (t : Tell) → attempt_in t.event ≡ None → IsNoCommit t
+silent_other t none = ap (λ o. elim o [ None ↦ None | Some a ↦ number_in a.outcome ]) none

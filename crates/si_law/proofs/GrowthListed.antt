@@ -2,14 +2,11 @@
 use Rattle.std.proofs.Common.{◌≡◌, ℕ, ◌≤◌, Bool, true, false, List, [], ◌∷◌, ◌++◌, refl, ap, sym, ◌∙◌, subst, arith}
 use Rattle.std.specs.Prelude.{◌||◌, ◌&&◌}
 use Rattle.std.specs.List.{list_any}
-use Rattle.std.proofs.lemmas.Bool.{false≢true, true≢false, or_cases, or_left}
+use Rattle.std.proofs.lemmas.Bool.{false≢true, or_left}
 use Rattle.std.proofs.lemmas.List.{append-nil}
 use Rattle.std.proofs.lemmas.List.Folds.{list_any-append}
-use Rattle.si_model.specs.declared.row.Key.{Key}
-use Rattle.si_model.specs.declared.log.Stamp.{Stamp}
 use Rattle.si_model.specs.declared.log.Lock.{Lock}
 use Rattle.si_model.specs.declared.log.Attempt.{Attempt}
-use Rattle.si_model.specs.declared.log.Event.{Event}
 use Rattle.si_model.specs.declared.log.Event.TheVariants.{Tried}
 use Rattle.si_model.specs.Rows.{same_key}
 use Rattle.si_model.specs.History.{same_stamp}
@@ -67,5 +64,6 @@ listed_locking t u a locks rest is more = record {
     one : (b : Bool) → (b || false) ≡ true → b ≡ true
     one true h = refl
     one false h = h
+
     none : (b : ℕ) → move_count b (t ∷ []) ≡ 0
     none b = rw (ap (moves_into b) is) refl

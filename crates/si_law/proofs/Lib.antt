@@ -9,3 +9,4 @@ pub mod GrowthCommit
 pub mod GrowthStart
 pub mod Outcomes
 pub mod GrowthListed
+pub mod GrowthEvent

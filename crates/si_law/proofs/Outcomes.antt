@@ -1,5 +1,5 @@
 -- What an event owes, by its outcome: answers and causes from plain facts.
-use Rattle.std.proofs.Common.{◌≡◌, ◌≢◌, ℕ, suc, ◌+◌, ◌-◌, ◌<◌, ◌≤◌, Bool, true, false, ◌⊎◌, inl, inr, List, [], ◌∷◌, ◌++◌, length, take, refl, ap, sym, ◌∙◌, subst, arith, Option, Some, None}
+use Rattle.std.proofs.Common.{◌≡◌, ◌≢◌, ℕ, suc, ◌+◌, ◌-◌, ◌<◌, ◌≤◌, Bool, false, inl, inr, List, [], ◌∷◌, ◌++◌, length, take, refl, ap, sym, ◌∙◌, subst, Option, Some, None}
 use Rattle.std.specs.Prelude.{IsTrue, ◌^◌, map, slice_index, is_some, IfSome}
 use Rattle.std.specs.List.{list_any, list_all, AllByRecursion}
 use Rattle.std.proofs.lemmas.List.{append-nil}
@@ -13,17 +13,16 @@ use Rattle.si_model.specs.declared.log.Attempt.{Attempt}
 use Rattle.si_model.specs.declared.log.Outcome.{Outcome}
 use Rattle.si_model.specs.declared.log.Outcome.TheVariants.{Commit, ReadOnly, Declined as DeclinedAt, NoSpace, Spent, Again, Locked, Newer, TooOld, Full, Cut, Left}
 use Rattle.si_model.specs.declared.log.MoveEnd.{MoveEnd}
-use Rattle.si_model.specs.declared.log.MoveEnd.TheVariants.{Done as DoneMove, Back, Cut as MoveCut}
+use Rattle.si_model.specs.declared.log.MoveEnd.TheVariants.{Back}
 use Rattle.si_model.specs.declared.log.Finish.{Finish}
 use Rattle.si_model.specs.declared.log.Finish.TheVariants.{RolledOn}
 use Rattle.si_model.specs.declared.log.Event.{Event}
 use Rattle.si_model.specs.declared.log.Event.TheVariants.{Tried, NoRoom, Moved, Collected, CollectAgain, CollectCut, TidyCut, TailCut, Finished}
-use Rattle.si_model.specs.declared.evaluated.Evaluated.{Evaluated}
 use Rattle.si_model.specs.declared.evaluated.Evaluated.TheVariants.{Done, Declined}
-use Rattle.si_model.specs.Lists.{Listed, IsFront, StandsAt, joined}
+use Rattle.si_model.specs.Lists.{StandsAt, joined}
 use Rattle.si_model.specs.Rows.{key_at, writes_key}
 use Rattle.si_model.specs.Evaluation.{evaluation_of, reads_of}
-use Rattle.si_model.specs.History.{stamp_at, stamp_of, has_stamp, is_version, keys_of}
+use Rattle.si_model.specs.History.{stamp_at, has_stamp, is_version, keys_of}
 use Rattle.si_model.specs.Tells.{Tell, attempt_in, prefix_in, number_in, commit_in, last_number}
 use Rattle.si_model.specs.Snapshots.{sum_above}
 use Rattle.si_model.specs.Knowledge.{AreAtMost, SeesPrefix, SeesFirst, SeesOutcome, SeesEvent, known_with, known_by, known_after, learnt}
@@ -31,7 +30,7 @@ use Rattle.si_model.specs.Consistency.{OwnsSnapshot}
 use Rattle.si_law.specs.Growth.{IsNoCommit}
 use Rattle.si_model.specs.View.{View}
 use Rattle.si_model.specs.Setting.{Setting, Asked, is_crowded}
-use Rattle.si_model.specs.Answers.{lock_key, reads_overtaken, ClaimsFirst, ReadsFirst, LocksBefore, AnswersWith, AnswersWithout, AnswersOn, AnswersIn, AreNewest}
+use Rattle.si_model.specs.Answers.{lock_key, reads_overtaken, ClaimsFirst, ReadsFirst, AnswersWith, AnswersWithout, AnswersOn, AnswersIn, AreNewest}
 use Rattle.si_model.specs.Causes.{others_of, tells_by, lists_lock, ends_locking, is_written, collects_entry, has_collected, moves_version, is_done, is_over, keeps_bucket, filling, move_count, follows_one, is_guarding, ends_commit, is_stopped, OutcomeCause, EventCause}
 
 -- the event is this attempt, with this prefix and this outcome
@@ -72,7 +71,7 @@ module _ (s : Setting) (asked : Asked) (v : View) (j : ℕ) (t : Tell) where
     pub answers_with : (p : ℕ) (o : Outcome) → IsAttempt t a (Some p) o → AnswersWith s asked v j t a (evaluation_of s.widths (v.value t) t.ops) p o → AreNewest v t → AnswersIn s asked v j t t.event
     answers_with p o is answers newest =
         let on : AnswersOn s asked v j t a (Some p) =
-            (subst (AnswersWith s asked v j t a (evaluation_of s.widths (v.value t) t.ops) p) (sym is.outcome) answers, newest) in
+        (subst (AnswersWith s asked v j t a (evaluation_of s.widths (v.value t) t.ops) p) (sym is.outcome) answers, newest) in
         subst (AnswersIn s asked v j t) (sym is.event) (subst (AnswersOn s asked v j t a) (sym is.prefix) on)
 
     answers_unlocked : (p : ℕ) (o : Outcome) → IsUnlocked t a p o → AnswersWith s asked v j t a (evaluation_of s.widths (v.value t) t.ops) p o → AnswersIn s asked v j t t.event

@@ -31,7 +31,8 @@ one_snap t snap l = by_prefix (prefix_in t.event) refl
     by_prefix (Some p) e = (p, e, elim (subst (λ o. Listed snap (cond (is_some o) (t.snap ∷ []) [])) e l) [ inl same ↦ same | inr none ↦ elim none [ ] ])
 
 -- an attempt keeps the buckets of all moves
-pub attempt_keeps_buckets : (t : Tell) (a : Attempt) (b : ℕ) (key : Key) → t.event ≡ Tried a → IsTrue (list_all (λ o. keeps_bucket b key o.event) (t ∷ []))
+pub attempt_keeps_buckets : (t : Tell) (a : Attempt) (b : ℕ) (key : Key) → t.event ≡ Tried a →
+    IsTrue (list_all (λ o. keeps_bucket b key o.event) (t ∷ []))
 attempt_keeps_buckets t a b key is = ap (λ e. keeps_bucket b key e && true) is
 
 -- the event's snapshot, if it has one, is of what is published, ordered with all listed before, and with what its commits overtake
@@ -40,7 +41,8 @@ pub record IsOneMoment (s : Setting) (tss : List (List Tell)) (t : Tell) : Type 
   pub ordered : (other : List ℕ) → Listed other (snaps_by tss) → AreAtMost t.snap other ⊎ AreAtMost other t.snap
   pub guards : KeepsGuards (published_by tss) t.snap
 
-pub moment_of_one : (s : Setting) (tss : List (List Tell)) (t : Tell) → ((p : ℕ) → prefix_in t.event ≡ Some p → IsOneMoment s tss t) → (snap : List ℕ) → Listed snap (snaps_of (t ∷ [])) → IsMoment s tss (t ∷ []) snap
+pub moment_of_one : (s : Setting) (tss : List (List Tell)) (t : Tell) → ((p : ℕ) → prefix_in t.event ≡ Some p → IsOneMoment s tss t) →
+    (snap : List ℕ) → Listed snap (snaps_of (t ∷ [])) → IsMoment s tss (t ∷ []) snap
 moment_of_one s tss t one snap l =
     let h = one_snap t snap l in
     let m = one h.0 h.1 in

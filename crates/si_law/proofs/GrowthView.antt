@@ -67,7 +67,8 @@ module _ (c : Published) (cs more : List Published) (adds : IsWithOneMore c cs m
   }
 
   -- a stamp that is a version only with the new commit is the commit's
-  new_version : (key : Key) (q : Stamp) → is_version key q (map entry_of cs) ≡ false → is_version key q (map entry_of more) ≡ true → stamp_of c.line ≡ q
+  new_version : (key : Key) (q : Stamp) → is_version key q (map entry_of cs) ≡ false → is_version key q (map entry_of more) ≡ true →
+      stamp_of c.line ≡ q
   new_version key q none h =
       let writes : CommitLine → Bool = λ e. writes_key e.writes key in
       let a = any_listed (λ p. same_stamp p q) (versions_of key (map entry_of more)) h in
@@ -90,14 +91,17 @@ module _ (c : Published) (cs more : List Published) (adds : IsWithOneMore c cs m
     abbrev counted : Key → Stamp → List Published → ℕ
     counted key q seen = length (filter (λ d. writes_key d.line.writes key && is_after q d) seen)
 
-    fresh : (key : Key) (q : Stamp) → is_version key q (map entry_of cs) ≡ false → is_version key q (map entry_of more) ≡ true → counted key q (inside snap cs) ≡ 0
+    fresh : (key : Key) (q : Stamp) → is_version key q (map entry_of cs) ≡ false → is_version key q (map entry_of more) ≡ true →
+        counted key q (inside snap cs) ≡ 0
     fresh key q none h =
         let is = new_version key q none h in
         let not_loader : same_stamp q loader ≡ false = false_from_ne_true (same_stamp q loader) (λ e.
-        true≢false (sym (same_stamp-refl q) ∙ sym (ap (λ z. same_stamp z q) (sym (same_stamp_says q loader e))) ∙ (or_parts (same_stamp loader q) _ none).0)) in
+        true≢false
+        (sym (same_stamp-refl q) ∙ sym (ap (λ z. same_stamp z q) (sym (same_stamp_says q loader e))) ∙ (or_parts (same_stamp loader q) _ none).0)) in
         ap length (filter-none (λ d. writes_key d.line.writes key && is_after q d) (inside snap cs)
         (All-from_listed (λ d. (writes_key d.line.writes key && is_after q d) ≡ false) (inside snap cs) (λ d l.
-        let hidden : contains d.snap q ≡ false = subst (λ z. contains d.snap z ≡ false) is (unseen d (filter_listed (λ d. contains snap (stamp_of d.line)) cs d l).0) in
+        let hidden : contains d.snap q ≡ false =
+        subst (λ z. contains d.snap z ≡ false) is (unseen d (filter_listed (λ d. contains snap (stamp_of d.line)) cs d l).0) in
         and_right (writes_key d.line.writes key) (is_after q d) (or_from (same_stamp q loader) (contains d.snap q) not_loader hidden))))
 
     same_later : (key : Key) (q : Stamp) → later_in cs key q (inside snap cs) ≡ later_in more key q (inside snap more)
@@ -112,7 +116,8 @@ module _ (c : Published) (cs more : List Published) (adds : IsWithOneMore c cs m
         ]
 
   -- the views by both lists agree at an event whose snapshot doesn't contain the commit, where no commit's does
-  pub one_more_agrees : (rows : Rows) (t : Tell) → ((d : Published) → Listed d cs → contains d.snap (stamp_of c.line) ≡ false) → contains t.snap (stamp_of c.line) ≡ false → Agrees (by_snapshots rows cs) (by_snapshots rows more) t
+  pub one_more_agrees : (rows : Rows) (t : Tell) → ((d : Published) → Listed d cs → contains d.snap (stamp_of c.line) ≡ false) →
+      contains t.snap (stamp_of c.line) ≡ false → Agrees (by_snapshots rows cs) (by_snapshots rows more) t
   one_more_agrees rows t unseen out =
       let seen = one_more_inside t.snap out in
       record {

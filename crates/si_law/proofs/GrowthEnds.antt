@@ -255,8 +255,8 @@ snaps_cases snap before ts was now after l =
       | inr a ↦ elim (listed_append_cases (snaps_of (ts ++ now)) (snaps_by after) snap a) [
         | inl b ↦ elim (listed_append_cases (snaps_of ts) (snaps_of now) snap (subst (Listed snap) (snaps_of-append ts now) b)) [
           | inl c ↦
-              inl
-              (old (right (listed_append_left (snaps_of (ts ++ was)) (snaps_by after) snap (subst (Listed snap) (sym (snaps_of-append ts was)) (listed_append_left (snaps_of ts) (snaps_of was) snap c)))))
+              let own : Listed snap (snaps_of (ts ++ was)) = subst (Listed snap) (sym (snaps_of-append ts was)) (listed_append_left (snaps_of ts) (snaps_of was) snap c) in
+              inl (old (right (listed_append_left (snaps_of (ts ++ was)) (snaps_by after) snap own)))
           | inr c ↦ inr c
         ]
         | inr b ↦ inl (old (right (listed_append_right (snaps_of (ts ++ was)) (snaps_by after) snap b)))

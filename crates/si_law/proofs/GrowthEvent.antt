@@ -85,12 +85,14 @@ module _ (s : Setting) (before : List (List Tell)) (ts was : List Tell) (t : Tel
 
   -- an event that publishes nothing
   pub owes_quiet_event : (more : Asked) → OwesEvent → IsNoCommit t → AnswersIn s more v (worker_of before) t t.event →
-      ((key : Key) → IsTrue (ends_locking key (ts ++ was)) → IsTrue (ends_locking key (ts ++ t ∷ [])) ⊎ (is_found key (last_number s.start ts) before ts was after ≡ false)) →
+      ((key : Key) → IsTrue (ends_locking key (ts ++ was)) →
+      IsTrue (ends_locking key (ts ++ t ∷ [])) ⊎ (is_found key (last_number s.start ts) before ts was after ≡ false)) →
       OwesQuietly s more before ts was (t ∷ []) after
   owes_quiet_event more h silent answers stops = record { silent = (silent, tt); owes = owes_end h; answers = (answers, tt); stops = stops }
 
   -- an event that commits
   pub owes_commit_event : (more : Asked) → OwesEvent → IsNewCommit s v (published_by old) (last_number s.start ts) t →
-      ((key : Key) → IsTrue (ends_locking key (ts ++ was)) → IsTrue (writes_key t.writes key) ⊎ (is_found key (last_number s.start ts) before ts was after ≡ false)) →
+      ((key : Key) → IsTrue (ends_locking key (ts ++ was)) →
+      IsTrue (writes_key t.writes key) ⊎ (is_found key (last_number s.start ts) before ts was after ≡ false)) →
       OwesCommit s more before ts was t [] after
   owes_commit_event more h commit stops = record { commit = commit; silent = tt; owes = owes_end h; answers = tt; stops = stops }

@@ -19,7 +19,7 @@ use Rattle.si_model.specs.Consistency.{OwnsAll, AreOwned, HaveOrder, IsWithin, I
 use Rattle.si_model.proofs.ListLemmas.{listed_append_left, listed_append_right}
 use Rattle.si_law.specs.Views.{AsksMore, Extends, AgreeOn, moves_key_into, tells_newer, KeepCauses}
 use Rattle.si_law.specs.Growth.{ending, worker_of, known_after_all, KeepsListed, IsMoment, is_found, IsNoCommit}
-use Rattle.si_law.proofs.Moved.{list_any_moves, same_known}
+use Rattle.si_law.proofs.Moved.{list_any_stays, same_known}
 use Rattle.si_law.proofs.GrowthEnds.{any_between, any_behind, all_between, moves_between, moves_behind, number_after, number_after_is, joined_ending, tells_own, others_skip, others_of_other, others_of_own, tells_other, last_number-append, within_end, snaps_cases}
 use Rattle.si_law.proofs.GrowthCommits.{silent_last}
 
@@ -124,7 +124,8 @@ module _ (s : Setting) (before : List (List Tell)) (ts was now : List Tell) (aft
       ⊎ (((ends_locking key (ts ++ now) ≡ true) × (last_number s.start (ts ++ now) ≡ last_number s.start ts))
       ⊎ (is_found key (last_number s.start ts) before ts was after ≡ false))
 
-  module _ (w : View) (silent : AllByRecursion IsNoCommit was) (stops : Stops w) (i : ℕ) (log : List Tell) (others : worker_of before ≢ i → (t : Tell) → Listed t log → Listed t (others_of (worker_of before) old)) where
+  module _ (w : View) (silent : AllByRecursion IsNoCommit was) (stops : Stops w) (i : ℕ) (log : List Tell)
+      (others : worker_of before ≢ i → (t : Tell) → Listed t log → Listed t (others_of (worker_of before) old)) where
     abbrev last : ℕ
     last = last_number s.start ts
 
@@ -146,9 +147,10 @@ module _ (s : Setting) (before : List (List Tell)) (ts was now : List Tell) (aft
                 next ∙ ap (λ n. n + 1) (sym still.1) ∙ ap (λ xs. last_number s.start xs + 1) (sym log_now),
               )
               | inr unfound ↦
-                  absurd
-                  (false≢true (sym unfound ∙ list_any_moves (λ o. tells_newer key q o.event) (λ o. tells_newer key (stamp_at (worker_of before) (last + 1)) o.event) log (others_of (worker_of before) old)
-                  (λ t l p. (others (λ f. apart (e ∙ f)) t l, ap (λ z. tells_newer key z t.event) is ∙ p)) tells))
+                  let telling : Stamp → Tell → Bool = λ z o. tells_newer key z o.event in
+                  let among = list_any_stays (telling q) log (others_of (worker_of before) old) (others (λ f. apart (e ∙ f))) tells in
+                  let found = subst (λ z. list_any (telling z) (others_of (worker_of before) old) ≡ true) (sym is) among in
+                  absurd (false≢true (sym unfound ∙ found))
             ]
           ]
       | inr e ↦
@@ -167,7 +169,7 @@ module _ (s : Setting) (before : List (List Tell)) (ts was now : List Tell) (aft
       moves = λ b. others_moves b i (listed.moves b);
       all_moves = λ b. all_moves b (listed.moves b);
       buckets = λ b key moves keep. all_pass_too (λ o. keeps_bucket b key o.event) keep (buckets b key
-          (list_any_moves (λ o. moves_key_into b key o.event) (λ o. moves_key_into b key o.event) log (joined old) (λ t l p. (within t l, p)) moves));
+          (list_any_stays (λ o. moves_key_into b key o.event) log (joined old) within moves));
       stops = kept_stops;
     }
 
@@ -222,7 +224,8 @@ module _ (s : Setting) (asked more : Asked) (v w : View) (old new : List (List T
   -- each other log by itself, and the log of worker j
   pub sound_end : (k : ℕ) (before : List (List Tell)) (was now : List Tell) (after : List (List Tell)) → number_after k before ≡ j →
       (IsSound s asked v old j was → IsSound s more w new j now) →
-      ((t : Tell) → Listed t (others_from k j (before ++ was ∷ after)) → Listed t (others_of j old)) → AreSound s asked v old k (before ++ was ∷ after) → AreSound s more w new k (before ++ now ∷ after)
+      ((t : Tell) → Listed t (others_from k j (before ++ was ∷ after)) → Listed t (others_of j old)) →
+      AreSound s asked v old k (before ++ was ∷ after) → AreSound s more w new k (before ++ now ∷ after)
   sound_end k [] was now after is own listed h =
       let same : k ≡ j = is in (
         subst (λ n. IsSound s more w new n now) (sym same) (own (subst (λ n. IsSound s asked v old n was) same h.0)),

@@ -1,6 +1,6 @@
 -- What one view and the logs of all allow, a view that says more and logs that keep what causes rest on allow too.
-use Rattle.std.proofs.Common.{◌≡◌, ℕ, suc, ◌+◌, ◌-◌, ◌≤◌, Bool, true, false, cond, inl, inr, List, [], ◌∷◌, ◌++◌, take, refl, ap, sym, ◌∙◌, subst, arith, not, Option, Some, None}
-use Rattle.std.specs.Prelude.{◌&&◌, ◌||◌, ◌==◌, nat_lt, map, filter, replicate, slice_index}
+use Rattle.std.proofs.Common.{◌≡◌, ℕ, suc, ◌+◌, ◌-◌, ◌≤◌, Bool, true, false, cond, ◌⊎◌, inl, inr, List, [], ◌∷◌, ◌++◌, take, refl, ap, sym, ◌∙◌, subst, arith, not, Option, Some, None}
+use Rattle.std.specs.Prelude.{◌&&◌, ◌||◌, ◌==◌, nat_lt, filter, replicate, slice_index}
 use Rattle.std.specs.List.{list_any, AllByRecursion}
 use Rattle.std.proofs.lemmas.Bool.{cases_Bool, cond_both, false≢true, and_parts}
 use Rattle.std.proofs.lemmas.Bool.Decides.{nat_tests}
@@ -19,7 +19,7 @@ use Rattle.si_model.specs.declared.evaluated.Evaluated.{Evaluated}
 use Rattle.si_model.specs.Lists.{Listed}
 use Rattle.si_model.specs.Rows.{key_at, same_key, writes_key}
 use Rattle.si_model.specs.Evaluation.{evaluation_of}
-use Rattle.si_model.specs.History.{same_stamp, stamp_at, stamp_of, versions_of, is_version}
+use Rattle.si_model.specs.History.{loader, same_stamp, stamp_at, stamp_of, versions_of, is_version}
 use Rattle.si_model.specs.Tells.{Tell, prefix_in}
 use Rattle.si_model.specs.View.{View}
 use Rattle.si_model.specs.Setting.{Setting, Asked}
@@ -42,6 +42,10 @@ list_any_moves p q xs ys move h =
     let b = move a.0 a.1 a.2 in
     listed_any q ys a.0 b.0 b.1
 
+-- a test that passes in a list passes where its elements stand too
+pub list_any_stays : {X : Type 0} (p : X → Bool) (xs ys : List X) → ((x : X) → Listed x xs → Listed x ys) → list_any p xs ≡ true → list_any p ys ≡ true
+list_any_stays p xs ys stay h = list_any_moves p p xs ys (λ x l e. (stay x l, e)) h
+
 pub same_stamp-refl : (q : Stamp) → same_stamp q q ≡ true
 same_stamp-refl q = grind (arith, nat_tests)
 
@@ -51,21 +55,33 @@ same_stamp_says a b same =
     let number : a.number ≡ b.number = grind (arith, nat_tests) in
     ap (λ t. stamp_at t a.number) thread ∙ ap (stamp_at b.thread) number
 
+-- the stamp of an entry that writes the key is a version
+pub version_listed : (key : Key) (e : CommitLine) (es : List CommitLine) → Listed e es → writes_key e.writes key ≡ true → Listed (stamp_of e) (versions_of key es)
+version_listed key e es l h =
+    let writes : CommitLine → Bool = λ f. writes_key f.writes key in
+    inr (listed_map stamp_of (filter writes es) e (listed_filter writes es e l h))
+
+-- and each version is one, or the loader's
+pub version_cases : (key : Key) (q : Stamp) (es : List CommitLine) → Listed q (versions_of key es) →
+    (loader ≡ q) ⊎ ((e : CommitLine) × Listed e es × (writes_key e.writes key ≡ true) × (stamp_of e ≡ q))
+version_cases key q es l = elim l [
+  | inl e ↦ inl e
+  | inr r ↦
+      let writes : CommitLine → Bool = λ f. writes_key f.writes key in
+      let d = map_listed stamp_of (filter writes es) q r in
+      let f = filter_listed writes es d.0 d.1 in
+      inr (d.0, f.0, f.1, d.2)
+]
+
 -- a version stays one where all entries stay
 pub is_version_moves : (key : Key) (q : Stamp) (es fs : List CommitLine) → ((e : CommitLine) → Listed e es → Listed e fs) →
     is_version key q es ≡ true → is_version key q fs ≡ true
-is_version_moves key q es fs stay h =
-    list_any_moves (λ p. same_stamp p q) (λ p. same_stamp p q) (versions_of key es) (versions_of key fs) (λ p l e. (version p l, e)) h
+is_version_moves key q es fs stay h = list_any_stays (λ p. same_stamp p q) (versions_of key es) (versions_of key fs) version h
   where
     version : (p : Stamp) → Listed p (versions_of key es) → Listed p (versions_of key fs)
-    version p l = elim l [
+    version p l = elim (version_cases key p es l) [
       | inl e ↦ inl e
-      | inr r ↦
-          let writes : CommitLine → Bool = λ e. writes_key e.writes key in
-          let d = map_listed stamp_of (filter writes es) p r in
-          let f = filter_listed writes es d.0 d.1 in
-          inr
-          (subst (λ z. Listed z (map stamp_of (filter writes fs))) d.2 (listed_map stamp_of (filter writes fs) d.0 (listed_filter writes fs d.0 (stay d.0 f.0) f.1)))
+      | inr (e, m, writes, is) ↦ subst (λ z. Listed z (versions_of key fs)) is (version_listed key e fs (stay e m) writes)
     ]
 
 -- the views say the same of the event, if it has a prefix
@@ -188,8 +204,7 @@ module _ (s : Setting) (asked more : Asked) (v w : View) (asks : AsksMore asked 
 
   module _ (tss now : List (List Tell)) (j : ℕ) (all : List Tell) (keep : KeepCauses s w tss now j all) (done : List Tell) (t : Tell) where
     moved_again : (i x y : ℕ) → AgainCause s v tss j done t i x y → AgainCause s w now j done t i x y
-    moved_again i x y h =
-        (h.0, h.1, list_any_moves (λ e. same_stamp (stamp_of e) (stamp_at i y)) (λ e. same_stamp (stamp_of e) (stamp_at i y)) v.all w.all (λ e l p. (extends.listed e l, p)) h.2)
+    moved_again i x y h = (h.0, h.1, list_any_stays (λ e. same_stamp (stamp_of e) (stamp_at i y)) v.all w.all extends.listed h.2)
 
     moved_locked : (key : Key) (q : Stamp) → Agrees v w t → LockedCause s v tss j done t key q → LockedCause s w now j done t key q
     moved_locked key q same h = (keep.locks key q h.0, λ k. sym (same.later key q) ∙ none)
@@ -198,9 +213,7 @@ module _ (s : Setting) (asked more : Asked) (v w : View) (asks : AsksMore asked 
         none = elim (cases_Bool (is_version key q v.all)) [ inl e ↦ h.1 e | inr e ↦ extends.unversioned t key q e ]
 
     moved_written : (key : Key) (q : Stamp) → is_written v key q ≡ true → is_written w key q ≡ true
-    moved_written key q h =
-        list_any_moves (λ e. same_stamp (stamp_of e) q && writes_key e.writes key) (λ e. same_stamp (stamp_of e) q && writes_key e.writes key) v.all w.all
-        (λ e l p. (extends.listed e l, p)) h
+    moved_written key q h = list_any_stays (λ e. same_stamp (stamp_of e) q && writes_key e.writes key) v.all w.all extends.listed h
 
     moved_newer : (key : Key) (q : Stamp) → Agrees v w t → tells_newer key q t.event ≡ true → Listed t all → NewerCause s v tss j done t key q →
         NewerCause s w now j done t key q
@@ -278,13 +291,13 @@ module _ (s : Setting) (asked more : Asked) (v w : View) (asks : AsksMore asked 
 
   -- the causes of events among those that the logs keep the causes of
   pub moved_causes_after : (tss now : List (List Tell)) (j : ℕ) (all done ts : List Tell) → KeepCauses s w tss now j all → AgreeOn v w done →
-      AgreeOn v w ts →
-      ((x : Tell) → Listed x ts → Listed x all) → AnswersMatch s asked v j ts → HaveCausesAfter s v tss j done ts → HaveCausesAfter s w now j done ts
+      AgreeOn v w ts → ((x : Tell) → Listed x ts → Listed x all) → AnswersMatch s asked v j ts →
+      HaveCausesAfter s v tss j done ts → HaveCausesAfter s w now j done ts
   moved_causes_after tss now j all done [] keep before agree within answers h = tt
   moved_causes_after tss now j all done (t ∷ ts) keep before agree within answers h = (
     moved_cause tss now j all keep done t t.event refl before (agree t (inl refl)) (within t (inl refl)) answers.0 h.0,
     moved_causes_after tss now j all (done ++ t ∷ []) ts keep
-        (λ x l. elim (listed_append_cases done (t ∷ []) x l) [ inl a ↦ before x a | inr a ↦ elim a [ inl e ↦ subst (λ z. AgreesAt v w z z.event) e (agree t (inl refl)) | inr b ↦ elim b [ ] ] ])
+        (λ x l. elim (listed_append_cases done (t ∷ []) x l) [ inl a ↦ before x a | inr a ↦ agree x (elim a [ inl e ↦ inl e | inr b ↦ elim b [ ] ]) ])
         (λ x l. agree x (inr l)) (λ x l. within x (inr l)) answers.1 h.1,
   )
 

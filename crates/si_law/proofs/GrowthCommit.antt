@@ -99,7 +99,8 @@ module _ (s : Setting) (asked more : Asked) (before : List (List Tell)) (ts was 
   last_now = last_number-append s.start ts (t ∷ rest) ∙ commit_last (last_number s.start ts) number t rest owes.commit.number owes.silent
 
   published_now : (j : ℕ) → published_of j (ts ++ t ∷ rest) ≡ published_of j ts ++ published_on j t tried.0 tried.1 number ∷ []
-  published_now j = published_of-append j ts (t ∷ rest) ∙ ap (λ ds. published_of j ts ++ ds) (commit_published j t rest tried.0 tried.1 number tried.2 owes.silent)
+  published_now j =
+      published_of-append j ts (t ∷ rest) ∙ ap (λ ds. published_of j ts ++ ds) (commit_published j t rest tried.0 tried.1 number tried.2 owes.silent)
 
   one_more : IsWithOneMore mine cs cs'
   one_more =
@@ -108,7 +109,9 @@ module _ (s : Setting) (asked more : Asked) (before : List (List Tell)) (ts was 
       record {
         front = published_by before ++ own;
         back = back;
-        was = published_ending (ts ++ was) after before ∙ ap (λ ds. published_by before ++ (ds ++ back)) (silent_end worker ts was silent) ∙ sym (append_assoc (published_by before) own back);
+        was =
+            published_ending (ts ++ was) after before ∙ ap (λ ds. published_by before ++ (ds ++ back)) (silent_end worker ts was silent)
+            ∙ sym (append_assoc (published_by before) own back);
         now = published_ending (ts ++ t ∷ rest) after before ∙ ap (λ ds. published_by before ++ (ds ++ back)) (published_now worker)
             ∙ ap (λ ds. published_by before ++ ds) (append_assoc own (mine ∷ []) back) ∙ sym (append_assoc (published_by before) own (mine ∷ back));
       }
@@ -165,7 +168,9 @@ module _ (s : Setting) (asked more : Asked) (before : List (List Tell)) (ts was 
   same_rows snap out = one_more_rows mine cs cs' one_more (rows_of s.rows) snap out
 
   evaluates : evaluation_of s.widths (w.value t) t.ops ≡ Done t.reads t.writes owes.commit.guards
-  evaluates = subst (λ rows. evaluation_of s.widths rows t.ops ≡ Done t.reads t.writes owes.commit.guards) (same_rows t.snap (new_outside t.snap own_snap)) owes.commit.evaluates
+  evaluates =
+      subst (λ rows. evaluation_of s.widths rows t.ops ≡ Done t.reads t.writes owes.commit.guards)
+      (same_rows t.snap (new_outside t.snap own_snap)) owes.commit.evaluates
 
   -- ---- what the commits are to each other
 
@@ -177,7 +182,8 @@ module _ (s : Setting) (asked more : Asked) (before : List (List Tell)) (ts was 
           own = h.own;
           reads = h.reads;
           guards = h.guards;
-          evaluates = subst (λ rows. evaluation_of s.widths rows c.ops ≡ Done h.reads c.line.writes h.guards) (same_rows c.snap (commit_outside c a)) h.evaluates;
+          evaluates =
+              subst (λ rows. evaluation_of s.widths rows c.ops ≡ Done h.reads c.line.writes h.guards) (same_rows c.snap (commit_outside c a)) h.evaluates;
           writes = h.writes;
         }
     | inr e ↦ subst (MayBePublished s.widths (rows_of s.rows) cs') e (record {
@@ -189,9 +195,11 @@ module _ (s : Setting) (asked more : Asked) (before : List (List Tell)) (ts was 
     })
   ]
 
-  sees_item : (d : Published) (i : Item) → Listed d cs → Listed i t.writes → writes_key d.line.writes (item_key i) ≡ true → contains t.snap (stamp_of d.line) ≡ true
+  sees_item : (d : Published) (i : Item) → Listed d cs → Listed i t.writes → writes_key d.line.writes (item_key i) ≡ true →
+      contains t.snap (stamp_of d.line) ≡ true
   sees_item d i l m e =
-      owes.commit.sees_writers d (item_key i) l (listed_append_left (map item_key t.writes) owes.commit.guards (item_key i) (listed_map item_key t.writes i m)) e
+      owes.commit.sees_writers d (item_key i) l
+      (listed_append_left (map item_key t.writes) owes.commit.guards (item_key i) (listed_map item_key t.writes i m)) e
 
   sees_sharing : (d : Published) → Listed d cs → share_key mine d ≡ true → contains t.snap (stamp_of d.line) ≡ true
   sees_sharing d l e = let a = any_listed (λ i. writes_key d.line.writes (item_key i)) t.writes e in sees_item d a.0 l a.1 a.2
@@ -228,12 +236,15 @@ module _ (s : Setting) (asked more : Asked) (before : List (List Tell)) (ts was 
       let g = guarded_key d both.0 in
       elim (one_more_cases mine cs cs' one_more d l) [
         | inl a ↦
-            let key : Listed g.0 (keys_of t.writes owes.commit.guards) = listed_append_right (map item_key t.writes) owes.commit.guards g.0 (subst (Listed g.0) (sym guards_are) g.1) in
+            let key : Listed g.0 (keys_of t.writes owes.commit.guards) =
+            listed_append_right (map item_key t.writes) owes.commit.guards g.0 (subst (Listed g.0) (sym guards_are) g.1) in
             false≢true (sym (ap not (owes.commit.sees_writers d g.0 a key g.2)) ∙ both.1)
         | inr e ↦
-            let unwritten : not (ops_write g.0 t.ops) ≡ true = (filter_listed (λ key. not (ops_write key t.ops)) (keys_from key_guarded [] t.ops) g.0 g.1).1 in
+            let unwritten : not (ops_write g.0 t.ops) ≡ true =
+            (filter_listed (λ key. not (ops_write key t.ops)) (keys_from key_guarded [] t.ops) g.0 g.1).1 in
             let written : ops_write g.0 t.ops ≡ true =
-            sym (done-writes_key s.widths (v.value t) t.ops t.reads t.writes owes.commit.guards owes.commit.evaluates g.0) ∙ subst (λ z. writes_key z.line.writes g.0 ≡ true) (sym e) g.2 in
+            sym (done-writes_key s.widths (v.value t) t.ops t.reads t.writes owes.commit.guards owes.commit.evaluates g.0)
+            ∙ subst (λ z. writes_key z.line.writes g.0 ≡ true) (sym e) g.2 in
             false≢true (sym (ap not written) ∙ unwritten)
       ]
 
@@ -272,7 +283,9 @@ module _ (s : Setting) (asked more : Asked) (before : List (List Tell)) (ts was 
         | inr e ↦ absurd (overtakes_none d m (subst (λ z. is_overtaking z d ≡ true) (sym e) overtakes))
         | inl a ↦ elim (one_more_cases mine cs cs' one_more d m) [
           | inl b ↦ omega (arith, place_old c a, place_old d b, consistent.no_circle.rises c d a b overtakes)
-          | inr f ↦ subst (λ z. place_now (stamp_of c.line) < place_now (stamp_of z.line)) f (omega (arith, place_old c a, consistent.no_circle.below c a, place_mine))
+          | inr f ↦
+              subst (λ z. place_now (stamp_of c.line) < place_now (stamp_of z.line)) f
+              (omega (arith, place_old c a, consistent.no_circle.below c a, place_mine))
         ]
       ]
 
@@ -287,22 +300,26 @@ module _ (s : Setting) (asked more : Asked) (before : List (List Tell)) (ts was 
 
   keep_of : (i : ℕ) (log : List Tell) → i ≢ worker → ((u : Tell) → Listed u log → Listed u (others_of worker old)) → KeepCauses s w old new i log
   keep_of i log apart listed =
-      keeps_causes s before ts was (t ∷ rest) after w silent commit_stops i log (λ _. listed) owes.owes.listed owes.owes.buckets (λ u l. others_joined 1 worker old u (listed u l))
+      keeps_causes s before ts was (t ∷ rest) after w silent commit_stops i log (λ _. listed) owes.owes.listed owes.owes.buckets
+      (λ u l. others_joined 1 worker old u (listed u l))
 
   keep_own : KeepCauses s w old new worker ts
   keep_own =
       keeps_causes s before ts was (t ∷ rest) after w silent commit_stops worker ts (λ apart. absurd (apart refl)) owes.owes.listed owes.owes.buckets
       (λ u l. listed_own u before (ts ++ was) after (listed_append_left ts was u l))
 
-  each_sound : (i : ℕ) (log : List Tell) → i ≢ worker → ((u : Tell) → Listed u log → Listed u (others_of worker old)) → IsSound s asked v old i log → IsSound s more w new i log
+  each_sound : (i : ℕ) (log : List Tell) → i ≢ worker → ((u : Tell) → Listed u log → Listed u (others_of worker old)) → IsSound s asked v old i log →
+      IsSound s more w new i log
   each_sound i log apart listed sound =
-      moved_sound s asked more v w old new i log asks extends (keep_of i log apart listed) (agree_old log (λ u l. others_joined 1 worker old u (listed u l))) sound
+      moved_sound s asked more v w old new i log asks extends (keep_of i log apart listed)
+      (agree_old log (λ u l. others_joined 1 worker old u (listed u l))) sound
 
   commit_answer : AnswersWith s more w worker t tried.0 (evaluation_of s.widths (w.value t) t.ops) tried.1 (Commit number)
   commit_answer = (t.writes, owes.commit.guards, evaluates, (listed_map entry_of cs' mine (one_more_listed mine cs cs' one_more), owes.commit.locks))
 
   commit_newest : AreNewest w t
-  commit_newest = subst (λ newest. AllByRecursion (λ l. l.stamp ≡ newest (lock_key l)) t.locks) (agrees t (new_outside t.snap own_snap)).newest owes.commit.newest
+  commit_newest =
+      subst (λ newest. AllByRecursion (λ l. l.stamp ≡ newest (lock_key l)) t.locks) (agrees t (new_outside t.snap own_snap)).newest owes.commit.newest
 
   commit_answers : AnswersIn s more w worker t t.event
   commit_answers =
@@ -312,7 +329,8 @@ module _ (s : Setting) (asked more : Asked) (before : List (List Tell)) (ts was 
       subst (λ e. AnswersIn s more w worker t e) (sym h.tried) (subst (λ q. AnswersOn s more w worker t tried.0 q) (sym h.prefix) on)
 
   commit_cause : EventCause s w new worker ts t t.event
-  commit_cause = subst (λ e. EventCause s w new worker ts t e) (sym tried.2.tried) (subst (λ o. OutcomeCause s w new worker ts t o) (sym tried.2.outcome) tt)
+  commit_cause =
+      subst (λ e. EventCause s w new worker ts t e) (sym tried.2.tried) (subst (λ o. OutcomeCause s w new worker ts t o) (sym tried.2.outcome) tt)
 
   keep_rest : KeepCauses s w new new worker rest
   keep_rest = record {
@@ -349,7 +367,9 @@ module _ (s : Setting) (asked more : Asked) (before : List (List Tell)) (ts was 
       subst (λ k. SeesForward w worker k (t ∷ rest)) (same_known_all s asked more v w asks extends worker known ts agree_front)
       (moved_sees s asked more v w asks extends worker (known_after_all v worker known ts) (t ∷ rest) agree_new owes.owes.sees) in
       record {
-        sees = sees_append w worker known ts (t ∷ rest) (moved_sees s asked more v w asks extends worker known ts agree_front (sees_front v worker known ts was sound.sees)) sees;
+        sees =
+            sees_append w worker known ts (t ∷ rest)
+            (moved_sees s asked more v w asks extends worker known ts agree_front (sees_front v worker known ts was sound.sees)) sees;
         answers = All-append (λ u. AnswersIn s more w worker u u.event) ts (t ∷ rest)
             (moved_answers s asked more v w asks extends worker ts agree_front answers)
             (commit_answers, moved_answers s more more v w (record { ops = λ op l. l; by_calls = λ h. h }) extends worker rest (λ u l. agree_new u (inr l)) owes.answers);
@@ -359,7 +379,9 @@ module _ (s : Setting) (asked more : Asked) (before : List (List Tell)) (ts was 
       }
 
   commit_sound : AreSound s more w new 1 new
-  commit_sound = sound_end s asked more v w old new worker each_sound 1 before (ts ++ was) (ts ++ t ∷ rest) after (number_is before) own_sound (λ u l. l) consistent.sound
+  commit_sound =
+      sound_end s asked more v w old new worker each_sound 1 before (ts ++ was) (ts ++ t ∷ rest) after (number_is before) own_sound
+      (λ u l. l) consistent.sound
 
   -- ---- all together
 
@@ -370,7 +392,9 @@ module _ (s : Setting) (asked more : Asked) (before : List (List Tell)) (ts was 
       let last = last_is s.start j s.start ts snapshots numbers in
       record {
         snapshots = All-append (OwnsSnapshot s.start) ts (t ∷ rest) snapshots owes.owes.owned;
-        numbers = subst (NumbersFollow s.start) (sym (published_now j)) (follow_append s.start (published_of j ts) (published_on j t tried.0 tried.1 number) numbers (omega (arith, last)));
+        numbers =
+            subst (NumbersFollow s.start) (sym (published_now j))
+            (follow_append s.start (published_of j ts) (published_on j t tried.0 tried.1 number) numbers (omega (arith, last)));
       }
 
   commit_guards : (snap : List ℕ) → Listed snap (snaps_by new) → KeepsGuards cs' snap
@@ -396,4 +420,5 @@ module _ (s : Setting) (asked more : Asked) (before : List (List Tell)) (ts was 
       same_length (b ∷ before) = ap suc (same_length before)
 
 pub commit_growth : CommitGrowth
-commit_growth s asked more before ts was t rest after asks consistent silent owes = commit_consistent s asked more before ts was t rest after asks consistent silent owes
+commit_growth s asked more before ts was t rest after asks consistent silent owes =
+    commit_consistent s asked more before ts was t rest after asks consistent silent owes

@@ -52,14 +52,16 @@ outcome_on : (o : Outcome) (n : ℕ) → number_in o ≡ Some n → o ≡ Commit
 outcome_on (Commit k) n e = ap Commit (Some-says k n e)
 outcome_on o n e = absurd (Some≢None n (sym e))
 
-commit_on : (t : Tell) (event : Event) (n : ℕ) → t.event ≡ event → commit_in event ≡ Some n → is_some (prefix_in event) ≡ true → (a : Attempt) × (p : ℕ) × IsCommitOn t a p n
+commit_on : (t : Tell) (event : Event) (n : ℕ) → t.event ≡ event → commit_in event ≡ Some n → is_some (prefix_in event) ≡ true →
+    (a : Attempt) × (p : ℕ) × IsCommitOn t a p n
 commit_on t (Tried a) n is commits some =
     let p = prefix_on a.prefix some in
     (a, p.0, record { tried = is; prefix = p.1; outcome = outcome_on a.outcome n commits })
 commit_on t event n is commits some = absurd (Some≢None n (sym commits))
 
 published_there : (j : ℕ) (t : Tell) (a : Attempt) (p n : ℕ) → IsCommitOn t a p n → published_at j t t.event ≡ published_on j t a p n ∷ []
-published_there j t a p n h = ap (published_at j t) h.tried ∙ ap (λ q. published_in j t a q a.outcome) h.prefix ∙ ap (published_in j t a (Some p)) h.outcome
+published_there j t a p n h =
+    ap (published_at j t) h.tried ∙ ap (λ q. published_in j t a q a.outcome) h.prefix ∙ ap (published_in j t a (Some p)) h.outcome
 
 -- a commit of an owned snapshot is an attempt on a prefix
 pub owned_commit : (start : ℕ) (t : Tell) (n : ℕ) → OwnsSnapshot start t → commit_in t.event ≡ Some n → (a : Attempt) × (p : ℕ) × IsCommitOn t a p n
@@ -68,7 +70,8 @@ owned_commit start t n owns e = commit_on t t.event n refl e (owns.commit (ap is
 -- an event publishes nothing, or one commit
 data EventCases (j : ℕ) (t : Tell) : Type 0 where
   is_silent : commit_in t.event ≡ None → published_at j t t.event ≡ [] → EventCases j t
-  is_commit : (a : Attempt) (p n : ℕ) → IsCommitOn t a p n → commit_in t.event ≡ Some n → published_at j t t.event ≡ published_on j t a p n ∷ [] → EventCases j t
+  is_commit : (a : Attempt) (p n : ℕ) → IsCommitOn t a p n → commit_in t.event ≡ Some n → published_at j t t.event ≡ published_on j t a p n ∷ [] →
+      EventCases j t
 
 event_cases : (start j : ℕ) (t : Tell) → OwnsSnapshot start t → EventCases j t
 event_cases start j t owns = by_number (commit_in t.event) refl
@@ -82,7 +85,8 @@ event_cases start j t owns = by_number (commit_in t.event) refl
 pub published_of-append : (j : ℕ) (xs ys : List Tell) → published_of j (xs ++ ys) ≡ published_of j xs ++ published_of j ys
 published_of-append j [] ys = refl
 published_of-append j (x ∷ xs) ys =
-    ap (λ cs. published_at j x x.event ++ cs) (published_of-append j xs ys) ∙ sym (append_assoc (published_at j x x.event) (published_of j xs) (published_of j ys))
+    ap (λ cs. published_at j x x.event ++ cs) (published_of-append j xs ys)
+    ∙ sym (append_assoc (published_at j x x.event) (published_of j xs) (published_of j ys))
 
 pub silent_published : (j : ℕ) (ts : List Tell) → AllByRecursion IsNoCommit ts → published_of j ts ≡ []
 silent_published j [] h = refl
@@ -93,14 +97,17 @@ silent_last n [] h = refl
 silent_last n (t ∷ ts) h = ap (λ c. last_number (unwrap_or c n) ts) h.0 ∙ silent_last n ts h.1
 
 -- a commit, and what follows it
-pub commit_published : (j : ℕ) (t : Tell) (rest : List Tell) (a : Attempt) (p n : ℕ) → IsCommitOn t a p n → AllByRecursion IsNoCommit rest → published_of j (t ∷ rest) ≡ published_on j t a p n ∷ []
-commit_published j t rest a p n is silent = ap (λ cs. cs ++ published_of j rest) (published_there j t a p n is) ∙ ap (λ cs. published_on j t a p n ∷ cs) (silent_published j rest silent)
+pub commit_published : (j : ℕ) (t : Tell) (rest : List Tell) (a : Attempt) (p n : ℕ) → IsCommitOn t a p n → AllByRecursion IsNoCommit rest →
+    published_of j (t ∷ rest) ≡ published_on j t a p n ∷ []
+commit_published j t rest a p n is silent =
+    ap (λ cs. cs ++ published_of j rest) (published_there j t a p n is) ∙ ap (λ cs. published_on j t a p n ∷ cs) (silent_published j rest silent)
 
 pub commit_last : (k n : ℕ) (t : Tell) (rest : List Tell) → commit_in t.event ≡ Some n → AllByRecursion IsNoCommit rest → last_number k (t ∷ rest) ≡ n
 commit_last k n t rest e silent = ap (λ c. last_number (unwrap_or c k) rest) e ∙ silent_last n rest silent
 
 -- the last number is as far on as commits are listed
-pub last_is : (start j n : ℕ) (ts : List Tell) → AllByRecursion (OwnsSnapshot start) ts → NumbersFollow n (published_of j ts) → last_number n ts ≡ n + length (published_of j ts)
+pub last_is : (start j n : ℕ) (ts : List Tell) → AllByRecursion (OwnsSnapshot start) ts → NumbersFollow n (published_of j ts) →
+    last_number n ts ≡ n + length (published_of j ts)
 last_is start j n [] owns follow = omega arith
 last_is start j n (t ∷ ts) owns follow = elim (event_cases start j t owns.0) [
   | is_silent none nothing ↦
@@ -116,7 +123,8 @@ last_is start j n (t ∷ ts) owns follow = elim (event_cases start j t owns.0) [
 
 -- ---- numbers that follow
 
-pub follow_append : (n : ℕ) (cs : List Published) (c : Published) → NumbersFollow n cs → c.line.number ≡ suc (n + length cs) → NumbersFollow n (cs ++ c ∷ [])
+pub follow_append : (n : ℕ) (cs : List Published) (c : Published) → NumbersFollow n cs → c.line.number ≡ suc (n + length cs) →
+    NumbersFollow n (cs ++ c ∷ [])
 follow_append n [] c h e = (omega (arith, e), tt)
 follow_append n (d ∷ cs) c h e = (h.0, follow_append (suc n) cs c h.1 (omega (arith, e)))
 
@@ -134,7 +142,8 @@ record IsOf (j : ℕ) (t : Tell) (event : Event) (c : Published) : Type 0 where
   snap : t.snap ≡ c.snap
   some : is_some (prefix_in event) ≡ true
 
-of_in : (j : ℕ) (t : Tell) (a : Attempt) (c : Published) (p : Option ℕ) (o : Outcome) → Listed c (published_in j t a p o) → (c.line.worker ≡ j) × (t.snap ≡ c.snap) × (is_some p ≡ true)
+of_in : (j : ℕ) (t : Tell) (a : Attempt) (c : Published) (p : Option ℕ) (o : Outcome) → Listed c (published_in j t a p o) →
+    (c.line.worker ≡ j) × (t.snap ≡ c.snap) × (is_some p ≡ true)
 of_in j t a c None o l = elim l [ ]
 of_in j t a c (Some p) (Commit n) l = elim l [ inl e ↦ (sym (ap (λ z. z.line.worker) e), ap (λ z. z.snap) e, refl) | inr r ↦ elim r [ ] ]
 of_in j t a c (Some p) o l = elim l [ ]

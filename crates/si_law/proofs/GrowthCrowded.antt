@@ -102,14 +102,16 @@ listed_keys_from : (named : Op → Option Key) (x : Key) (ks : List Key) (ops : 
 listed_keys_from named x ks [] l = l
 listed_keys_from named x ks (op ∷ ops) l = listed_keys_from named x (with_claim ks (named op)) ops (listed_with x ks (named op) l)
 
-named_keys_from : (named : Op → Option Key) (x : Key) (ks : List Key) (ops : List Op) (op : Op) → Listed op ops → named op ≡ Some x → Listed x (keys_from named ks ops)
+named_keys_from : (named : Op → Option Key) (x : Key) (ks : List Key) (ops : List Op) (op : Op) → Listed op ops → named op ≡ Some x →
+    Listed x (keys_from named ks ops)
 named_keys_from named x ks [] op l e = elim l [ ]
 named_keys_from named x ks (o ∷ ops) op l e = elim l [
   | inl q ↦ listed_keys_from named x (with_claim ks (named o)) ops (with_adds x ks (named o) (ap named q ∙ e))
   | inr r ↦ named_keys_from named x (with_claim ks (named o)) ops op r e
 ]
 
-keys_from_cases : (named : Op → Option Key) (x : Key) (ks : List Key) (ops : List Op) → Listed x (keys_from named ks ops) → Listed x ks ⊎ ((op : Op) × Listed op ops × (named op ≡ Some x))
+keys_from_cases : (named : Op → Option Key) (x : Key) (ks : List Key) (ops : List Op) → Listed x (keys_from named ks ops) →
+    Listed x ks ⊎ ((op : Op) × Listed op ops × (named op ≡ Some x))
 keys_from_cases named x ks [] l = inl l
 keys_from_cases named x ks (o ∷ ops) l = elim (keys_from_cases named x (with_claim ks (named o)) ops l) [
   | inl a ↦ elim (with_cases x ks (named o) a) [ inl b ↦ inl b | inr e ↦ inr (o, inl refl, e) ]

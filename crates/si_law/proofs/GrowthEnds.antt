@@ -17,7 +17,8 @@ use Rattle.si_model.proofs.ListLemmas.{listed_append_cases, listed_append_left, 
 
 -- ---- what stands between two lists
 
-pub any_between : {X : Type 0} (p : X → Bool) (front was now back : List X) → (list_any p was ≡ true → list_any p now ≡ true) → list_any p (front ++ (was ++ back)) ≡ true → list_any p (front ++ (now ++ back)) ≡ true
+pub any_between : {X : Type 0} (p : X → Bool) (front was now back : List X) → (list_any p was ≡ true → list_any p now ≡ true) →
+    list_any p (front ++ (was ++ back)) ≡ true → list_any p (front ++ (now ++ back)) ≡ true
 any_between p front was now back keep h =
     let a = list_any-append p front (was ++ back) in
     let b = list_any-append p was back in
@@ -31,11 +32,14 @@ any_between p front was now back keep h =
       ])
     ]
 
-pub any_behind : {X : Type 0} (p : X → Bool) (front was now : List X) → (list_any p was ≡ true → list_any p now ≡ true) → list_any p (front ++ was) ≡ true → list_any p (front ++ now) ≡ true
+pub any_behind : {X : Type 0} (p : X → Bool) (front was now : List X) → (list_any p was ≡ true → list_any p now ≡ true) →
+    list_any p (front ++ was) ≡ true → list_any p (front ++ now) ≡ true
 any_behind p front was now keep h =
-    subst (λ xs. list_any p (front ++ xs) ≡ true) (append-nil now) (any_between p front was now [] keep (subst (λ xs. list_any p (front ++ xs) ≡ true) (sym (append-nil was)) h))
+    subst (λ xs. list_any p (front ++ xs) ≡ true) (append-nil now)
+    (any_between p front was now [] keep (subst (λ xs. list_any p (front ++ xs) ≡ true) (sym (append-nil was)) h))
 
-pub all_between : {X : Type 0} (p : X → Bool) (front was now back : List X) → list_all p now ≡ true → list_all p (front ++ (was ++ back)) ≡ true → list_all p (front ++ (now ++ back)) ≡ true
+pub all_between : {X : Type 0} (p : X → Bool) (front was now back : List X) → list_all p now ≡ true → list_all p (front ++ (was ++ back)) ≡ true →
+    list_all p (front ++ (now ++ back)) ≡ true
 all_between p front was now back new h =
     let a = list_all-append p front (was ++ back) in
     let b = list_all-append p was back in
@@ -47,9 +51,11 @@ all_between p front was now back new h =
 
 move_count-append : (b : ℕ) (xs ys : List Tell) → move_count b (xs ++ ys) ≡ move_count b xs + move_count b ys
 move_count-append b xs ys =
-    ap length (filter-append (λ t. moves_into b t.event) xs ys) ∙ length-append (filter (λ t. moves_into b t.event) xs) (filter (λ t. moves_into b t.event) ys)
+    ap length (filter-append (λ t. moves_into b t.event) xs ys)
+    ∙ length-append (filter (λ t. moves_into b t.event) xs) (filter (λ t. moves_into b t.event) ys)
 
-pub moves_between : (b : ℕ) (front was now back : List Tell) → move_count b was ≤ move_count b now → move_count b (front ++ (was ++ back)) ≤ move_count b (front ++ (now ++ back))
+pub moves_between : (b : ℕ) (front was now back : List Tell) → move_count b was ≤ move_count b now →
+    move_count b (front ++ (was ++ back)) ≤ move_count b (front ++ (now ++ back))
 moves_between b front was now back le =
     omega (
       arith,
@@ -60,7 +66,8 @@ moves_between b front was now back le =
       move_count-append b now back,
     )
 
-pub moves_behind : (b : ℕ) (front was now : List Tell) → move_count b was ≤ move_count b now → move_count b (front ++ was) ≤ move_count b (front ++ now)
+pub moves_behind : (b : ℕ) (front was now : List Tell) → move_count b was ≤ move_count b now →
+    move_count b (front ++ was) ≤ move_count b (front ++ now)
 moves_behind b front was now le = omega (arith, le, move_count-append b front was, move_count-append b front now)
 
 -- ---- the number of the worker after the first logs
@@ -79,18 +86,25 @@ number_is before = omega (arith, number_after_is 1 before)
 -- ---- what all list
 
 module _ (ts : List Tell) (after : List (List Tell)) where
-  published_after : (k : ℕ) (before : List (List Tell)) → published_from k (before ++ ts ∷ after) ≡ published_from k before ++ (published_of (number_after k before) ts ++ published_from (suc (number_after k before)) after)
+  published_after : (k : ℕ) (before : List (List Tell)) →
+      published_from k (before ++ ts ∷ after) ≡ published_from k before ++
+      (published_of (number_after k before) ts ++ published_from (suc (number_after k before)) after)
   published_after k [] = refl
   published_after k (b ∷ before) =
       ap (λ cs. published_of k b ++ cs) (published_after (suc k) before)
-      ∙ sym (append_assoc (published_of k b) (published_from (suc k) before) (published_of (number_after (suc k) before) ts ++ published_from (suc (number_after (suc k) before)) after))
+      ∙ sym
+      (append_assoc (published_of k b) (published_from (suc k) before) (published_of (number_after (suc k) before) ts ++ published_from (suc (number_after (suc k) before)) after))
 
-  pub published_ending : (before : List (List Tell)) → published_by (before ++ ts ∷ after) ≡ published_by before ++ (published_of (worker_of before) ts ++ published_from (suc (worker_of before)) after)
-  published_ending before = subst (λ j. published_by (before ++ ts ∷ after) ≡ published_by before ++ (published_of j ts ++ published_from (suc j) after)) (number_is before) (published_after 1 before)
+  pub published_ending : (before : List (List Tell)) →
+      published_by (before ++ ts ∷ after) ≡ published_by before ++ (published_of (worker_of before) ts ++ published_from (suc (worker_of before)) after)
+  published_ending before =
+      subst (λ j. published_by (before ++ ts ∷ after) ≡ published_by before ++ (published_of j ts ++ published_from (suc j) after)) (number_is before)
+      (published_after 1 before)
 
   pub snaps_ending : (before : List (List Tell)) → snaps_by (before ++ ts ∷ after) ≡ snaps_by before ++ (snaps_of ts ++ snaps_by after)
   snaps_ending [] = refl
-  snaps_ending (b ∷ before) = ap (λ ss. snaps_of b ++ ss) (snaps_ending before) ∙ sym (append_assoc (snaps_of b) (snaps_by before) (snaps_of ts ++ snaps_by after))
+  snaps_ending (b ∷ before) =
+      ap (λ ss. snaps_of b ++ ss) (snaps_ending before) ∙ sym (append_assoc (snaps_of b) (snaps_by before) (snaps_of ts ++ snaps_by after))
 
   pub joined_ending : (before : List (List Tell)) → joined (before ++ ts ∷ after) ≡ joined before ++ (ts ++ joined after)
   joined_ending [] = refl
@@ -112,22 +126,27 @@ pub others_skip : (k j : ℕ) (ts : List Tell) (tss : List (List Tell)) → k �
 others_skip k j ts tss apart = rw (not_equal k j apart) refl
 
 module _ (j : ℕ) (ts : List Tell) (after : List (List Tell)) where
-  others_apart : (k : ℕ) (before : List (List Tell)) → number_after k before ≢ j → others_from k j (before ++ ts ∷ after) ≡ others_from k j before ++ (ts ++ others_from (suc (number_after k before)) j after)
+  others_apart : (k : ℕ) (before : List (List Tell)) → number_after k before ≢ j →
+      others_from k j (before ++ ts ∷ after) ≡ others_from k j before ++ (ts ++ others_from (suc (number_after k before)) j after)
   others_apart k [] apart = others_skip k j ts after apart
   others_apart k (b ∷ before) apart =
       let rest = others_apart (suc k) before apart in
       elim (cases_Bool (k == j)) [
         | inl e ↦ rw e rest
-        | inr e ↦ rw e (ap (λ xs. b ++ xs) rest ∙ sym (append_assoc b (others_from (suc k) j before) (ts ++ others_from (suc (number_after (suc k) before)) j after)))
+        | inr e ↦
+            rw e
+            (ap (λ xs. b ++ xs) rest ∙ sym (append_assoc b (others_from (suc k) j before) (ts ++ others_from (suc (number_after (suc k) before)) j after)))
       ]
 
-  others_same : (k : ℕ) (before : List (List Tell)) → number_after k before ≡ j → others_from k j (before ++ ts ∷ after) ≡ others_from k j before ++ others_from (suc (number_after k before)) j after
+  others_same : (k : ℕ) (before : List (List Tell)) → number_after k before ≡ j →
+      others_from k j (before ++ ts ∷ after) ≡ others_from k j before ++ others_from (suc (number_after k before)) j after
   others_same k [] same = rw (equal k j same) refl
   others_same k (b ∷ before) same =
       let rest = others_same (suc k) before same in
       elim (cases_Bool (k == j)) [
         | inl e ↦ rw e rest
-        | inr e ↦ rw e (ap (λ xs. b ++ xs) rest ∙ sym (append_assoc b (others_from (suc k) j before) (others_from (suc (number_after (suc k) before)) j after)))
+        | inr e ↦
+            rw e (ap (λ xs. b ++ xs) rest ∙ sym (append_assoc b (others_from (suc k) j before) (others_from (suc (number_after (suc k) before)) j after)))
       ]
 
 -- another worker's others list the end too
@@ -138,16 +157,19 @@ others_of_other j before ts after apart =
     (others_apart j ts after 1 before (λ e. apart (sym (number_is before) ∙ e)))
 
 -- the worker's own others don't
-pub others_of_own : (before : List (List Tell)) (was now : List Tell) (after : List (List Tell)) → others_of (worker_of before) (before ++ was ∷ after) ≡ others_of (worker_of before) (before ++ now ∷ after)
+pub others_of_own : (before : List (List Tell)) (was now : List Tell) (after : List (List Tell)) →
+    others_of (worker_of before) (before ++ was ∷ after) ≡ others_of (worker_of before) (before ++ now ∷ after)
 others_of_own before was now after =
     others_same (worker_of before) was after 1 before (number_is before) ∙ sym (others_same (worker_of before) now after 1 before (number_is before))
 
 -- another worker's log is the same
-pub tells_other : (j : ℕ) (before : List (List Tell)) (was now : List Tell) (after : List (List Tell)) → j ≢ worker_of before → tells_by j (before ++ was ∷ after) ≡ tells_by j (before ++ now ∷ after)
+pub tells_other : (j : ℕ) (before : List (List Tell)) (was now : List Tell) (after : List (List Tell)) → j ≢ worker_of before →
+    tells_by j (before ++ was ∷ after) ≡ tells_by j (before ++ now ∷ after)
 tells_other zero before was now after apart = refl
 tells_other (suc i) before was now after apart = places i before (λ e. apart (ap suc e))
   where
-    places : (i : ℕ) (before : List (List Tell)) → i ≢ length before → slice_index_or (before ++ was ∷ after) i [] ≡ slice_index_or (before ++ now ∷ after) i []
+    places : (i : ℕ) (before : List (List Tell)) → i ≢ length before →
+        slice_index_or (before ++ was ∷ after) i [] ≡ slice_index_or (before ++ now ∷ after) i []
     places zero [] apart = absurd (apart refl)
     places (suc i) [] apart = refl
     places zero (b ∷ before) apart = refl
@@ -159,14 +181,16 @@ pub last_number-append : (n : ℕ) (xs ys : List Tell) → last_number n (xs ++ 
 last_number-append n [] ys = refl
 last_number-append n (x ∷ xs) ys = last_number-append _ xs ys
 
-pub within_end : (start : ℕ) (snap : List ℕ) (before : List (List Tell)) (was now : List Tell) (after : List (List Tell)) → last_number start was ≤ last_number start now → IsWithin start snap (before ++ was ∷ after) → IsWithin start snap (before ++ now ∷ after)
+pub within_end : (start : ℕ) (snap : List ℕ) (before : List (List Tell)) (was now : List Tell) (after : List (List Tell)) →
+    last_number start was ≤ last_number start now → IsWithin start snap (before ++ was ∷ after) → IsWithin start snap (before ++ now ∷ after)
 within_end start [] [] was now after le h = elim h [ ]
 within_end start (n ∷ ns) [] was now after le h = (h.0, omega (arith, le, h.1), h.2)
 within_end start [] (b ∷ before) was now after le h = elim h [ ]
 within_end start (n ∷ ns) (b ∷ before) was now after le h = (h.0, h.1, within_end start ns before was now after le h.2)
 
 -- the worker's entry in a snapshot is at most its last number
-pub within_entry : (start : ℕ) (snap : List ℕ) (before : List (List Tell)) (ts : List Tell) (after : List (List Tell)) → IsWithin start snap (before ++ ts ∷ after) → get_or snap (length before) 0 ≤ last_number start ts
+pub within_entry : (start : ℕ) (snap : List ℕ) (before : List (List Tell)) (ts : List Tell) (after : List (List Tell)) →
+    IsWithin start snap (before ++ ts ∷ after) → get_or snap (length before) 0 ≤ last_number start ts
 within_entry start [] [] ts after h = elim h [ ]
 within_entry start (n ∷ ns) [] ts after h = h.1
 within_entry start [] (b ∷ before) ts after h = elim h [ ]
@@ -192,7 +216,8 @@ snaps_of-append (x ∷ xs) ys =
       | inr e ↦ rw e (snaps_of-append xs ys)
     ]
 
-pub listed_joined_snap : (t : Tell) (tss : List (List Tell)) (p : ℕ) → Listed t (joined tss) → prefix_in t.event ≡ Some p → Listed t.snap (snaps_by tss)
+pub listed_joined_snap : (t : Tell) (tss : List (List Tell)) (p : ℕ) → Listed t (joined tss) → prefix_in t.event ≡ Some p →
+    Listed t.snap (snaps_by tss)
 listed_joined_snap t [] p l e = elim l [ ]
 listed_joined_snap t (ts ∷ tss) p l e = elim (listed_append_cases ts (joined tss) t l) [
   | inl a ↦ listed_append_left (snaps_of ts) (snaps_by tss) t.snap (listed_snap t ts p a e)
@@ -203,15 +228,20 @@ pub others_joined : (k j : ℕ) (tss : List (List Tell)) (t : Tell) → Listed t
 others_joined k j [] t l = l
 others_joined k j (ts ∷ tss) t l =
     elim (cases_Bool (k == j)) [
-      | inl e ↦ listed_append_right ts (joined tss) t (others_joined (suc k) j tss t (subst (λ b. Listed t (cond b (others_from (suc k) j tss) (ts ++ others_from (suc k) j tss))) e l))
-      | inr e ↦ elim (listed_append_cases ts (others_from (suc k) j tss) t (subst (λ b. Listed t (cond b (others_from (suc k) j tss) (ts ++ others_from (suc k) j tss))) e l)) [
-        | inl a ↦ listed_append_left ts (joined tss) t a
-        | inr a ↦ listed_append_right ts (joined tss) t (others_joined (suc k) j tss t a)
-      ]
+      | inl e ↦
+          listed_append_right ts (joined tss) t
+          (others_joined (suc k) j tss t (subst (λ b. Listed t (cond b (others_from (suc k) j tss) (ts ++ others_from (suc k) j tss))) e l))
+      | inr e ↦
+          elim
+          (listed_append_cases ts (others_from (suc k) j tss) t (subst (λ b. Listed t (cond b (others_from (suc k) j tss) (ts ++ others_from (suc k) j tss))) e l)) [
+            | inl a ↦ listed_append_left ts (joined tss) t a
+            | inr a ↦ listed_append_right ts (joined tss) t (others_joined (suc k) j tss t a)
+          ]
     ]
 
 -- the events of the worker, and the snapshots of its front and of its end
-pub listed_own : (t : Tell) (before : List (List Tell)) (ts : List Tell) (after : List (List Tell)) → Listed t ts → Listed t (joined (before ++ ts ∷ after))
+pub listed_own : (t : Tell) (before : List (List Tell)) (ts : List Tell) (after : List (List Tell)) → Listed t ts →
+    Listed t (joined (before ++ ts ∷ after))
 listed_own t [] ts after l = listed_append_left ts (joined after) t l
 listed_own t (b ∷ before) ts after l = listed_append_right b (joined (before ++ ts ∷ after)) t (listed_own t before ts after l)
 
@@ -219,11 +249,14 @@ listed_own t (b ∷ before) ts after l = listed_append_right b (joined (before +
 pub snaps_cases : (snap : List ℕ) (before : List (List Tell)) (ts was now : List Tell) (after : List (List Tell)) →
     Listed snap (snaps_by (ending before ts now after)) → Listed snap (snaps_by (ending before ts was after)) ⊎ Listed snap (snaps_of now)
 snaps_cases snap before ts was now after l =
-    elim (listed_append_cases (snaps_by before) (snaps_of (ts ++ now) ++ snaps_by after) snap (subst (Listed snap) (snaps_ending (ts ++ now) after before) l)) [
+    elim
+    (listed_append_cases (snaps_by before) (snaps_of (ts ++ now) ++ snaps_by after) snap (subst (Listed snap) (snaps_ending (ts ++ now) after before) l)) [
       | inl a ↦ inl (old (listed_append_left (snaps_by before) (snaps_of (ts ++ was) ++ snaps_by after) snap a))
       | inr a ↦ elim (listed_append_cases (snaps_of (ts ++ now)) (snaps_by after) snap a) [
         | inl b ↦ elim (listed_append_cases (snaps_of ts) (snaps_of now) snap (subst (Listed snap) (snaps_of-append ts now) b)) [
-          | inl c ↦ inl (old (right (listed_append_left (snaps_of (ts ++ was)) (snaps_by after) snap (subst (Listed snap) (sym (snaps_of-append ts was)) (listed_append_left (snaps_of ts) (snaps_of was) snap c)))))
+          | inl c ↦
+              let own : Listed snap (snaps_of (ts ++ was)) = subst (Listed snap) (sym (snaps_of-append ts was)) (listed_append_left (snaps_of ts) (snaps_of was) snap c) in
+              inl (old (right (listed_append_left (snaps_of (ts ++ was)) (snaps_by after) snap own)))
           | inr c ↦ inr c
         ]
         | inr b ↦ inl (old (right (listed_append_right (snaps_of (ts ++ was)) (snaps_by after) snap b)))

@@ -31,7 +31,8 @@ one_snap t snap l = by_prefix (prefix_in t.event) refl
     by_prefix (Some p) e = (p, e, elim (subst (λ o. Listed snap (cond (is_some o) (t.snap ∷ []) [])) e l) [ inl same ↦ same | inr none ↦ elim none [ ] ])
 
 -- an attempt keeps the buckets of all moves
-pub attempt_keeps_buckets : (t : Tell) (a : Attempt) (b : ℕ) (key : Key) → t.event ≡ Tried a → IsTrue (list_all (λ o. keeps_bucket b key o.event) (t ∷ []))
+pub attempt_keeps_buckets : (t : Tell) (a : Attempt) (b : ℕ) (key : Key) → t.event ≡ Tried a →
+    IsTrue (list_all (λ o. keeps_bucket b key o.event) (t ∷ []))
 attempt_keeps_buckets t a b key is = ap (λ e. keeps_bucket b key e && true) is
 
 -- the event's snapshot, if it has one, is of what is published, ordered with all listed before, and with what its commits overtake
@@ -40,7 +41,8 @@ pub record IsOneMoment (s : Setting) (tss : List (List Tell)) (t : Tell) : Type 
   pub ordered : (other : List ℕ) → Listed other (snaps_by tss) → AreAtMost t.snap other ⊎ AreAtMost other t.snap
   pub guards : KeepsGuards (published_by tss) t.snap
 
-pub moment_of_one : (s : Setting) (tss : List (List Tell)) (t : Tell) → ((p : ℕ) → prefix_in t.event ≡ Some p → IsOneMoment s tss t) → (snap : List ℕ) → Listed snap (snaps_of (t ∷ [])) → IsMoment s tss (t ∷ []) snap
+pub moment_of_one : (s : Setting) (tss : List (List Tell)) (t : Tell) → ((p : ℕ) → prefix_in t.event ≡ Some p → IsOneMoment s tss t) →
+    (snap : List ℕ) → Listed snap (snaps_of (t ∷ [])) → IsMoment s tss (t ∷ []) snap
 moment_of_one s tss t one snap l =
     let h = one_snap t snap l in
     let m = one h.0 h.1 in
@@ -83,12 +85,14 @@ module _ (s : Setting) (before : List (List Tell)) (ts was : List Tell) (t : Tel
 
   -- an event that publishes nothing
   pub owes_quiet_event : (more : Asked) → OwesEvent → IsNoCommit t → AnswersIn s more v (worker_of before) t t.event →
-      ((key : Key) → IsTrue (ends_locking key (ts ++ was)) → IsTrue (ends_locking key (ts ++ t ∷ [])) ⊎ (is_found key (last_number s.start ts) before ts was after ≡ false)) →
+      ((key : Key) → IsTrue (ends_locking key (ts ++ was)) →
+      IsTrue (ends_locking key (ts ++ t ∷ [])) ⊎ (is_found key (last_number s.start ts) before ts was after ≡ false)) →
       OwesQuietly s more before ts was (t ∷ []) after
   owes_quiet_event more h silent answers stops = record { silent = (silent, tt); owes = owes_end h; answers = (answers, tt); stops = stops }
 
   -- an event that commits
   pub owes_commit_event : (more : Asked) → OwesEvent → IsNewCommit s v (published_by old) (last_number s.start ts) t →
-      ((key : Key) → IsTrue (ends_locking key (ts ++ was)) → IsTrue (writes_key t.writes key) ⊎ (is_found key (last_number s.start ts) before ts was after ≡ false)) →
+      ((key : Key) → IsTrue (ends_locking key (ts ++ was)) →
+      IsTrue (writes_key t.writes key) ⊎ (is_found key (last_number s.start ts) before ts was after ≡ false)) →
       OwesCommit s more before ts was t [] after
   owes_commit_event more h commit stops = record { commit = commit; silent = tt; owes = owes_end h; answers = tt; stops = stops }

@@ -49,12 +49,14 @@ pub listed_more : (was more : List Tell) → KeepsListed was (was ++ more)
 listed_more was more = subst (λ xs. KeepsListed xs (was ++ more)) (append-nil was) (listed_behind was [] more (listed_nothing more))
 
 -- an attempt lists its locks alone, so one that has locked more may stand for it, with whatever follows
-pub listed_locking : (t u : Tell) (a : Attempt) (locks : List Lock) (rest : List Tell) → t.event ≡ Tried a → u.locks ≡ t.locks ++ locks → KeepsListed (t ∷ []) (u ∷ rest)
+pub listed_locking : (t u : Tell) (a : Attempt) (locks : List Lock) (rest : List Tell) → t.event ≡ Tried a → u.locks ≡ t.locks ++ locks →
+    KeepsListed (t ∷ []) (u ∷ rest)
 listed_locking t u a locks rest is more = record {
   locks = λ key q h.
       let p : Lock → Bool = λ l. same_key (lock_key l) key && same_stamp l.stamp q in
       let has : list_any p t.locks ≡ true = one (list_any p t.locks) h in
-      or_left (lists_lock key q u) (list_any (lists_lock key q) rest) (ap (list_any p) more ∙ list_any-append p t.locks locks ∙ or_left (list_any p t.locks) (list_any p locks) has);
+      or_left (lists_lock key q u) (list_any (lists_lock key q) rest)
+      (ap (list_any p) more ∙ list_any-append p t.locks locks ∙ or_left (list_any p t.locks) (list_any p locks) has);
   entries = λ i n h. absurd (false≢true (sym (ap (λ e. collects_entry i n e || false) is) ∙ h));
   collects = λ h. absurd (false≢true (sym (ap (λ e. has_collected e || false) is) ∙ h));
   done = λ key q h. absurd (false≢true (sym (ap (λ e. moves_version is_done key q e || false) is) ∙ h));

@@ -29,7 +29,8 @@ agree-refl v ts t l p e = record { value = refl; newest = refl; entries = refl; 
 
 -- a log's commits don't change with an end without any
 pub silent_end : (j : ℕ) (ts end : List Tell) → AllByRecursion IsNoCommit end → published_of j (ts ++ end) ≡ published_of j ts
-silent_end j ts end silent = published_of-append j ts end ∙ ap (λ cs. published_of j ts ++ cs) (silent_published j end silent) ∙ append-nil (published_of j ts)
+silent_end j ts end silent =
+    published_of-append j ts end ∙ ap (λ cs. published_of j ts ++ cs) (silent_published j end silent) ∙ append-nil (published_of j ts)
 
 module _ (s : Setting) (asked more : Asked) (before : List (List Tell)) (ts was now : List Tell) (after : List (List Tell))
     (asks : AsksMore asked more) (consistent : AreConsistent s asked (ending before ts was after)) (silent : AllByRecursion IsNoCommit was)
@@ -66,30 +67,37 @@ module _ (s : Setting) (asked more : Asked) (before : List (List Tell)) (ts was 
 
   keep_of : (i : ℕ) (log : List Tell) → i ≢ worker → ((t : Tell) → Listed t log → Listed t (others_of worker old)) → KeepCauses s v old new i log
   keep_of i log apart listed =
-      keeps_causes s before ts was now after v silent quiet_stops i log (λ _. listed) owes.owes.listed owes.owes.buckets (λ t l. others_joined 1 worker old t (listed t l))
+      keeps_causes s before ts was now after v silent quiet_stops i log (λ _. listed) owes.owes.listed owes.owes.buckets
+      (λ t l. others_joined 1 worker old t (listed t l))
 
   keep_own : KeepCauses s v old new worker ts
   keep_own =
       keeps_causes s before ts was now after v silent quiet_stops worker ts (λ apart. absurd (apart refl)) owes.owes.listed owes.owes.buckets
       (λ t l. listed_own t before (ts ++ was) after (listed_append_left ts was t l))
 
-  each_sound : (i : ℕ) (log : List Tell) → i ≢ worker → ((t : Tell) → Listed t log → Listed t (others_of worker old)) → IsSound s asked v old i log → IsSound s more v new i log
-  each_sound i log apart listed sound = moved_sound s asked more v v old new i log asks (extends-refl s old) (keep_of i log apart listed) (agree-refl v log) sound
+  each_sound : (i : ℕ) (log : List Tell) → i ≢ worker → ((t : Tell) → Listed t log → Listed t (others_of worker old)) → IsSound s asked v old i log →
+      IsSound s more v new i log
+  each_sound i log apart listed sound =
+      moved_sound s asked more v v old new i log asks (extends-refl s old) (keep_of i log apart listed) (agree-refl v log) sound
 
   own_sound : IsSound s asked v old worker (ts ++ was) → IsSound s more v new worker (ts ++ now)
   own_sound sound =
       let answers = All-front (λ t. AnswersIn s asked v worker t t.event) ts was sound.answers in
       let causes = causes_front s v old worker [] ts was sound.causes in
       record {
-        sees = sees_append v worker (replicate s.workers s.start) ts now (sees_front v worker (replicate s.workers s.start) ts was sound.sees) owes.owes.sees;
-        answers = All-append (λ t. AnswersIn s more v worker t t.event) ts now (moved_answers s asked more v v asks (extends-refl s old) worker ts (agree-refl v ts) answers) owes.answers;
+        sees =
+            sees_append v worker (replicate s.workers s.start) ts now (sees_front v worker (replicate s.workers s.start) ts was sound.sees) owes.owes.sees;
+        answers =
+            All-append (λ t. AnswersIn s more v worker t t.event) ts now
+            (moved_answers s asked more v v asks (extends-refl s old) worker ts (agree-refl v ts) answers) owes.answers;
         causes = causes_append s v new worker [] ts now
             (moved_causes_after s asked more v v asks (extends-refl s old) old new worker ts [] ts keep_own (agree-refl v []) (agree-refl v ts) (λ t l. l) answers causes)
             owes.owes.causes;
       }
 
   quiet_sound : AreSound s more v new 1 new
-  quiet_sound = sound_end s asked more v v old new worker each_sound 1 before (ts ++ was) (ts ++ now) after (number_is before) own_sound (λ t l. l) consistent.sound
+  quiet_sound =
+      sound_end s asked more v v old new worker each_sound 1 before (ts ++ was) (ts ++ now) after (number_is before) own_sound (λ t l. l) consistent.sound
 
   quiet_owned : (j : ℕ) → OwnsAll s.start j (ts ++ was) → OwnsAll s.start j (ts ++ now)
   quiet_owned j owned = record {
@@ -117,4 +125,5 @@ module _ (s : Setting) (asked more : Asked) (before : List (List Tell)) (ts was 
       same_length (b ∷ before) = ap suc (same_length before)
 
 pub quiet_growth : QuietGrowth
-quiet_growth s asked more before ts was now after asks consistent silent owes = quiet_consistent s asked more before ts was now after asks consistent silent owes
+quiet_growth s asked more before ts was now after asks consistent silent owes =
+    quiet_consistent s asked more before ts was now after asks consistent silent owes

@@ -14,9 +14,9 @@ use Rattle.si_model.specs.Tells.{Tell}
 use Rattle.si_model.specs.Commits.{Published, entry_of}
 use Rattle.si_model.specs.Snapshots.{contains, inside, newest_in, stamp_or_loader, value_by, rows_in, is_after, later_in}
 use Rattle.si_model.specs.View.{by_snapshots}
-use Rattle.si_model.proofs.ListLemmas.{All-from_listed, listed_append_cases, listed_append_left, listed_append_right, filter_listed, listed_filter, listed_map, map_listed, any_listed, listed_any, filter-none}
+use Rattle.si_model.proofs.ListLemmas.{All-from_listed, listed_append_cases, listed_append_left, listed_append_right, filter_listed, listed_map, map_listed, any_listed, listed_any, filter-none}
 use Rattle.si_law.specs.Views.{Extends, Agrees}
-use Rattle.si_law.proofs.Moved.{same_stamp-refl, same_stamp_says, is_version_moves}
+use Rattle.si_law.proofs.Moved.{same_stamp-refl, same_stamp_says, version_listed, version_cases, is_version_moves}
 
 -- the second list is the first with one more commit somewhere
 pub record IsWithOneMore (c : Published) (cs more : List Published) : Type 0 where
@@ -67,37 +67,40 @@ module _ (c : Published) (cs more : List Published) (adds : IsWithOneMore c cs m
   }
 
   -- a stamp that is a version only with the new commit is the commit's
-  new_version : (key : Key) (q : Stamp) → is_version key q (map entry_of cs) ≡ false → is_version key q (map entry_of more) ≡ true → stamp_of c.line ≡ q
+  new_version : (key : Key) (q : Stamp) → is_version key q (map entry_of cs) ≡ false → is_version key q (map entry_of more) ≡ true →
+      stamp_of c.line ≡ q
   new_version key q none h =
-      let writes : CommitLine → Bool = λ e. writes_key e.writes key in
       let a = any_listed (λ p. same_stamp p q) (versions_of key (map entry_of more)) h in
-      let refuted : (p : Stamp) → Listed p (versions_of key (map entry_of cs)) → same_stamp p q ≡ true → ⊥ = λ p l e.
-      true≢false (sym (listed_any (λ p. same_stamp p q) (versions_of key (map entry_of cs)) p l e) ∙ none) in
-      elim a.1 [
-        | inl e ↦ absurd (refuted a.0 (inl e) a.2)
-        | inr r ↦
-            let m = map_listed stamp_of (filter writes (map entry_of more)) a.0 r in
-            let f = filter_listed writes (map entry_of more) m.0 m.1 in
-            let d = map_listed entry_of more m.0 f.0 in
+      let refuted : Listed a.0 (versions_of key (map entry_of cs)) → ⊥ = λ l.
+      true≢false (sym (listed_any (λ p. same_stamp p q) (versions_of key (map entry_of cs)) a.0 l a.2) ∙ none) in
+      elim (version_cases key a.0 (map entry_of more) a.1) [
+        | inl e ↦ absurd (refuted (inl e))
+        | inr (e, l, writes, is) ↦
+            let d = map_listed entry_of more e l in
             elim (one_more_cases d.0 d.1) [
-              | inl l ↦ absurd (refuted a.0 (inr (subst (λ z. Listed z (map stamp_of (filter writes (map entry_of cs)))) m.2
-                  (listed_map stamp_of (filter writes (map entry_of cs)) m.0 (listed_filter writes (map entry_of cs) m.0 (subst (λ z. Listed z (map entry_of cs)) d.2 (listed_map entry_of cs d.0 l)) f.1)))) a.2)
-              | inr e ↦ ap (λ z. stamp_of z.line) e ∙ ap stamp_of d.2 ∙ m.2 ∙ same_stamp_says a.0 q a.2
+              | inl m ↦
+                  let listed : Listed e (map entry_of cs) = subst (λ z. Listed z (map entry_of cs)) d.2 (listed_map entry_of cs d.0 m) in
+                  absurd (refuted (subst (λ z. Listed z (versions_of key (map entry_of cs))) is (version_listed key e (map entry_of cs) listed writes)))
+              | inr same ↦ ap (λ z. stamp_of z.line) same ∙ ap stamp_of d.2 ∙ is ∙ same_stamp_says a.0 q a.2
             ]
       ]
 
-  module _ (unseen : (d : Published) → Listed d cs → contains d.snap (stamp_of c.line) ≡ false) (snap : List ℕ) (out : contains snap (stamp_of c.line) ≡ false) where
+  module _ (unseen : (d : Published) → Listed d cs → contains d.snap (stamp_of c.line) ≡ false) (snap : List ℕ)
+      (out : contains snap (stamp_of c.line) ≡ false) where
     abbrev counted : Key → Stamp → List Published → ℕ
     counted key q seen = length (filter (λ d. writes_key d.line.writes key && is_after q d) seen)
 
-    fresh : (key : Key) (q : Stamp) → is_version key q (map entry_of cs) ≡ false → is_version key q (map entry_of more) ≡ true → counted key q (inside snap cs) ≡ 0
+    fresh : (key : Key) (q : Stamp) → is_version key q (map entry_of cs) ≡ false → is_version key q (map entry_of more) ≡ true →
+        counted key q (inside snap cs) ≡ 0
     fresh key q none h =
         let is = new_version key q none h in
         let not_loader : same_stamp q loader ≡ false = false_from_ne_true (same_stamp q loader) (λ e.
-        true≢false (sym (same_stamp-refl q) ∙ sym (ap (λ z. same_stamp z q) (sym (same_stamp_says q loader e))) ∙ (or_parts (same_stamp loader q) _ none).0)) in
+        true≢false
+        (sym (same_stamp-refl q) ∙ sym (ap (λ z. same_stamp z q) (sym (same_stamp_says q loader e))) ∙ (or_parts (same_stamp loader q) _ none).0)) in
         ap length (filter-none (λ d. writes_key d.line.writes key && is_after q d) (inside snap cs)
         (All-from_listed (λ d. (writes_key d.line.writes key && is_after q d) ≡ false) (inside snap cs) (λ d l.
-        let hidden : contains d.snap q ≡ false = subst (λ z. contains d.snap z ≡ false) is (unseen d (filter_listed (λ d. contains snap (stamp_of d.line)) cs d l).0) in
+        let hidden : contains d.snap q ≡ false =
+        subst (λ z. contains d.snap z ≡ false) is (unseen d (filter_listed (λ d. contains snap (stamp_of d.line)) cs d l).0) in
         and_right (writes_key d.line.writes key) (is_after q d) (or_from (same_stamp q loader) (contains d.snap q) not_loader hidden))))
 
     same_later : (key : Key) (q : Stamp) → later_in cs key q (inside snap cs) ≡ later_in more key q (inside snap more)
@@ -112,7 +115,8 @@ module _ (c : Published) (cs more : List Published) (adds : IsWithOneMore c cs m
         ]
 
   -- the views by both lists agree at an event whose snapshot doesn't contain the commit, where no commit's does
-  pub one_more_agrees : (rows : Rows) (t : Tell) → ((d : Published) → Listed d cs → contains d.snap (stamp_of c.line) ≡ false) → contains t.snap (stamp_of c.line) ≡ false → Agrees (by_snapshots rows cs) (by_snapshots rows more) t
+  pub one_more_agrees : (rows : Rows) (t : Tell) → ((d : Published) → Listed d cs → contains d.snap (stamp_of c.line) ≡ false) →
+      contains t.snap (stamp_of c.line) ≡ false → Agrees (by_snapshots rows cs) (by_snapshots rows more) t
   one_more_agrees rows t unseen out =
       let seen = one_more_inside t.snap out in
       record {

@@ -1,6 +1,6 @@
 -- What one view and the logs of all allow, a view that says more and logs that keep what causes rest on allow too.
-use Rattle.std.proofs.Common.{◌≡◌, ℕ, suc, ◌+◌, ◌-◌, ◌≤◌, Bool, true, false, cond, inl, inr, List, [], ◌∷◌, ◌++◌, take, refl, ap, sym, ◌∙◌, subst, arith, not, Option, Some, None}
-use Rattle.std.specs.Prelude.{◌&&◌, ◌||◌, ◌==◌, nat_lt, map, filter, replicate, slice_index}
+use Rattle.std.proofs.Common.{◌≡◌, ℕ, suc, ◌+◌, ◌-◌, ◌≤◌, Bool, true, false, cond, ◌⊎◌, inl, inr, List, [], ◌∷◌, ◌++◌, take, refl, ap, sym, ◌∙◌, subst, arith, not, Option, Some, None}
+use Rattle.std.specs.Prelude.{◌&&◌, ◌||◌, ◌==◌, nat_lt, filter, replicate, slice_index}
 use Rattle.std.specs.List.{list_any, AllByRecursion}
 use Rattle.std.proofs.lemmas.Bool.{cases_Bool, cond_both, false≢true, and_parts}
 use Rattle.std.proofs.lemmas.Bool.Decides.{nat_tests}
@@ -19,7 +19,7 @@ use Rattle.si_model.specs.declared.evaluated.Evaluated.{Evaluated}
 use Rattle.si_model.specs.Lists.{Listed}
 use Rattle.si_model.specs.Rows.{key_at, same_key, writes_key}
 use Rattle.si_model.specs.Evaluation.{evaluation_of}
-use Rattle.si_model.specs.History.{same_stamp, stamp_at, stamp_of, versions_of, is_version}
+use Rattle.si_model.specs.History.{loader, same_stamp, stamp_at, stamp_of, versions_of, is_version}
 use Rattle.si_model.specs.Tells.{Tell, prefix_in}
 use Rattle.si_model.specs.View.{View}
 use Rattle.si_model.specs.Setting.{Setting, Asked}
@@ -35,11 +35,16 @@ use Rattle.si_law.proofs.GrowthCrowded.{crowded_stays}
 -- ---- tests of lists, and stamps
 
 -- what passes one test in one list passes another in another
-pub list_any_moves : {X : Type 0} (p q : X → Bool) (xs ys : List X) → ((x : X) → Listed x xs → p x ≡ true → Listed x ys × (q x ≡ true)) → list_any p xs ≡ true → list_any q ys ≡ true
+pub list_any_moves : {X : Type 0} (p q : X → Bool) (xs ys : List X) → ((x : X) → Listed x xs → p x ≡ true → Listed x ys × (q x ≡ true)) →
+    list_any p xs ≡ true → list_any q ys ≡ true
 list_any_moves p q xs ys move h =
     let a = any_listed p xs h in
     let b = move a.0 a.1 a.2 in
     listed_any q ys a.0 b.0 b.1
+
+-- a test that passes in a list passes where its elements stand too
+pub list_any_stays : {X : Type 0} (p : X → Bool) (xs ys : List X) → ((x : X) → Listed x xs → Listed x ys) → list_any p xs ≡ true → list_any p ys ≡ true
+list_any_stays p xs ys stay h = list_any_moves p p xs ys (λ x l e. (stay x l, e)) h
 
 pub same_stamp-refl : (q : Stamp) → same_stamp q q ≡ true
 same_stamp-refl q = grind (arith, nat_tests)
@@ -50,19 +55,33 @@ same_stamp_says a b same =
     let number : a.number ≡ b.number = grind (arith, nat_tests) in
     ap (λ t. stamp_at t a.number) thread ∙ ap (stamp_at b.thread) number
 
+-- the stamp of an entry that writes the key is a version
+pub version_listed : (key : Key) (e : CommitLine) (es : List CommitLine) → Listed e es → writes_key e.writes key ≡ true → Listed (stamp_of e) (versions_of key es)
+version_listed key e es l h =
+    let writes : CommitLine → Bool = λ f. writes_key f.writes key in
+    inr (listed_map stamp_of (filter writes es) e (listed_filter writes es e l h))
+
+-- and each version is one, or the loader's
+pub version_cases : (key : Key) (q : Stamp) (es : List CommitLine) → Listed q (versions_of key es) →
+    (loader ≡ q) ⊎ ((e : CommitLine) × Listed e es × (writes_key e.writes key ≡ true) × (stamp_of e ≡ q))
+version_cases key q es l = elim l [
+  | inl e ↦ inl e
+  | inr r ↦
+      let writes : CommitLine → Bool = λ f. writes_key f.writes key in
+      let d = map_listed stamp_of (filter writes es) q r in
+      let f = filter_listed writes es d.0 d.1 in
+      inr (d.0, f.0, f.1, d.2)
+]
+
 -- a version stays one where all entries stay
-pub is_version_moves : (key : Key) (q : Stamp) (es fs : List CommitLine) → ((e : CommitLine) → Listed e es → Listed e fs) → is_version key q es ≡ true → is_version key q fs ≡ true
-is_version_moves key q es fs stay h =
-    list_any_moves (λ p. same_stamp p q) (λ p. same_stamp p q) (versions_of key es) (versions_of key fs) (λ p l e. (version p l, e)) h
+pub is_version_moves : (key : Key) (q : Stamp) (es fs : List CommitLine) → ((e : CommitLine) → Listed e es → Listed e fs) →
+    is_version key q es ≡ true → is_version key q fs ≡ true
+is_version_moves key q es fs stay h = list_any_stays (λ p. same_stamp p q) (versions_of key es) (versions_of key fs) version h
   where
     version : (p : Stamp) → Listed p (versions_of key es) → Listed p (versions_of key fs)
-    version p l = elim l [
+    version p l = elim (version_cases key p es l) [
       | inl e ↦ inl e
-      | inr r ↦
-          let writes : CommitLine → Bool = λ e. writes_key e.writes key in
-          let d = map_listed stamp_of (filter writes es) p r in
-          let f = filter_listed writes es d.0 d.1 in
-          inr (subst (λ z. Listed z (map stamp_of (filter writes fs))) d.2 (listed_map stamp_of (filter writes fs) d.0 (listed_filter writes fs d.0 (stay d.0 f.0) f.1)))
+      | inr (e, m, writes, is) ↦ subst (λ z. Listed z (versions_of key fs)) is (version_listed key e fs (stay e m) writes)
     ]
 
 -- the views say the same of the event, if it has a prefix
@@ -77,7 +96,8 @@ module _ (s : Setting) (asked more : Asked) (v w : View) (asks : AsksMore asked 
       list_any_moves (λ e. list_any test e.writes && not (v.has t (stamp_of e))) (λ e. list_any test e.writes && not (w.has t (stamp_of e))) v.all w.all
       (λ e l p. (extends.listed e l, ap (λ has. list_any test e.writes && not (has (stamp_of e))) (sym same.has) ∙ p)) h
 
-  moved_reads_overtaken : (t : Tell) (before : List Op) (op : Op) → Agrees v w t → reads_overtaken v t before op ≡ true → reads_overtaken w t before op ≡ true
+  moved_reads_overtaken : (t : Tell) (before : List Op) (op : Op) → Agrees v w t → reads_overtaken v t before op ≡ true →
+      reads_overtaken w t before op ≡ true
   moved_reads_overtaken t before op same h =
       let both = and_parts (reads_prefix before op) (is_overtaken v t (reads_item op)) h in
       ap (λ b. b && is_overtaken w t (reads_item op)) both.0 ∙ moved_overtaken t (reads_item op) same both.1
@@ -95,7 +115,8 @@ module _ (s : Setting) (asked more : Asked) (v w : View) (asks : AsksMore asked 
     moved_with e p Left h = (asks.by_calls h.0, h.1, h.2)
     moved_with e p o h = h
 
-  moved_on : (j : ℕ) (t : Tell) (a : Attempt) (p : Option ℕ) → ((q : ℕ) → p ≡ Some q → Agrees v w t) → AnswersOn s asked v j t a p → AnswersOn s more w j t a p
+  moved_on : (j : ℕ) (t : Tell) (a : Attempt) (p : Option ℕ) → ((q : ℕ) → p ≡ Some q → Agrees v w t) → AnswersOn s asked v j t a p →
+      AnswersOn s more w j t a p
   moved_on j t a None agree h = h
   moved_on j t a (Some p) agree h =
       let same = agree p refl in (
@@ -125,7 +146,8 @@ module _ (s : Setting) (asked more : Asked) (v w : View) (asks : AsksMore asked 
   same_known j t known (CollectAgain b i x y) agree = refl
   same_known j t known e agree = refl
 
-  moved_sees_prefix : (t : Tell) (known : List ℕ) (p : Option ℕ) → ((q : ℕ) → p ≡ Some q → Agrees v w t) → SeesPrefix v t known p → SeesPrefix w t known p
+  moved_sees_prefix : (t : Tell) (known : List ℕ) (p : Option ℕ) → ((q : ℕ) → p ≡ Some q → Agrees v w t) → SeesPrefix v t known p →
+      SeesPrefix w t known p
   moved_sees_prefix t known None agree h = tt
   moved_sees_prefix t known (Some p) agree h = (omega (arith, h.0, extends.long), subst (AreAtMost known) (agree p refl).entries h.1)
 
@@ -140,7 +162,8 @@ module _ (s : Setting) (asked more : Asked) (v w : View) (asks : AsksMore asked 
   moved_sees j known [] agree h = tt
   moved_sees j known (t ∷ ts) agree h = (
     moved_sees_event j t known t.event (agree t (inl refl)) h.0,
-    moved_sees j (known_after w j t known t.event) ts (λ x l. agree x (inr l)) (subst (λ k. SeesForward v j k ts) (same_known j t known t.event (agree t (inl refl))) h.1),
+    moved_sees j (known_after w j t known t.event) ts (λ x l. agree x (inr l))
+        (subst (λ k. SeesForward v j k ts) (same_known j t known t.event (agree t (inl refl))) h.1),
   )
 
   -- ---- causes
@@ -150,7 +173,8 @@ module _ (s : Setting) (asked more : Asked) (v w : View) (asks : AsksMore asked 
   same_frees b key q t (Tried a) agree = refl
   same_frees b key q t e agree = refl
 
-  same_freeing : (b : ℕ) (key : Key) (q : Stamp) (ts : List Tell) → AgreeOn v w ts → list_any (λ t. frees v b key q t t.event) ts ≡ list_any (λ t. frees w b key q t t.event) ts
+  same_freeing : (b : ℕ) (key : Key) (q : Stamp) (ts : List Tell) → AgreeOn v w ts →
+      list_any (λ t. frees v b key q t t.event) ts ≡ list_any (λ t. frees w b key q t t.event) ts
   same_freeing b key q [] agree = refl
   same_freeing b key q (t ∷ ts) agree = rw (same_frees b key q t t.event (agree t (inl refl)), same_freeing b key q ts (λ x l. agree x (inr l))) refl
 
@@ -159,7 +183,8 @@ module _ (s : Setting) (asked more : Asked) (v w : View) (asks : AsksMore asked 
     fills_grow ts (Moved c table key q how) agree h =
         grows (c == b) flag flag' _ _ kept (same_freeing b (key_at table key) q ts agree) h
       where
-        grows : (into f f' freed freed' : Bool) → (f ≡ true → f' ≡ true) → freed ≡ freed' → (into && (f || not freed)) ≡ true → (into && (f' || not freed')) ≡ true
+        grows : (into f f' freed freed' : Bool) → (f ≡ true → f' ≡ true) → freed ≡ freed' → (into && (f || not freed)) ≡ true →
+            (into && (f' || not freed')) ≡ true
         grows false f f' freed freed' keep same h = h
         grows true true f' freed freed' keep same h = ap (λ x. x || not freed') (keep refl)
         grows true false true freed freed' keep same h = refl
@@ -169,7 +194,8 @@ module _ (s : Setting) (asked more : Asked) (v w : View) (asks : AsksMore asked 
     filling_grows : (ts : List Tell) → AgreeOn v w ts → filling v flag b ts ≤ filling w flag' b ts
     filling_grows [] agree = omega arith
     filling_grows (t ∷ ts) agree =
-        counts (fills v flag b ts t.event) (fills w flag' b ts t.event) _ _ (fills_grow ts t.event (λ x l. agree x (inr l))) (filling_grows ts (λ x l. agree x (inr l)))
+        counts (fills v flag b ts t.event) (fills w flag' b ts t.event) _ _ (fills_grow ts t.event (λ x l. agree x (inr l)))
+        (filling_grows ts (λ x l. agree x (inr l)))
       where
         counts : (x y : Bool) (m n : ℕ) → (x ≡ true → y ≡ true) → m ≤ n → cond x 1 0 + m ≤ cond y 1 0 + n
         counts false y m n keep le = cond_both y 1 0 (λ k. 0 + m ≤ k + n) (λ _. omega (arith, le)) (λ _. omega (arith, le))
@@ -178,7 +204,7 @@ module _ (s : Setting) (asked more : Asked) (v w : View) (asks : AsksMore asked 
 
   module _ (tss now : List (List Tell)) (j : ℕ) (all : List Tell) (keep : KeepCauses s w tss now j all) (done : List Tell) (t : Tell) where
     moved_again : (i x y : ℕ) → AgainCause s v tss j done t i x y → AgainCause s w now j done t i x y
-    moved_again i x y h = (h.0, h.1, list_any_moves (λ e. same_stamp (stamp_of e) (stamp_at i y)) (λ e. same_stamp (stamp_of e) (stamp_at i y)) v.all w.all (λ e l p. (extends.listed e l, p)) h.2)
+    moved_again i x y h = (h.0, h.1, list_any_stays (λ e. same_stamp (stamp_of e) (stamp_at i y)) v.all w.all extends.listed h.2)
 
     moved_locked : (key : Key) (q : Stamp) → Agrees v w t → LockedCause s v tss j done t key q → LockedCause s w now j done t key q
     moved_locked key q same h = (keep.locks key q h.0, λ k. sym (same.later key q) ∙ none)
@@ -187,10 +213,10 @@ module _ (s : Setting) (asked more : Asked) (v w : View) (asks : AsksMore asked 
         none = elim (cases_Bool (is_version key q v.all)) [ inl e ↦ h.1 e | inr e ↦ extends.unversioned t key q e ]
 
     moved_written : (key : Key) (q : Stamp) → is_written v key q ≡ true → is_written w key q ≡ true
-    moved_written key q h =
-        list_any_moves (λ e. same_stamp (stamp_of e) q && writes_key e.writes key) (λ e. same_stamp (stamp_of e) q && writes_key e.writes key) v.all w.all (λ e l p. (extends.listed e l, p)) h
+    moved_written key q h = list_any_stays (λ e. same_stamp (stamp_of e) q && writes_key e.writes key) v.all w.all extends.listed h
 
-    moved_newer : (key : Key) (q : Stamp) → Agrees v w t → tells_newer key q t.event ≡ true → Listed t all → NewerCause s v tss j done t key q → NewerCause s w now j done t key q
+    moved_newer : (key : Key) (q : Stamp) → Agrees v w t → tells_newer key q t.event ≡ true → Listed t all → NewerCause s v tss j done t key q →
+        NewerCause s w now j done t key q
     moved_newer key q same tells l h = (
       h.0,
       ap (λ has. has q) (sym same.has) ∙ h.1,
@@ -206,7 +232,8 @@ module _ (s : Setting) (asked more : Asked) (v w : View) (asks : AsksMore asked 
     moved_full : (key : Key) (q : Stamp) → Agrees v w t → FullCause s v tss j done t key q → FullCause s w now j done t key q
     moved_full key q same h = (is_version_moves key q v.all w.all extends.listed h.0, omega (arith, h.1, same.later key q), h.2)
 
-    moved_outcome : (a : Attempt) (o : Outcome) → t.event ≡ Tried a → a.outcome ≡ o → Listed t all → Agrees v w t → OutcomeCause s v tss j done t o → OutcomeCause s w now j done t o
+    moved_outcome : (a : Attempt) (o : Outcome) → t.event ≡ Tried a → a.outcome ≡ o → Listed t all → Agrees v w t → OutcomeCause s v tss j done t o →
+        OutcomeCause s w now j done t o
     moved_outcome a (Again i x y) is ends l same h = moved_again i x y h
     moved_outcome a (Locked k) is ends l same h = moved_locked (lock_key k) k.stamp same h
     moved_outcome a (Newer k) is ends l same h =
@@ -217,12 +244,14 @@ module _ (s : Setting) (asked more : Asked) (v w : View) (asks : AsksMore asked 
     moved_outcome a o is ends l same h = h
 
     -- without a snapshot there is no cause that rests on one
-    moved_without : (a : Attempt) (o : Outcome) → AnswersOn s asked v j t (record a { outcome = o }) None → OutcomeCause s v tss j done t o → OutcomeCause s w now j done t o
+    moved_without : (a : Attempt) (o : Outcome) → AnswersOn s asked v j t (record a { outcome = o }) None → OutcomeCause s v tss j done t o →
+        OutcomeCause s w now j done t o
     moved_without a (Again i x y) answers h = moved_again i x y h
     moved_without a Cut answers h = h
     moved_without a o answers h = elim answers [ ]
 
-    moved_tried : (a : Attempt) (p : Option ℕ) → t.event ≡ Tried a → ((q : ℕ) → p ≡ Some q → Agrees v w t) → Listed t all → AnswersOn s asked v j t a p → OutcomeCause s v tss j done t a.outcome → OutcomeCause s w now j done t a.outcome
+    moved_tried : (a : Attempt) (p : Option ℕ) → t.event ≡ Tried a → ((q : ℕ) → p ≡ Some q → Agrees v w t) → Listed t all →
+        AnswersOn s asked v j t a p → OutcomeCause s v tss j done t a.outcome → OutcomeCause s w now j done t a.outcome
     moved_tried a None is agree l answers h = moved_without a a.outcome answers h
     moved_tried a (Some p) is agree l answers h = moved_outcome a a.outcome is refl l (agree p refl) h
 
@@ -231,13 +260,15 @@ module _ (s : Setting) (asked more : Asked) (v w : View) (asks : AsksMore asked 
       | inl q ↦ inl (omega (
         arith,
         q,
-        filling_grows (list_any (λ o. has_collected o.event) (others_of j tss)) (list_any (λ o. has_collected o.event) (others_of j now)) keep.collects b done agree,
+        filling_grows (list_any (λ o. has_collected o.event) (others_of j tss))
+            (list_any (λ o. has_collected o.event) (others_of j now)) keep.collects b done agree,
         keep.moves b,
       ))
       | inr q ↦ inr (omega (arith, q, keep.all_moves b))
     ]
 
-    moved_move : (b : ℕ) (key : Key) (q : Stamp) (how : MoveEnd) → moves_key_into b key t.event ≡ true → Listed t all → MoveCause s v tss j done t b key q how → MoveCause s w now j done t b key q how
+    moved_move : (b : ℕ) (key : Key) (q : Stamp) (how : MoveEnd) → moves_key_into b key t.event ≡ true → Listed t all →
+        MoveCause s v tss j done t b key q how → MoveCause s w now j done t b key q how
     moved_move b key q how moves l h = (
       is_version_moves key q v.all w.all extends.listed h.0,
       keep.buckets b key (listed_any (λ o. moves_key_into b key o.event) all t l moves) h.1,
@@ -245,7 +276,8 @@ module _ (s : Setting) (asked more : Asked) (v w : View) (asks : AsksMore asked 
     )
 
     -- the cause of one event, where it answers too
-    pub moved_cause : (e : Event) → t.event ≡ e → AgreeOn v w done → AgreesAt v w t e → Listed t all → AnswersIn s asked v j t e → EventCause s v tss j done t e → EventCause s w now j done t e
+    pub moved_cause : (e : Event) → t.event ≡ e → AgreeOn v w done → AgreesAt v w t e → Listed t all → AnswersIn s asked v j t e →
+        EventCause s v tss j done t e → EventCause s w now j done t e
     moved_cause (Tried a) is before agree l answers h = moved_tried a a.prefix is agree l answers h
     moved_cause (NoRoom b) is before agree l answers h = moved_no_room b before h
     moved_cause (Moved b table key q how) is before agree l answers h =
@@ -258,13 +290,14 @@ module _ (s : Setting) (asked more : Asked) (v w : View) (asks : AsksMore asked 
     moved_cause e is before agree l answers h = h
 
   -- the causes of events among those that the logs keep the causes of
-  pub moved_causes_after : (tss now : List (List Tell)) (j : ℕ) (all done ts : List Tell) → KeepCauses s w tss now j all → AgreeOn v w done → AgreeOn v w ts →
-      ((x : Tell) → Listed x ts → Listed x all) → AnswersMatch s asked v j ts → HaveCausesAfter s v tss j done ts → HaveCausesAfter s w now j done ts
+  pub moved_causes_after : (tss now : List (List Tell)) (j : ℕ) (all done ts : List Tell) → KeepCauses s w tss now j all → AgreeOn v w done →
+      AgreeOn v w ts → ((x : Tell) → Listed x ts → Listed x all) → AnswersMatch s asked v j ts →
+      HaveCausesAfter s v tss j done ts → HaveCausesAfter s w now j done ts
   moved_causes_after tss now j all done [] keep before agree within answers h = tt
   moved_causes_after tss now j all done (t ∷ ts) keep before agree within answers h = (
     moved_cause tss now j all keep done t t.event refl before (agree t (inl refl)) (within t (inl refl)) answers.0 h.0,
     moved_causes_after tss now j all (done ++ t ∷ []) ts keep
-        (λ x l. elim (listed_append_cases done (t ∷ []) x l) [ inl a ↦ before x a | inr a ↦ elim a [ inl e ↦ subst (λ z. AgreesAt v w z z.event) e (agree t (inl refl)) | inr b ↦ elim b [ ] ] ])
+        (λ x l. elim (listed_append_cases done (t ∷ []) x l) [ inl a ↦ before x a | inr a ↦ agree x (elim a [ inl e ↦ inl e | inr b ↦ elim b [ ] ]) ])
         (λ x l. agree x (inr l)) (λ x l. within x (inr l)) answers.1 h.1,
   )
 

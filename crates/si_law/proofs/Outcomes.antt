@@ -68,34 +68,43 @@ module _ (s : Setting) (asked : Asked) (v : View) (j : ℕ) (t : Tell) where
       at e h = tt
 
   module _ (a : Attempt) where
-    pub answers_with : (p : ℕ) (o : Outcome) → IsAttempt t a (Some p) o → AnswersWith s asked v j t a (evaluation_of s.widths (v.value t) t.ops) p o → AreNewest v t → AnswersIn s asked v j t t.event
+    pub answers_with : (p : ℕ) (o : Outcome) → IsAttempt t a (Some p) o → AnswersWith s asked v j t a (evaluation_of s.widths (v.value t) t.ops) p o →
+        AreNewest v t → AnswersIn s asked v j t t.event
     answers_with p o is answers newest =
         let on : AnswersOn s asked v j t a (Some p) =
         (subst (AnswersWith s asked v j t a (evaluation_of s.widths (v.value t) t.ops) p) (sym is.outcome) answers, newest) in
         subst (AnswersIn s asked v j t) (sym is.event) (subst (AnswersOn s asked v j t a) (sym is.prefix) on)
 
-    answers_unlocked : (p : ℕ) (o : Outcome) → IsUnlocked t a p o → AnswersWith s asked v j t a (evaluation_of s.widths (v.value t) t.ops) p o → AnswersIn s asked v j t t.event
+    answers_unlocked : (p : ℕ) (o : Outcome) → IsUnlocked t a p o → AnswersWith s asked v j t a (evaluation_of s.widths (v.value t) t.ops) p o →
+        AnswersIn s asked v j t t.event
     answers_unlocked p o h answers = answers_with p o h.is answers (subst (AllByRecursion (λ l. l.stamp ≡ v.newest t (lock_key l))) (sym h.none) tt)
 
     answers_without : (o : Outcome) → IsAttempt t a None o → AnswersWithout t o → AnswersIn s asked v j t t.event
     answers_without o is answers =
-        subst (AnswersIn s asked v j t) (sym is.event) (subst (AnswersOn s asked v j t a) (sym is.prefix) (subst (AnswersWithout t) (sym is.outcome) answers))
+        subst (AnswersIn s asked v j t) (sym is.event)
+        (subst (AnswersOn s asked v j t a) (sym is.prefix) (subst (AnswersWithout t) (sym is.outcome) answers))
 
-    pub answers_read_only : (p : ℕ) (guards : List Key) → IsUnlocked t a p ReadOnly → evaluation_of s.widths (v.value t) t.ops ≡ Done t.reads [] guards → AnswersIn s asked v j t t.event
+    pub answers_read_only : (p : ℕ) (guards : List Key) → IsUnlocked t a p ReadOnly →
+        evaluation_of s.widths (v.value t) t.ops ≡ Done t.reads [] guards → AnswersIn s asked v j t t.event
     answers_read_only p guards h done = answers_unlocked p ReadOnly h (guards, done, h.none)
 
-    pub answers_declined : (p op : ℕ) → IsUnlocked t a p (DeclinedAt op) → evaluation_of s.widths (v.value t) t.ops ≡ Declined op t.reads → AnswersIn s asked v j t t.event
+    pub answers_declined : (p op : ℕ) → IsUnlocked t a p (DeclinedAt op) → evaluation_of s.widths (v.value t) t.ops ≡ Declined op t.reads →
+        AnswersIn s asked v j t t.event
     answers_declined p op h declined = answers_unlocked p (DeclinedAt op) h (declined, h.none)
 
     -- operation k claims a position of a crowded table, and has been read
-    pub answers_no_space : (p table k : ℕ) (op : Op) (key : Key) → StopsAt s v t a p (NoSpace table) k op → ClaimsFirst table (take k t.ops) op key → IsTrue (is_crowded s asked key) →
+    pub answers_no_space : (p table k : ℕ) (op : Op) (key : Key) → StopsAt s v t a p (NoSpace table) k op → ClaimsFirst table (take k t.ops) op key →
+        IsTrue (is_crowded s asked key) →
         ReadsFirst s.widths (v.value t) t.ops (suc k) t.reads → AnswersIn s asked v j t t.event
-    answers_no_space p table k op key h claims crowded reads = answers_unlocked p (NoSpace table) h.is (k, op, h.stands, (key, claims, crowded), reads, h.is.none)
+    answers_no_space p table k op key h claims crowded reads =
+        answers_unlocked p (NoSpace table) h.is (k, op, h.stands, (key, claims, crowded), reads, h.is.none)
 
-    pub answers_spent : (p : ℕ) (writes : List Item) (guards : List Key) → IsLocking s v t a p Spent writes guards → t.locks ≡ [] → AnswersIn s asked v j t t.event
+    pub answers_spent : (p : ℕ) (writes : List Item) (guards : List Key) → IsLocking s v t a p Spent writes guards → t.locks ≡ [] →
+        AnswersIn s asked v j t t.event
     answers_spent p writes guards h none = answers_with p Spent h.is (writes, guards, h.done, (h.writes_some, none)) h.newest
 
-    pub answers_again : (i first second : ℕ) → IsAttempt t a None (Again i first second) → t.reads ≡ [] → t.locks ≡ [] → AnswersIn s asked v j t t.event
+    pub answers_again : (i first second : ℕ) → IsAttempt t a None (Again i first second) → t.reads ≡ [] → t.locks ≡ [] →
+        AnswersIn s asked v j t t.event
     answers_again i first second is reads locks = answers_without (Again i first second) is (reads, locks)
 
     pub answers_locked : (p : ℕ) (l : Lock) (writes : List Item) (guards rest : List Key) → IsLocking s v t a p (Locked l) writes guards →
@@ -107,16 +116,19 @@ module _ (s : Setting) (asked : Asked) (v : View) (j : ℕ) (t : Tell) where
     answers_newer p l writes guards rest h keys = answers_with p (Newer l) h.is (writes, guards, h.done, (h.writes_some, rest, keys)) h.newest
 
     -- operation k, which has not been read, reads what a later entry overwrites
-    pub answers_too_old : (p i entry horizon k : ℕ) (op : Op) → StopsAt s v t a p (TooOld i entry horizon) k op → IsTrue (reads_overtaken v t (take k t.ops) op) →
+    pub answers_too_old : (p i entry horizon k : ℕ) (op : Op) → StopsAt s v t a p (TooOld i entry horizon) k op →
+        IsTrue (reads_overtaken v t (take k t.ops) op) →
         ReadsFirst s.widths (v.value t) t.ops k t.reads → AnswersIn s asked v j t t.event
-    answers_too_old p i entry horizon k op h overtaken reads = answers_unlocked p (TooOld i entry horizon) h.is (k, op, h.stands, overtaken, reads, h.is.none)
+    answers_too_old p i entry horizon k op h overtaken reads =
+        answers_unlocked p (TooOld i entry horizon) h.is (k, op, h.stands, overtaken, reads, h.is.none)
 
     pub answers_full : (p : ℕ) (l : Lock) (writes : List Item) (guards : List Key) → IsLocking s v t a p (Full l) writes guards →
         IsTrue (writes_key writes (lock_key l)) → map lock_key t.locks ≡ keys_of writes guards → AnswersIn s asked v j t t.event
     answers_full p l writes guards h writes_it keys = answers_with p (Full l) h.is (writes, guards, h.done, (writes_it, keys)) h.newest
 
     -- a cut before the first lock, within the reads
-    pub answers_cut : (p : ℕ) (rest : List Item) → IsUnlocked t a p Cut → t.reads ++ rest ≡ reads_of (evaluation_of s.widths (v.value t) t.ops) → AnswersIn s asked v j t t.event
+    pub answers_cut : (p : ℕ) (rest : List Item) → IsUnlocked t a p Cut → t.reads ++ rest ≡ reads_of (evaluation_of s.widths (v.value t) t.ops) →
+        AnswersIn s asked v j t t.event
     answers_cut p rest h reads = answers_unlocked p Cut h ((rest, reads), inl h.none)
 
     -- a cut once some of the first keys are locked
@@ -129,7 +141,8 @@ module _ (s : Setting) (asked : Asked) (v : View) (j : ℕ) (t : Tell) where
     pub answers_cut_without : IsAttempt t a None Cut → t.reads ≡ [] → t.locks ≡ [] → AnswersIn s asked v j t t.event
     answers_cut_without is reads locks = answers_without Cut is (reads, locks)
 
-    pub answers_left : (p : ℕ) (rest : List Item) → IsUnlocked t a p Left → IsTrue asked.by_calls → t.reads ++ rest ≡ reads_of (evaluation_of s.widths (v.value t) t.ops) → AnswersIn s asked v j t t.event
+    pub answers_left : (p : ℕ) (rest : List Item) → IsUnlocked t a p Left → IsTrue asked.by_calls →
+        t.reads ++ rest ≡ reads_of (evaluation_of s.widths (v.value t) t.ops) → AnswersIn s asked v j t t.event
     answers_left p rest h calls reads = answers_unlocked p Left h (calls, (rest, reads), h.none)
 
 module _ (s : Setting) (v : View) (tss : List (List Tell)) (j : ℕ) (done : List Tell) (t : Tell) where
@@ -160,7 +173,8 @@ module _ (s : Setting) (v : View) (tss : List (List Tell)) (j : ℕ) (done : Lis
     pub cause_spent : IsAttempt t a p Spent → last_number s.start done ≡ s.greatest → EventCause s v tss j done t t.event
     cause_spent is spent = cause_with Spent is spent
 
-    pub cause_again : (i first second : ℕ) → IsAttempt t a p (Again i first second) → i ≢ j → first < second → IsTrue (has_stamp v.all (stamp_at i second)) → EventCause s v tss j done t t.event
+    pub cause_again : (i first second : ℕ) → IsAttempt t a p (Again i first second) → i ≢ j → first < second →
+        IsTrue (has_stamp v.all (stamp_at i second)) → EventCause s v tss j done t t.event
     cause_again i first second is other rises published = cause_with (Again i first second) is (other, rises, published)
 
     pub cause_locked : (l : Lock) → IsAttempt t a p (Locked l) → IsTrue (list_any (lists_lock (lock_key l) l.stamp) (others_of j tss)) →
@@ -168,26 +182,32 @@ module _ (s : Setting) (v : View) (tss : List (List Tell)) (j : ℕ) (done : Lis
     cause_locked l is listed newest = cause_with (Locked l) is (listed, newest)
 
     -- another worker published the newer version
-    pub cause_newer_published : (l : Lock) → IsAttempt t a p (Newer l) → l.stamp.thread ≢ j → v.has t l.stamp ≡ false → IsTrue (is_written v (lock_key l) l.stamp) → EventCause s v tss j done t t.event
+    pub cause_newer_published : (l : Lock) → IsAttempt t a p (Newer l) → l.stamp.thread ≢ j → v.has t l.stamp ≡ false →
+        IsTrue (is_written v (lock_key l) l.stamp) → EventCause s v tss j done t t.event
     cause_newer_published l is other behind written = cause_with (Newer l) is (other, behind, inl written)
 
     -- it was stopped before it did
-    pub cause_newer_stopped : (l : Lock) → IsAttempt t a p (Newer l) → l.stamp.thread ≢ j → v.has t l.stamp ≡ false → IsTrue (ends_locking (lock_key l) (tells_by l.stamp.thread tss)) →
+    pub cause_newer_stopped : (l : Lock) → IsAttempt t a p (Newer l) → l.stamp.thread ≢ j → v.has t l.stamp ≡ false →
+        IsTrue (ends_locking (lock_key l) (tells_by l.stamp.thread tss)) →
         l.stamp.number ≡ last_number s.start (tells_by l.stamp.thread tss) + 1 → EventCause s v tss j done t t.event
     cause_newer_stopped l is other behind stopped next = cause_with (Newer l) is (other, behind, inr (stopped, next))
 
-    pub cause_too_old : (i entry horizon : ℕ) → IsAttempt t a p (TooOld i entry horizon) → i ≢ j → slice_index (v.entries t) (i - 1) ≡ entry → entry < horizon →
+    pub cause_too_old : (i entry horizon : ℕ) → IsAttempt t a p (TooOld i entry horizon) → i ≢ j → slice_index (v.entries t) (i - 1) ≡ entry →
+        entry < horizon →
         IsTrue (list_any (λ o. collects_entry i horizon o.event) (others_of j tss)) → EventCause s v tss j done t t.event
     cause_too_old i entry horizon is other here passed collected = cause_with (TooOld i entry horizon) is (other, here, passed, collected)
 
-    pub cause_full : (l : Lock) → IsAttempt t a p (Full l) → IsTrue (is_version (lock_key l) l.stamp v.all) → slice_index s.rings l.table ≤ v.later t (lock_key l) l.stamp →
+    pub cause_full : (l : Lock) → IsAttempt t a p (Full l) → IsTrue (is_version (lock_key l) l.stamp v.all) →
+        slice_index s.rings l.table ≤ v.later t (lock_key l) l.stamp →
         list_any (λ d. moves_version is_over (lock_key l) l.stamp d.event) done ≡ false → EventCause s v tss j done t t.event
     cause_full l is version later unmoved = cause_with (Full l) is (version, later, unmoved)
 
   -- ---- causes of the other events
 
   -- moves fill all cells of the bucket
-  pub cause_no_cell : (b : ℕ) → t.event ≡ NoRoom b → s.cells ≤ filling v (list_any (λ o. has_collected o.event) (others_of j tss)) b done + move_count b (others_of j tss) → EventCause s v tss j done t t.event
+  pub cause_no_cell : (b : ℕ) → t.event ≡ NoRoom b →
+      s.cells ≤ filling v (list_any (λ o. has_collected o.event) (others_of j tss)) b done + move_count b (others_of j tss) →
+      EventCause s v tss j done t t.event
   cause_no_cell b is filled = subst (EventCause s v tss j done t) (sym is) (inl filled)
 
   -- its tags are used up
@@ -199,10 +219,12 @@ module _ (s : Setting) (v : View) (tss : List (List Tell)) (j : ℕ) (done : Lis
       (how ≡ Back → IsTrue (list_any (λ o. moves_version is_done (key_at table k) q o.event) (others_of j tss))) → EventCause s v tss j done t t.event
   cause_moved b table k q how is version bucket back = subst (EventCause s v tss j done t) (sym is) (version, bucket, back)
 
-  pub cause_collected : (b prefix : ℕ) (entries : List ℕ) (cut : Bool) → t.event ≡ Collected b prefix entries cut → entries ≡ v.entries t → EventCause s v tss j done t t.event
+  pub cause_collected : (b prefix : ℕ) (entries : List ℕ) (cut : Bool) → t.event ≡ Collected b prefix entries cut → entries ≡ v.entries t →
+      EventCause s v tss j done t t.event
   cause_collected b prefix entries cut is same = subst (EventCause s v tss j done t) (sym is) same
 
-  pub cause_collect_again : (b i first second : ℕ) → t.event ≡ CollectAgain b i first second → i ≢ j → first < second → IsTrue (has_stamp v.all (stamp_at i second)) → EventCause s v tss j done t t.event
+  pub cause_collect_again : (b i first second : ℕ) → t.event ≡ CollectAgain b i first second → i ≢ j → first < second →
+      IsTrue (has_stamp v.all (stamp_at i second)) → EventCause s v tss j done t t.event
   cause_collect_again b i first second is other rises published = subst (EventCause s v tss j done t) (sym is) (other, rises, published)
 
   pub cause_collect_cut : (b : ℕ) → t.event ≡ CollectCut b → EventCause s v tss j done t t.event
@@ -215,11 +237,13 @@ module _ (s : Setting) (v : View) (tss : List (List Tell)) (j : ℕ) (done : Lis
   cause_tail_cut is guarding = subst (EventCause s v tss j done t) (sym is) guarding
 
   -- what was committed was rolled on
-  pub cause_rolled_on : t.event ≡ Finished RolledOn → IsTrue s.held → IsTrue (follows_one (λ d. ends_commit d.event) done) → EventCause s v tss j done t t.event
+  pub cause_rolled_on : t.event ≡ Finished RolledOn → IsTrue s.held → IsTrue (follows_one (λ d. ends_commit d.event) done) →
+      EventCause s v tss j done t t.event
   cause_rolled_on is held commits = subst (EventCause s v tss j done t) (sym is) (held, commits)
 
   -- a stopped worker was finished otherwise
-  pub cause_finished : (how : Finish) → t.event ≡ Finished how → how ≢ RolledOn → IsTrue s.held → IsTrue (follows_one (λ d. is_stopped d.event) done) → EventCause s v tss j done t t.event
+  pub cause_finished : (how : Finish) → t.event ≡ Finished how → how ≢ RolledOn → IsTrue s.held →
+      IsTrue (follows_one (λ d. is_stopped d.event) done) → EventCause s v tss j done t t.event
   cause_finished how is other held stopped = subst (EventCause s v tss j done t) (sym is) (by how other)
     where
       by : (how : Finish) → how ≢ RolledOn → EventCause s v tss j done t (Finished how)
@@ -230,7 +254,8 @@ module _ (s : Setting) (v : View) (j : ℕ) (known : List ℕ) (t : Tell) where
   -- ---- knowledge: what is seen is no less than is known, and what is known then
 
   module _ (a : Attempt) (o : Outcome) where
-    pub sees_attempt : (p : ℕ) → IsAttempt t a (Some p) o → p ≤ length v.all → AreAtMost known (v.entries t) → SeesOutcome (v.entries t) o → SeesEvent v t known t.event
+    pub sees_attempt : (p : ℕ) → IsAttempt t a (Some p) o → p ≤ length v.all → AreAtMost known (v.entries t) → SeesOutcome (v.entries t) o →
+        SeesEvent v t known t.event
     sees_attempt p is below least outcome =
         subst (SeesEvent v t known) (sym is.event) (
           subst (SeesPrefix v t known) (sym is.prefix) (below, least),
@@ -245,12 +270,16 @@ module _ (s : Setting) (v : View) (j : ℕ) (known : List ℕ) (t : Tell) where
         )
 
     pub known_attempt : (p : Option ℕ) → IsAttempt t a p o → known_after v j t known t.event ≡ known_by j (known_with v t known p) o
-    known_attempt p is = ap (known_after v j t known) is.event ∙ ap (λ q. known_by j (known_with v t known q) a.outcome) is.prefix ∙ ap (known_by j (known_with v t known p)) is.outcome
+    known_attempt p is =
+        ap (known_after v j t known) is.event ∙ ap (λ q. known_by j (known_with v t known q) a.outcome) is.prefix
+        ∙ ap (known_by j (known_with v t known p)) is.outcome
 
-  pub sees_collected : (b prefix : ℕ) (entries : List ℕ) (cut : Bool) → t.event ≡ Collected b prefix entries cut → prefix ≤ length v.all → AreAtMost known (v.entries t) → SeesEvent v t known t.event
+  pub sees_collected : (b prefix : ℕ) (entries : List ℕ) (cut : Bool) → t.event ≡ Collected b prefix entries cut → prefix ≤ length v.all →
+      AreAtMost known (v.entries t) → SeesEvent v t known t.event
   sees_collected b prefix entries cut is below least = subst (SeesEvent v t known) (sym is) (below, least)
 
-  pub known_collected : (b prefix : ℕ) (entries : List ℕ) (cut : Bool) → t.event ≡ Collected b prefix entries cut → known_after v j t known t.event ≡ v.entries t
+  pub known_collected : (b prefix : ℕ) (entries : List ℕ) (cut : Bool) → t.event ≡ Collected b prefix entries cut →
+      known_after v j t known t.event ≡ v.entries t
   known_collected b prefix entries cut is = ap (known_after v j t known) is
 
   pub sees_collect_again : (b i first second : ℕ) → t.event ≡ CollectAgain b i first second → SeesFirst known i first → SeesEvent v t known t.event

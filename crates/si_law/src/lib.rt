@@ -3,3 +3,8 @@
 //!
 //! The crate has no code that runs: its functions carry laws over the definitions of `si_model`.
 #![tactic(auto)]
+
+pub mod growth;
+mod laws;
+
+pub use laws::{arrange_law, run_law, state_law};

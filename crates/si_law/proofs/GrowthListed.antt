@@ -1,0 +1,71 @@
+-- Ends that list what others list.
+use Rattle.std.proofs.Common.{◌≡◌, ℕ, ◌≤◌, Bool, true, false, List, [], ◌∷◌, ◌++◌, refl, ap, sym, ◌∙◌, subst, arith}
+use Rattle.std.specs.Prelude.{◌||◌, ◌&&◌}
+use Rattle.std.specs.List.{list_any}
+use Rattle.std.proofs.lemmas.Bool.{false≢true, or_left}
+use Rattle.std.proofs.lemmas.List.{append-nil}
+use Rattle.std.proofs.lemmas.List.Folds.{list_any-append}
+use Rattle.si_model.specs.declared.log.Lock.{Lock}
+use Rattle.si_model.specs.declared.log.Attempt.{Attempt}
+use Rattle.si_model.specs.declared.log.Event.TheVariants.{Tried}
+use Rattle.si_model.specs.Rows.{same_key}
+use Rattle.si_model.specs.History.{same_stamp}
+use Rattle.si_model.specs.Tells.{Tell}
+use Rattle.si_model.specs.Answers.{lock_key}
+use Rattle.si_model.specs.Causes.{lists_lock, collects_entry, has_collected, move_count, moves_version, moves_into, is_done}
+use Rattle.si_law.specs.Growth.{KeepsListed}
+use Rattle.si_law.proofs.GrowthEnds.{any_behind, moves_behind}
+
+pub listed_nothing : (now : List Tell) → KeepsListed [] now
+listed_nothing now = record {
+  locks = λ key q h. absurd (false≢true h);
+  entries = λ i n h. absurd (false≢true h);
+  collects = λ h. absurd (false≢true h);
+  done = λ key q h. absurd (false≢true h);
+  moves = λ b. omega arith;
+}
+
+pub listed_trans : (xs ys zs : List Tell) → KeepsListed xs ys → KeepsListed ys zs → KeepsListed xs zs
+listed_trans xs ys zs h k = record {
+  locks = λ key q l. k.locks key q (h.locks key q l);
+  entries = λ i n l. k.entries i n (h.entries i n l);
+  collects = λ l. k.collects (h.collects l);
+  done = λ key q l. k.done key q (h.done key q l);
+  moves = λ b. omega (arith, h.moves b, k.moves b);
+}
+
+-- behind a front that both have
+pub listed_behind : (front was now : List Tell) → KeepsListed was now → KeepsListed (front ++ was) (front ++ now)
+listed_behind front was now h = record {
+  locks = λ key q. any_behind (lists_lock key q) front was now (h.locks key q);
+  entries = λ i n. any_behind (λ t. collects_entry i n t.event) front was now (h.entries i n);
+  collects = any_behind (λ t. has_collected t.event) front was now h.collects;
+  done = λ key q. any_behind (λ t. moves_version is_done key q t.event) front was now (h.done key q);
+  moves = λ b. moves_behind b front was now (h.moves b);
+}
+
+-- with more events at the end
+pub listed_more : (was more : List Tell) → KeepsListed was (was ++ more)
+listed_more was more = subst (λ xs. KeepsListed xs (was ++ more)) (append-nil was) (listed_behind was [] more (listed_nothing more))
+
+-- an attempt lists its locks alone, so one that has locked more may stand for it, with whatever follows
+pub listed_locking : (t u : Tell) (a : Attempt) (locks : List Lock) (rest : List Tell) → t.event ≡ Tried a → u.locks ≡ t.locks ++ locks →
+    KeepsListed (t ∷ []) (u ∷ rest)
+listed_locking t u a locks rest is more = record {
+  locks = λ key q h.
+      let p : Lock → Bool = λ l. same_key (lock_key l) key && same_stamp l.stamp q in
+      let has : list_any p t.locks ≡ true = one (list_any p t.locks) h in
+      or_left (lists_lock key q u) (list_any (lists_lock key q) rest)
+      (ap (list_any p) more ∙ list_any-append p t.locks locks ∙ or_left (list_any p t.locks) (list_any p locks) has);
+  entries = λ i n h. absurd (false≢true (sym (ap (λ e. collects_entry i n e || false) is) ∙ h));
+  collects = λ h. absurd (false≢true (sym (ap (λ e. has_collected e || false) is) ∙ h));
+  done = λ key q h. absurd (false≢true (sym (ap (λ e. moves_version is_done key q e || false) is) ∙ h));
+  moves = λ b. subst (λ n. n ≤ move_count b (u ∷ rest)) (sym (none b)) (omega arith);
+}
+  where
+    one : (b : Bool) → (b || false) ≡ true → b ≡ true
+    one true h = refl
+    one false h = h
+
+    none : (b : ℕ) → move_count b (t ∷ []) ≡ 0
+    none b = rw (ap (moves_into b) is) refl

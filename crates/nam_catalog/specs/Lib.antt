@@ -1,3 +1,4 @@
 pub mod Greatest
 pub mod Tables
 pub mod Words
+pub mod Limits

@@ -5,6 +5,7 @@
 
 mod fault;
 mod form;
+mod laws;
 mod name;
 mod shape;
 #[cfg(test)]
@@ -12,5 +13,6 @@ mod tests;
 
 pub use fault::ShapeFault;
 pub use form::{Form, greatest};
+pub use laws::fits_law;
 pub use name::TableName;
 pub use shape::{Shape, Table, name_at};

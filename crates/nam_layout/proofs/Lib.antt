@@ -1,0 +1,5 @@
+pub mod TestLemmas
+pub mod NumberLemmas
+pub mod RowLemmas
+pub mod FieldAtLemmas
+pub mod AddressLemmas

@@ -1,0 +1,9 @@
+use Rattle.nam_layout.proofs.AddressLemmas.{found_there}
+use Rattle.nam_layout.proofs.FieldAtLemmas.{stands_there}
+use Rattle.nam_layout.proofs.laws.address_law.Goals as goal
+
+pub returns-clause-field : goal.returns-clause-field
+returns-clause-field c = found_there
+
+pub returns-clause-address : goal.returns-clause-address
+returns-clause-address c = λ shape at within. let there = stands_there shape at within in (there.field, there.address_is)

@@ -1,0 +1,4 @@
+pub mod Rows
+pub mod Address
+pub mod FieldAt
+pub mod AddressLaw

@@ -1,0 +1,10 @@
+//! Where each word of a store stands.
+//!
+//! A `Layout` is made of a shape. It gives the address of each field and, by `field_of`, the field of each address.
+#![tactic(auto)]
+
+mod field;
+mod laws;
+
+pub use field::{Cells, Field, Place};
+pub use laws::address_law;

@@ -1,3 +1,5 @@
 pub mod Greatest
 pub mod Tables
 pub mod Words
+pub mod Limits
+pub mod Fits

@@ -3,12 +3,16 @@
 //! So far the crate has the types, the greatest commit number of each form, and the name of a table by its number.
 #![tactic(auto)]
 
+mod fault;
 mod form;
+mod laws;
 mod name;
 mod shape;
 #[cfg(test)]
 mod tests;
 
+pub use fault::ShapeFault;
 pub use form::{Form, greatest};
+pub use laws::fits_law;
 pub use name::TableName;
 pub use shape::{Shape, Table, name_at};

@@ -1,5 +1,6 @@
 pub mod TestLemmas
 pub mod NumberLemmas
 pub mod RowLemmas
+pub mod PositionLemmas
 pub mod FieldAtLemmas
 pub mod AddressLemmas

@@ -7,4 +7,4 @@ mod field;
 mod laws;
 
 pub use field::{Cells, Field, Place};
-pub use laws::address_law;
+pub use laws::{address_law, place_law, row_law};

@@ -1,6 +1,5 @@
 -- a field's address is below the number of words, and the field stands there
-use Rattle.std.proofs.Common.{◌≡◌, ◌≢◌, ℕ, suc, ◌+◌, ◌-◌, ◌*◌, ◌/◌, ◌%◌, ◌<◌, ◌≤◌, refl, sym, ◌∙◌, ap, subst, arith}
-use Rattle.std.specs.Prelude.{nat_lt, ◌==◌, if◌then◌else◌}
+use Rattle.std.proofs.Common.{◌≡◌, ◌≢◌, ℕ, ◌+◌, ◌-◌, ◌*◌, ◌/◌, ◌%◌, ◌<◌, ◌≤◌, refl, ◌∙◌, ap, arith}
 use Rattle.std.proofs.lemmas.Nat.{div-mul-add, mod-mul-add}
 use Rattle.nam_catalog.specs.declared.shape.Shape.{Shape}
 use Rattle.nam_catalog.specs.Words.{slot_words, position_words, tables_words, cell_words, intent_words, words_of}
@@ -8,10 +7,10 @@ use Rattle.nam_layout.specs.declared.field.Field.{Field}
 use Rattle.nam_layout.specs.declared.field.Field.TheVariants.{Entry, Horizon, Key, Header, Count, Word, SlotHeader, SlotEnd, SlotWord, Tag, Owner, Begin, End, CellWord, Intent}
 use Rattle.nam_layout.specs.Rows.{width_at, ring_at, row_at}
 use Rattle.nam_layout.specs.Address.{IsField, IsWorker, IsRow, IsSlot, IsCell, tables_at, cells_at, intents_at, position_at, slot_at, cell_at, address}
-use Rattle.nam_layout.specs.FieldAt.{row_in, rest_in, field_in_slot, field_in_position, field_in_tables, field_in_cell, field_in_cells, field_in_intents, field_at}
-use Rattle.nam_layout.proofs.TestLemmas.{if_less, if_not_less, if_same, if_other}
+use Rattle.nam_layout.specs.FieldAt.{rest_in, field_in_slot, field_in_position, field_in_tables, field_in_cell, field_in_cells, field_in_intents, field_at}
+use Rattle.nam_layout.proofs.TestLemmas.{if_less, if_not_less, if_other}
 use Rattle.nam_layout.proofs.NumberLemmas.{place_within}
-use Rattle.nam_layout.proofs.RowLemmas.{Stands, row_stands}
+use Rattle.nam_layout.proofs.RowLemmas.{row_stands}
 
 -- the choices among the words of a slot
 slot_header : (row slot : ℕ) → field_in_slot row slot 0 ≡ SlotHeader row slot
@@ -71,7 +70,7 @@ module _ (shape : Shape) where
   in_horizon : (at : ℕ) → shape.workers ≤ at → at < tables_at shape → field_at shape at ≡ Horizon (at - shape.workers + 1)
   in_horizon at least less = if_not_less _ _ _ _ least ∙ if_less _ _ _ _ less
 
-  in_tables : (at : ℕ) → tables_at shape ≤ at → at < cells_at shape → field_at shape at ≡ field_in_tables shape.tables (at - tables_at shape)
+  pub in_tables : (at : ℕ) → tables_at shape ≤ at → at < cells_at shape → field_at shape at ≡ field_in_tables shape.tables (at - tables_at shape)
   in_tables at least less =
       let past : shape.workers ≤ at = omega arith in
       if_not_less _ _ _ _ past ∙ if_not_less _ _ _ _ least ∙ if_less _ _ _ _ less

@@ -1,17 +1,15 @@
 -- the field at an address is a field, and stands there
-use Rattle.std.proofs.Common.{◌≡◌, ℕ, ◌+◌, ◌-◌, ◌*◌, ◌/◌, ◌%◌, ◌<◌, ◌≤◌, refl, sym, ◌∙◌, ap, subst, arith}
-use Rattle.std.specs.Prelude.{nat_lt, ◌==◌, if◌then◌else◌}
+use Rattle.std.proofs.Common.{◌≡◌, ℕ, ◌+◌, ◌-◌, ◌*◌, ◌/◌, ◌%◌, ◌<◌, ◌≤◌, ◌∙◌, ap, subst, arith}
 use Rattle.std.proofs.lemmas.Nat.{div-add-mod', div_below, mod_below}
 use Rattle.nam_catalog.specs.declared.shape.Shape.{Shape}
 use Rattle.nam_catalog.specs.Words.{slot_words, position_words, tables_words, cell_words, intent_words, words_of}
 use Rattle.nam_layout.specs.declared.field.Field.{Field}
-use Rattle.nam_layout.specs.declared.field.Field.TheVariants.{Entry, Horizon, Key, Header, Count, Word, SlotHeader, SlotEnd, SlotWord, Tag, Owner, Begin, End, CellWord, Intent}
-use Rattle.nam_layout.specs.Rows.{width_at, ring_at, row_at}
+use Rattle.nam_layout.specs.Rows.{width_at, ring_at}
 use Rattle.nam_layout.specs.Address.{IsField, IsRow, IsSlot, IsCell, tables_at, cells_at, intents_at, position_at, slot_at, cell_at, address}
 use Rattle.nam_layout.specs.FieldAt.{row_in, rest_in, field_in_slot, field_in_position, field_in_tables, field_in_cell, field_in_cells, field_in_intents, field_at}
 use Rattle.nam_layout.proofs.TestLemmas.{by_less, by_equal}
 use Rattle.nam_layout.proofs.NumberLemmas.{some_length}
-use Rattle.nam_layout.proofs.RowLemmas.{Stands, offset_stands}
+use Rattle.nam_layout.proofs.RowLemmas.{offset_stands}
 
 module _ (shape : Shape) where
   -- a field of the shape, and where it stands

@@ -4,3 +4,5 @@ pub mod RowLemmas
 pub mod PositionLemmas
 pub mod FieldAtLemmas
 pub mod AddressLemmas
+pub mod ExtentLemmas
+pub mod LayoutLemmas

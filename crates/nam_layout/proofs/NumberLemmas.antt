@@ -1,5 +1,5 @@
 -- places in rows of one length
-use Rattle.std.proofs.Common.{◌≡◌, ℕ, zero, suc, ◌+◌, ◌*◌, ◌<◌, ◌≤◌, arith}
+use Rattle.std.proofs.Common.{ℕ, zero, suc, ◌+◌, ◌*◌, ◌<◌, ◌≤◌, arith}
 use Rattle.std.proofs.lemmas.Nat.{mul-add-lt}
 
 pub place_within : (row length place rows : ℕ) → row < rows → place < length → row * length + place < rows * length

@@ -1,5 +1,5 @@
 -- rows, and the positions of tables
-use Rattle.std.proofs.Common.{◌≡◌, ℕ, zero, suc, ◌+◌, ◌-◌, ◌<◌, ◌≤◌, inl, inr, List, [], ◌∷◌, length, refl, sym, ◌∙◌, ap, subst, arith}
+use Rattle.std.proofs.Common.{◌≡◌, ℕ, zero, suc, ◌+◌, ◌-◌, ◌<◌, ◌≤◌, inl, inr, List, [], ◌∷◌, refl, sym, ◌∙◌, ap, subst, arith}
 use Rattle.std.proofs.lemmas.Bool.{cases_lt}
 use Rattle.nam_catalog.specs.declared.shape.Table.{Table}
 use Rattle.nam_layout.specs.Rows.{rows_in, row_of, table_of, position_of, width_at, ring_at}
@@ -51,10 +51,10 @@ named tables table position row is =
 pub row_is_position : (tables : List Table) (row : ℕ) → row < rows_in tables → IsRowOf tables (table_of tables row) (position_of tables row) row
 row_is_position [] row within = absurd (omega arith)
 row_is_position (t ∷ ts) row within = elim (cases_lt row t.capacity) [
-    inl here ↦ named (t ∷ ts) 0 row row (first_row t ts row here)
+  | inl here ↦ named (t ∷ ts) 0 row row (first_row t ts row here)
   | inr past ↦
       let before = row - t.capacity in
       let same : t.capacity + before ≡ row = omega arith in
       let is = later_row t ts _ _ before (row_is_position ts before (omega arith)) in
       named (t ∷ ts) (suc (table_of ts before)) (position_of ts before) row (subst (λ r. IsRowOf (t ∷ ts) (suc (table_of ts before)) (position_of ts before) r) same is)
-  ]
+]

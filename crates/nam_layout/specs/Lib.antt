@@ -5,3 +5,5 @@ pub mod FieldAt
 pub mod AddressLaw
 pub mod Place
 pub mod PlaceLaw
+pub mod Extent
+pub mod Laid

@@ -1,0 +1,30 @@
+use Rattle.std.proofs.Common.{◌∙◌, ap, arith}
+use Rattle.nam_catalog.specs.declared.shape.Shape.{Shape}
+use Rattle.nam_layout.specs.RowLaw.{IsPosition}
+use Rattle.nam_layout.specs.Place.{place_of}
+use Rattle.nam_layout.proofs.LayoutLemmas.{length_is, place_is, place_fits}
+use Rattle.nam_layout.proofs.layout.Layout.place.Goals as goal
+
+pub at-requires : goal.at-requires
+at-requires c =
+    let is : IsPosition c.self.inside.shape.tables c.args.table c.args.position = rw (← c.self.view_is) at c.requires in
+    let less = is.0 in
+    let all = length_is _ _ _ _ _ c.self.invariant in
+    (omega arith, omega arith)
+
+pub place_in-requires-clause-row : goal.place_in-requires-clause-row
+place_in-requires-clause-row c =
+    let is : IsPosition c.self.inside.shape.tables c.args.table c.args.position = rw (← c.self.view_is) at c.requires in
+    (place_fits _ _ _ _ _ c.self.invariant c.args.table c.args.position c.at.result.now is c.at.ensures).0
+
+pub place_in-requires-clause-address : goal.place_in-requires-clause-address
+place_in-requires-clause-address c =
+    let is : IsPosition c.self.inside.shape.tables c.args.table c.args.position = rw (← c.self.view_is) at c.requires in
+    (place_fits _ _ _ _ _ c.self.invariant c.args.table c.args.position c.at.result.now is c.at.ensures).1
+
+pub returns : goal.returns
+returns c =
+    let is : IsPosition c.self.inside.shape.tables c.args.table c.args.position = rw (← c.self.view_is) at c.requires in
+    c.place_in.ensures
+    ∙ place_is _ _ _ _ _ c.self.invariant c.args.table c.args.position c.at.result.now is c.at.ensures
+    ∙ ap (λ (shape : Shape). place_of shape c.args.table c.args.position) c.self.view_is

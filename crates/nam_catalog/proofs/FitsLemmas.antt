@@ -12,33 +12,27 @@ use Rattle.nam_catalog.specs.declared.shape.Table.{Table}
 use Rattle.nam_catalog.specs.declared.shape.Shape.{Shape}
 use Rattle.nam_catalog.specs.Greatest.{greatest_number}
 use Rattle.nam_catalog.specs.Words.{words_of}
-use Rattle.nam_catalog.specs.Limits.{◌or_else◌, fault_if, is_outside, first_table, first_twice_named, fault_of}
+use Rattle.nam_catalog.specs.Limits.{◌or_else◌, fault_if, is_outside, first_table, first_twice_named, limit_fault_of, fault_of}
 use Rattle.nam_catalog.specs.Fits.{FitsTable, FitsLimits}
 use Rattle.nam_catalog.proofs.NameLemmas.{found_from, none_twice}
 
--- where a fault is last
-last_none : (bad : Bool) (fault : ShapeFault) → fault_if bad fault ≡ None → bad ≡ false
-last_none false fault none = refl
-last_none true fault none = absurd (none-some fault (sym none))
+-- where the faults before a fault are none, and it is none itself
+none_before : (before : Option ShapeFault) (bad : Bool) (fault : ShapeFault) → before or_else fault_if bad fault ≡ None → (before ≡ None) × (bad ≡ false)
+none_before None false fault none = (refl, refl)
+none_before None true fault none = absurd (none-some fault (sym none))
+none_before (Some first) bad fault none = absurd (none-some first (sym none))
 
-is_none : (bad : Bool) (fault : ShapeFault) → bad ≡ false → fault_if bad fault ≡ None
-is_none bad fault good = rw good refl
+still_none : (before : Option ShapeFault) (bad : Bool) (fault : ShapeFault) → before ≡ None → bad ≡ false → before or_else fault_if bad fault ≡ None
+still_none before bad fault none good = rw (none, good) refl
 
--- where a fault comes before others
-before_none : (bad : Bool) (fault : ShapeFault) (rest : Option ShapeFault) → fault_if bad fault or_else rest ≡ None → (bad ≡ false) × (rest ≡ None)
-before_none false fault rest none = (refl, none)
-before_none true fault rest none = absurd (none-some fault (sym none))
+-- the same for the fault of a table
+none_before_table : (before : Option ShapeFault) (fault_at : ℕ → ShapeFault) (table : Option ℕ) → before or_else option_map fault_at table ≡ None → (before ≡ None) × (table ≡ None)
+none_before_table None fault_at None none = (refl, refl)
+none_before_table None fault_at (Some k) none = absurd (none-some (fault_at k) (sym none))
+none_before_table (Some first) fault_at table none = absurd (none-some first (sym none))
 
-then_none : (bad : Bool) (fault : ShapeFault) (rest : Option ShapeFault) → bad ≡ false → rest ≡ None → fault_if bad fault or_else rest ≡ None
-then_none bad fault rest good none = rw good none
-
--- where the fault of a table comes before others
-table_before_none : (fault_at : ℕ → ShapeFault) (table : Option ℕ) (rest : Option ShapeFault) → option_map fault_at table or_else rest ≡ None → (table ≡ None) × (rest ≡ None)
-table_before_none fault_at None rest none = (refl, none)
-table_before_none fault_at (Some k) rest none = absurd (none-some (fault_at k) (sym none))
-
-table_then_none : (fault_at : ℕ → ShapeFault) (table : Option ℕ) (rest : Option ShapeFault) → table ≡ None → rest ≡ None → option_map fault_at table or_else rest ≡ None
-table_then_none fault_at table rest good none = rw good none
+still_none_at_table : (before : Option ShapeFault) (fault_at : ℕ → ShapeFault) (table : Option ℕ) → before ≡ None → table ≡ None → before or_else option_map fault_at table ≡ None
+still_none_at_table before fault_at table none good = rw (none, good) refl
 
 within : (greatest n : ℕ) → is_outside greatest n ≡ false → (1 ≤ n) × (n ≤ greatest)
 within greatest n inside = (grind (arith, nat_tests), grind (arith, nat_tests))
@@ -77,50 +71,71 @@ table_fits ts widths capacities rings = λ k d here.
       most_ring = ring.1;
     }
 
+-- what holds of a shape that has no fault but for the words of the whole
+pub record IsWithin (shape : Shape) : Type 0 where
+  pub workers : shape.workers ≤ 16
+  pub tables : All FitsTable shape.tables
+  pub buckets : shape.buckets ≤ 256
+  pub cells : shape.cells ≤ 64
+  pub fits : words_of shape ≤ 4194304 → FitsLimits shape
+
+pub is_within : (shape : Shape) → limit_fault_of shape ≡ None → IsWithin shape
+is_within shape none =
+    let ts = shape.tables in
+    let names = none_before_table _ TwiceNamed (first_twice_named [] 0 ts) none in
+    let start = none_before _ (nat_lt (greatest_number shape.form) shape.start) BadStart names.0 in
+    let cells = none_before _ (is_outside 64 shape.cells) BadCells start.0 in
+    let buckets = none_before _ (is_outside 256 shape.buckets) BadBuckets cells.0 in
+    let rings = none_before_table _ BadRing (first_table (λ t. is_outside 16 t.ring) ts) buckets.0 in
+    let capacities = none_before_table _ BadCapacity (first_table (λ t. is_outside 4096 t.capacity) ts) rings.0 in
+    let widths = none_before_table _ BadWidth (first_table (λ t. is_outside 8 t.width) ts) capacities.0 in
+    let some_table = none_before _ (length ts == 0) NoTables widths.0 in
+    let workers = none_before (fault_if (shape.workers == 0) NoWorkers) (nat_lt 16 shape.workers) TooManyWorkers some_table.0 in
+    let some_worker = none_before None (shape.workers == 0) NoWorkers workers.0 in
+    let most_workers = ltb-false 16 shape.workers workers.1 in
+    let tables = table_fits ts (none_fails (λ t. is_outside 8 t.width) ts 0 widths.1) (none_fails (λ t. is_outside 4096 t.capacity) ts 0 capacities.1) (none_fails (λ t. is_outside 16 t.ring) ts 0 rings.1) in
+    let bucket = within 256 shape.buckets buckets.1 in
+    let cell = within 64 shape.cells cells.1 in
+    let found = found_from [] 0 ts refl names.1 in
+    record {
+      workers = most_workers;
+      tables = tables;
+      buckets = bucket.1;
+      cells = cell.1;
+      fits = λ words. record {
+        least_workers = omega (arith, eqb-false shape.workers 0 some_worker.1);
+        most_workers = most_workers;
+        least_tables = omega (arith, eqb-false (length ts) 0 some_table.1);
+        tables = tables;
+        least_buckets = bucket.0;
+        most_buckets = bucket.1;
+        least_cells = cell.0;
+        most_cells = cell.1;
+        start = ltb-false (greatest_number shape.form) shape.start start.1;
+        names = λ k here. found k (omega arith) here;
+        words = words;
+      };
+    }
+
 pub fits_limits : (shape : Shape) → fault_of shape ≡ None → FitsLimits shape
 fits_limits shape none =
-    let ts = shape.tables in
-    let workers = before_none (shape.workers == 0) NoWorkers _ none in
-    let most_workers = before_none (nat_lt 16 shape.workers) TooManyWorkers _ workers.1 in
-    let tables = before_none (length ts == 0) NoTables _ most_workers.1 in
-    let widths = table_before_none BadWidth (first_table (λ t. is_outside 8 t.width) ts) _ tables.1 in
-    let capacities = table_before_none BadCapacity (first_table (λ t. is_outside 4096 t.capacity) ts) _ widths.1 in
-    let rings = table_before_none BadRing (first_table (λ t. is_outside 16 t.ring) ts) _ capacities.1 in
-    let buckets = before_none (is_outside 256 shape.buckets) BadBuckets _ rings.1 in
-    let cells = before_none (is_outside 64 shape.cells) BadCells _ buckets.1 in
-    let start = before_none (nat_lt (greatest_number shape.form) shape.start) BadStart _ cells.1 in
-    let names = table_before_none TwiceNamed (first_twice_named [] 0 ts) _ start.1 in
-    let words = last_none (nat_lt 4194304 (words_of shape)) TooManyWords names.1 in
-    let bucket = within 256 shape.buckets buckets.0 in
-    let cell = within 64 shape.cells cells.0 in
-    let found = found_from [] 0 ts refl names.0 in
-    record {
-      least_workers = omega (arith, eqb-false shape.workers 0 workers.0);
-      most_workers = ltb-false 16 shape.workers most_workers.0;
-      least_tables = omega (arith, eqb-false (length ts) 0 tables.0);
-      tables = table_fits ts (none_fails (λ t. is_outside 8 t.width) ts 0 widths.0) (none_fails (λ t. is_outside 4096 t.capacity) ts 0 capacities.0) (none_fails (λ t. is_outside 16 t.ring) ts 0 rings.0);
-      least_buckets = bucket.0;
-      most_buckets = bucket.1;
-      least_cells = cell.0;
-      most_cells = cell.1;
-      start = ltb-false (greatest_number shape.form) shape.start start.0;
-      names = λ k here. found k (omega arith) here;
-      words = ltb-false 4194304 (words_of shape) words;
-    }
+    let words = none_before (limit_fault_of shape) (nat_lt 4194304 (words_of shape)) TooManyWords none in
+    let is = is_within shape words.0 in
+    is.fits (ltb-false 4194304 (words_of shape) words.1)
 
 pub has_no_fault : (shape : Shape) → FitsLimits shape → fault_of shape ≡ None
 has_no_fault shape fits =
     let ts = shape.tables in
     let passes : (fails : Table → Bool) → ((t : Table) → FitsTable t → fails t ≡ false) → first_table fails ts ≡ None =
     λ fails good. all_pass fails ts 0 (All-weaker FitsTable (λ t. fails t ≡ false) good ts fits.tables) in
-    then_none (shape.workers == 0) NoWorkers _ (ne_eqb shape.workers 0 (λ e. omega (arith, fits.least_workers)))
-    (then_none (nat_lt 16 shape.workers) TooManyWorkers _ (le-ltb 16 shape.workers fits.most_workers)
-    (then_none (length ts == 0) NoTables _ (ne_eqb (length ts) 0 (λ e. omega (arith, fits.least_tables)))
-    (table_then_none BadWidth (first_table (λ t. is_outside 8 t.width) ts) _ (passes (λ t. is_outside 8 t.width) (λ t is. inside 8 t.width is.least_width is.most_width))
-    (table_then_none BadCapacity (first_table (λ t. is_outside 4096 t.capacity) ts) _ (passes (λ t. is_outside 4096 t.capacity) (λ t is. inside 4096 t.capacity is.least_capacity is.most_capacity))
-    (table_then_none BadRing (first_table (λ t. is_outside 16 t.ring) ts) _ (passes (λ t. is_outside 16 t.ring) (λ t is. inside 16 t.ring is.least_ring is.most_ring))
-    (then_none (is_outside 256 shape.buckets) BadBuckets _ (inside 256 shape.buckets fits.least_buckets fits.most_buckets)
-    (then_none (is_outside 64 shape.cells) BadCells _ (inside 64 shape.cells fits.least_cells fits.most_cells)
-    (then_none (nat_lt (greatest_number shape.form) shape.start) BadStart _ (le-ltb (greatest_number shape.form) shape.start fits.start)
-    (table_then_none TwiceNamed (first_twice_named [] 0 ts) _ (none_twice [] 0 ts refl (λ k from here. fits.names k here))
-    (is_none (nat_lt 4194304 (words_of shape)) TooManyWords (le-ltb 4194304 (words_of shape) fits.words)))))))))))
+    let some_worker = still_none None (shape.workers == 0) NoWorkers refl (ne_eqb shape.workers 0 (λ e. omega (arith, fits.least_workers))) in
+    let workers = still_none _ (nat_lt 16 shape.workers) TooManyWorkers some_worker (le-ltb 16 shape.workers fits.most_workers) in
+    let some_table = still_none _ (length ts == 0) NoTables workers (ne_eqb (length ts) 0 (λ e. omega (arith, fits.least_tables))) in
+    let widths = still_none_at_table _ BadWidth (first_table (λ t. is_outside 8 t.width) ts) some_table (passes (λ t. is_outside 8 t.width) (λ t is. inside 8 t.width is.least_width is.most_width)) in
+    let capacities = still_none_at_table _ BadCapacity (first_table (λ t. is_outside 4096 t.capacity) ts) widths (passes (λ t. is_outside 4096 t.capacity) (λ t is. inside 4096 t.capacity is.least_capacity is.most_capacity)) in
+    let rings = still_none_at_table _ BadRing (first_table (λ t. is_outside 16 t.ring) ts) capacities (passes (λ t. is_outside 16 t.ring) (λ t is. inside 16 t.ring is.least_ring is.most_ring)) in
+    let buckets = still_none _ (is_outside 256 shape.buckets) BadBuckets rings (inside 256 shape.buckets fits.least_buckets fits.most_buckets) in
+    let cells = still_none _ (is_outside 64 shape.cells) BadCells buckets (inside 64 shape.cells fits.least_cells fits.most_cells) in
+    let start = still_none _ (nat_lt (greatest_number shape.form) shape.start) BadStart cells (le-ltb (greatest_number shape.form) shape.start fits.start) in
+    let names = still_none_at_table _ TwiceNamed (first_twice_named [] 0 ts) start (none_twice [] 0 ts refl (λ k from here. fits.names k here)) in
+    still_none _ (nat_lt 4194304 (words_of shape)) TooManyWords names (le-ltb 4194304 (words_of shape) fits.words)

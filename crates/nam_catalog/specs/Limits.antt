@@ -11,7 +11,7 @@ use Rattle.nam_catalog.specs.Tables.{first_named}
 use Rattle.nam_catalog.specs.Words.{words_of}
 
 -- the first of two faults, of which the left one is tried first
-infixr 20 ◌or_else◌
+infixl 20 ◌or_else◌
 abbrev pub ◌or_else◌ : Option ShapeFault → Option ShapeFault → Option ShapeFault
 a or_else b = option_or a b
 
@@ -32,9 +32,9 @@ abbrev pub first_twice_named : List Table → ℕ → List Table → Option ℕ
 first_twice_named before place [] = None
 first_twice_named before place (t ∷ ts) = if is_some (first_named t.name before) then Some place else first_twice_named (before ++ t ∷ []) (place + 1) ts
 
--- the first fault of a shape, where each fault is tried at all tables before the next fault
-abbrev pub fault_of : Shape → Option ShapeFault
-fault_of shape =
+-- the first fault but for the words of the whole, where each fault is tried at all tables before the next fault
+abbrev pub limit_fault_of : Shape → Option ShapeFault
+limit_fault_of shape =
     fault_if (shape.workers == 0) NoWorkers
     or_else fault_if (nat_lt 16 shape.workers) TooManyWorkers
     or_else fault_if (length shape.tables == 0) NoTables
@@ -45,4 +45,9 @@ fault_of shape =
     or_else fault_if (is_outside 64 shape.cells) BadCells
     or_else fault_if (nat_lt (greatest_number shape.form) shape.start) BadStart
     or_else option_map TwiceNamed (first_twice_named [] 0 shape.tables)
+
+-- the first fault of a shape
+abbrev pub fault_of : Shape → Option ShapeFault
+fault_of shape =
+    limit_fault_of shape
     or_else fault_if (nat_lt 4194304 (words_of shape)) TooManyWords

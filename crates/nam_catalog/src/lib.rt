@@ -6,13 +6,18 @@
 mod fault;
 mod form;
 mod laws;
+mod limits;
 mod name;
+mod names;
 mod shape;
 #[cfg(test)]
 mod tests;
+mod words;
 
 pub use fault::ShapeFault;
 pub use form::{Form, greatest};
 pub use laws::fits_law;
+pub use limits::check;
 pub use name::TableName;
+pub use names::table_named;
 pub use shape::{Shape, Table, name_at};

@@ -1,0 +1,64 @@
+//! How many words a shape takes.
+
+ghost use Rattle.std.specs.Prelude.{◌≡◌, ◌≤◌, length, All};
+ghost use Rattle.nam_catalog.specs.Words.{table_words, tables_words, intent_words, words_of};
+ghost use Rattle.nam_catalog.specs.Fits.{FitsTable};
+
+use crate::form::Form;
+use crate::shape::{Shape, Table};
+
+/// An overflow cell: tag, owner, begin, end, and room for the widest value.
+const CELL_WORDS: u64 = 12;
+
+/// The words of a shape whose numbers are within their limits.
+pub(crate) fn words(shape: &Shape) -> u64
+    requires workers { shape.now.workers ≤ 16 }
+    requires count { length shape.now.tables ≤ 8 }
+    requires tables { All FitsTable shape.now.tables }
+    requires buckets { shape.now.buckets ≤ 256 }
+    requires cells { shape.now.cells ≤ 64 }
+    ensures { result ≡ words_of shape.now }
+{
+    let workers = shape.workers as u64;
+    let cells = shape.buckets as u64 * shape.cells as u64;
+    2 * workers
+        + tables_words(shape.tables.as_slice())
+        + cells * CELL_WORDS
+        + workers * intent_words(shape.form)
+}
+
+fn tables_words(tables: &[Table]) -> u64
+    requires count { length tables.now ≤ 8 }
+    requires fit { All FitsTable tables.now }
+    ensures value { result ≡ tables_words tables.now }
+    ensures bound { result ≤ 5603328 }
+{
+    let mut words: u64 = 0;
+    for table in tables {
+        words += table_words(table);
+    }
+    words
+}
+
+/// A position has a key, a header, a count, the current value, and a slot for each old version, which is a header, an
+/// end and a value.
+fn table_words(table: &Table) -> u64
+    requires { FitsTable table.now }
+    ensures { result ≡ table_words table.now }
+{
+    let width = table.width as u64;
+    let slots = table.ring as u64 * (2 + width);
+    table.capacity as u64 * (3 + width + slots)
+}
+
+/// The words of a worker's intent, which only form Held has: its state, a commit number, and 11 words for each of 16
+/// records.
+fn intent_words(form: Form) -> u64
+    ensures value { result ≡ intent_words form }
+    ensures bound { result ≤ 178 }
+{
+    match form {
+        Form::Narrow | Form::Wide => 0,
+        Form::Held => 178,
+    }
+}

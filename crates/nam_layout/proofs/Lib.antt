@@ -4,5 +4,6 @@ pub mod RowLemmas
 pub mod PositionLemmas
 pub mod FieldAtLemmas
 pub mod AddressLemmas
+pub mod LimitLemmas
 pub mod ExtentLemmas
 pub mod LayoutLemmas

@@ -5,5 +5,6 @@ pub mod FieldAt
 pub mod AddressLaw
 pub mod Place
 pub mod PlaceLaw
+pub mod PlaceFits
 pub mod Extent
 pub mod Laid

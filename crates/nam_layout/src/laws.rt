@@ -3,6 +3,7 @@
 ghost use Rattle.nam_layout.specs.AddressLaw.{FieldLaw, AddressLaw};
 ghost use Rattle.nam_layout.specs.RowLaw.{PositionLaw, RowLaw};
 ghost use Rattle.nam_layout.specs.PlaceLaw.{PlaceLaw, CellsLaw, IntentLaw};
+ghost use Rattle.nam_layout.specs.PlaceFits.{PlaceFitsLaw, CellsFitLaw};
 
 /// The addresses of a shape's fields are distinct and fill 0 to the number of its words, less 1: each field has an
 /// address there, of which it is the field, and each address there has a field, of which it is the address.
@@ -22,4 +23,10 @@ pub fn place_law()
     ensures place { PlaceLaw }
     ensures cells { CellsLaw }
     ensures intent { IntentLaw }
+{}
+
+/// The places and cells of a shape within its limits have few words, each of which is a word of a store.
+pub fn limit_law()
+    ensures place { PlaceFitsLaw }
+    ensures cells { CellsFitLaw }
 {}

@@ -5,12 +5,13 @@ ghost use Rattle.nam_catalog.specs.declared.form.Form.TheVariants.{Held};
 ghost use Rattle.nam_catalog.specs.Tables.{capacities_of};
 ghost use Rattle.nam_catalog.specs.Words.{words_of, intent_words};
 ghost use Rattle.nam_catalog.specs.Limits.{fault_of};
+ghost use Rattle.nam_catalog.specs.Fits.{FitsLimits};
 ghost use Rattle.nam_layout.specs.declared.field.Field.TheVariants.{Entry, Horizon, Intent};
-ghost use Rattle.nam_layout.specs.Rows.{rows_in};
 ghost use Rattle.nam_layout.specs.RowLaw.{IsPosition};
 ghost use Rattle.nam_layout.specs.Address.{IsWorker, address};
 ghost use Rattle.nam_layout.specs.FieldAt.{field_at};
 ghost use Rattle.nam_layout.specs.Place.{place_of, cells_of, bucket_of};
+ghost use Rattle.nam_layout.specs.PlaceFits.{FitsPlace, FitsCells};
 
 use crate::extent::{Extent, Extents, field_in, lay_out, place_in};
 use crate::field::{Cells, Field, Place};
@@ -93,7 +94,8 @@ impl Layout {
 
     /// How many words the shape takes.
     pub fn total(&self) -> u64
-        ensures { result ≡ words_of self.now }
+        ensures value { result ≡ words_of self.now }
+        ensures fits { FitsLimits self.now }
     {
         self.total
     }
@@ -131,7 +133,8 @@ impl Layout {
     /// The place of a table's position.
     pub fn place(&self, table: u32, position: u32) -> Place
         requires { IsPosition self.now.tables table position }
-        ensures { result ≡ place_of self.now table position }
+        ensures value { result ≡ place_of self.now table position }
+        ensures fits { FitsPlace result }
     {
         place_in(self.extents.at(table as usize), position, self.shape.form)
     }
@@ -139,7 +142,8 @@ impl Layout {
     /// The cells of a bucket.
     pub fn cells(&self, bucket: u32) -> Cells
         requires { bucket < self.now.buckets }
-        ensures { result ≡ cells_of self.now bucket }
+        ensures value { result ≡ cells_of self.now bucket }
+        ensures fits { FitsCells result }
     {
         let cells = self.shape.cells;
         Cells {

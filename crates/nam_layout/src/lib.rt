@@ -10,5 +10,5 @@ mod layout;
 mod within;
 
 pub use field::{Cells, Field, Place};
-pub use laws::{address_law, place_law, row_law};
+pub use laws::{address_law, limit_law, place_law, row_law};
 pub use layout::Layout;

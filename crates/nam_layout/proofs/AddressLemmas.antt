@@ -1,5 +1,5 @@
 -- a field's address is below the number of words, and the field stands there
-use Rattle.std.proofs.Common.{◌≡◌, ◌≢◌, ℕ, ◌+◌, ◌-◌, ◌*◌, ◌/◌, ◌%◌, ◌<◌, ◌≤◌, refl, ◌∙◌, ap, arith}
+use Rattle.std.proofs.Common.{◌≡◌, ◌≢◌, ℕ, ◌+◌, ◌-◌, ◌*◌, ◌/◌, ◌%◌, ◌<◌, ◌≤◌, refl, sym, ◌∙◌, ap, arith}
 use Rattle.std.proofs.lemmas.Nat.{div-mul-add, mod-mul-add}
 use Rattle.nam_catalog.specs.declared.shape.Shape.{Shape}
 use Rattle.nam_catalog.specs.Words.{slot_words, position_words, tables_words, cell_words, intent_words, words_of}
@@ -175,3 +175,7 @@ module _ (shape : Shape) where
       let found = cell_found (cell_at shape bucket cell + 4 + nth) bucket cell (4 + nth) (omega arith) is.0 (omega arith) in
       (found.0, found.1 ∙ cell_word bucket cell nth)
   found_there (Intent worker nth) is = intent_found worker nth is.0 is.1
+
+  -- fields with one address are one
+  pub are_one : (f g : Field) → IsField shape f → IsField shape g → address shape f ≡ address shape g → f ≡ g
+  are_one f g is_f is_g same = sym (found_there f is_f).1 ∙ ap (field_at shape) same ∙ (found_there g is_g).1

@@ -25,7 +25,7 @@ pub record FitsRow (width ring : ℕ) : Type 0 where
 row_within : (tables : List Table) (row : ℕ) → All FitsTable tables → row < rows_in tables → FitsRow (width_at tables row) (ring_at tables row)
 row_within [] row fit within = absurd (omega arith)
 row_within (t ∷ ts) row fit within = elim (cases_lt row t.capacity) [
-    inl here ↦
+  | inl here ↦
       let head = All-head FitsTable t ts fit in
       let width : width_at (t ∷ ts) row ≡ t.width = if_less _ _ _ _ here in
       let ring : ring_at (t ∷ ts) row ≡ t.ring = if_less _ _ _ _ here in
@@ -37,7 +37,7 @@ row_within (t ∷ ts) row fit within = elim (cases_lt row t.capacity) [
       let ring : ring_at (t ∷ ts) row ≡ ring_at ts before = if_not_less _ _ _ _ past in
       subst (λ w. FitsRow w (ring_at (t ∷ ts) row)) (sym width) (subst (FitsRow (width_at ts before)) (sym ring)
       (row_within ts before (All-tail FitsTable t ts fit) (omega arith)))
-  ]
+]
 
 -- the place of a row is within its limits
 pub place_within_limits : (shape : Shape) (row : ℕ) → FitsLimits shape → IsRow shape row → FitsPlace (place_at shape row)
@@ -53,7 +53,11 @@ place_within_limits shape row fits is =
       most_width = small.most_width;
       least_ring = small.least_ring;
       most_ring = small.most_ring;
-      words = omega arith;
+      header_follows = refl;
+      count_follows = omega arith;
+      words_follow = omega arith;
+      ring_follows = omega arith;
+      last = omega arith;
     }
 
 -- the cells of a bucket are within their limits
@@ -64,5 +68,5 @@ cells_within_limits shape bucket fits less =
     record {
       least_cells = fits.least_cells;
       most_cells = fits.most_cells;
-      words = omega arith;
+      last = omega arith;
     }

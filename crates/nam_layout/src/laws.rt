@@ -1,6 +1,6 @@
 //! What addresses, fields, rows and places have to do with each other.
 
-ghost use Rattle.nam_layout.specs.AddressLaw.{FieldLaw, AddressLaw};
+ghost use Rattle.nam_layout.specs.AddressLaw.{FieldLaw, AddressLaw, DistinctLaw};
 ghost use Rattle.nam_layout.specs.RowLaw.{PositionLaw, RowLaw};
 ghost use Rattle.nam_layout.specs.PlaceLaw.{PlaceLaw, CellsLaw, IntentLaw};
 ghost use Rattle.nam_layout.specs.PlaceFits.{PlaceFitsLaw, CellsFitLaw};
@@ -10,6 +10,7 @@ ghost use Rattle.nam_layout.specs.PlaceFits.{PlaceFitsLaw, CellsFitLaw};
 pub fn address_law()
     ensures field { FieldLaw }
     ensures address { AddressLaw }
+    ensures distinct { DistinctLaw }
 {}
 
 /// Each position of a table is one row, and each row one position of a table, whose width and ring it has.

@@ -1,6 +1,6 @@
 //! Layouts.
 
-ghost use Rattle.std.specs.Prelude.{◌≡◌, ◌≤◌, ◌<◌, length, slice_index, None};
+ghost use Rattle.std.specs.Prelude.{◌≡◌, ◌+◌, ◌≤◌, ◌<◌, length, slice_index, None};
 ghost use Rattle.nam_catalog.specs.declared.form.Form.TheVariants.{Held};
 ghost use Rattle.nam_catalog.specs.Tables.{capacities_of};
 ghost use Rattle.nam_catalog.specs.Words.{words_of, intent_words};
@@ -166,7 +166,8 @@ impl Layout {
     pub fn intent_at(&self, worker: u32) -> u64
         requires form { self.now.form ≡ Held }
         requires worker { IsWorker self.now worker }
-        ensures { result ≡ address self.now (Intent worker 0) }
+        ensures value { result ≡ address self.now (Intent worker 0) }
+        ensures fits { result + 178 ≤ 4194304 }
     {
         self.intents_at + (worker as u64 - 1) * intent_words(self.shape.form)
     }

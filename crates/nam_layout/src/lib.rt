@@ -7,6 +7,8 @@ mod extent;
 mod field;
 mod laws;
 mod layout;
+#[cfg(test)]
+mod tests;
 mod within;
 
 pub use field::{Cells, Field, Place};

@@ -41,6 +41,7 @@ impl Model for Layout {
     ghost invariant = { λ a. IsLaidOut a.shape a.extents a.cells_at a.intents_at a.total };
 }
 
+/// An equal list, made without memory.
 fn copied(tables: &[Table]) -> ShortList<Table, 8>
     requires { length tables.now ≤ 8 }
     ensures { result ≡ tables.now }
@@ -92,7 +93,7 @@ impl Layout {
         }
     }
 
-    /// How many words the shape takes.
+    /// How many words the shape takes. The shape is within its limits.
     pub fn total(&self) -> u64
         ensures value { result ≡ words_of self.now }
         ensures fits { FitsLimits self.now }
@@ -100,6 +101,7 @@ impl Layout {
         self.total
     }
 
+    /// The form of the shape's headers.
     pub fn form(&self) -> Form
         ensures { result ≡ self.now.form }
     {
@@ -130,7 +132,7 @@ impl Layout {
         self.shape.workers as u64 + (worker as u64 - 1)
     }
 
-    /// The place of a table's position.
+    /// The place of a table's position, which is within the limits of places.
     pub fn place(&self, table: u32, position: u32) -> Place
         requires { IsPosition self.now.tables table position }
         ensures value { result ≡ place_of self.now table position }
@@ -139,7 +141,7 @@ impl Layout {
         place_in(self.extents.at(table as usize), position, self.shape.form)
     }
 
-    /// The cells of a bucket.
+    /// The cells of a bucket, which are within the limits of cells.
     pub fn cells(&self, bucket: u32) -> Cells
         requires { bucket < self.now.buckets }
         ensures value { result ≡ cells_of self.now bucket }

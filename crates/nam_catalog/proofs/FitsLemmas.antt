@@ -17,21 +17,25 @@ use Rattle.nam_catalog.specs.Fits.{FitsTable, FitsLimits}
 use Rattle.nam_catalog.proofs.NameLemmas.{found_from, none_twice}
 
 -- where the faults before a fault are none, and it is none itself
-none_before : (before : Option ShapeFault) (bad : Bool) (fault : ShapeFault) → before or_else fault_if bad fault ≡ None → (before ≡ None) × (bad ≡ false)
+none_before : (before : Option ShapeFault) (bad : Bool) (fault : ShapeFault) → before or_else fault_if bad fault ≡ None
+    → (before ≡ None) × (bad ≡ false)
 none_before None false fault none = (refl, refl)
 none_before None true fault none = absurd (none-some fault (sym none))
 none_before (Some first) bad fault none = absurd (none-some first (sym none))
 
-still_none : (before : Option ShapeFault) (bad : Bool) (fault : ShapeFault) → before ≡ None → bad ≡ false → before or_else fault_if bad fault ≡ None
+still_none : (before : Option ShapeFault) (bad : Bool) (fault : ShapeFault) → before ≡ None → bad ≡ false
+    → before or_else fault_if bad fault ≡ None
 still_none before bad fault none good = rw (none, good) refl
 
 -- the same for the fault of a table
-none_before_table : (before : Option ShapeFault) (fault_at : ℕ → ShapeFault) (table : Option ℕ) → before or_else option_map fault_at table ≡ None → (before ≡ None) × (table ≡ None)
+none_before_table : (before : Option ShapeFault) (fault_at : ℕ → ShapeFault) (table : Option ℕ)
+    → before or_else option_map fault_at table ≡ None → (before ≡ None) × (table ≡ None)
 none_before_table None fault_at None none = (refl, refl)
 none_before_table None fault_at (Some k) none = absurd (none-some (fault_at k) (sym none))
 none_before_table (Some first) fault_at table none = absurd (none-some first (sym none))
 
-still_none_at_table : (before : Option ShapeFault) (fault_at : ℕ → ShapeFault) (table : Option ℕ) → before ≡ None → table ≡ None → before or_else option_map fault_at table ≡ None
+still_none_at_table : (before : Option ShapeFault) (fault_at : ℕ → ShapeFault) (table : Option ℕ) → before ≡ None → table ≡ None
+    → before or_else option_map fault_at table ≡ None
 still_none_at_table before fault_at table none good = rw (none, good) refl
 
 within : (greatest n : ℕ) → is_outside greatest n ≡ false → (1 ≤ n) × (n ≤ greatest)
@@ -44,7 +48,8 @@ inside greatest n least most = grind (arith, nat_tests)
 none_fails : (fails : Table → Bool) (ts : List Table) (i : ℕ) → position_from fails i ts ≡ None → All (λ t. fails t ≡ false) ts
 none_fails fails [] i none = All-nil (λ t. fails t ≡ false)
 none_fails fails (t ∷ ts) i none =
-    let Claim : Bool → Type 0 = λ b. cond b (Some i) (position_from fails (i + 1) ts) ≡ None → (b ≡ false) × All (λ t. fails t ≡ false) ts in
+    let Claim : Bool → Type 0 = λ b.
+    cond b (Some i) (position_from fails (i + 1) ts) ≡ None → (b ≡ false) × All (λ t. fails t ≡ false) ts in
     let either : (b : Bool) → Claim b = elim [
       | true ↦ λ none. absurd (none-some i (sym none))
       | false ↦ λ none. (refl, none_fails fails ts (i + 1) none)
@@ -54,10 +59,22 @@ none_fails fails (t ∷ ts) i none =
 
 all_pass : (fails : Table → Bool) (ts : List Table) (i : ℕ) → All (λ t. fails t ≡ false) ts → position_from fails i ts ≡ None
 all_pass fails [] i good = refl
-all_pass fails (t ∷ ts) i good = rw (All-head (λ t. fails t ≡ false) t ts good) (all_pass fails ts (i + 1) (All-tail (λ t. fails t ≡ false) t ts good))
+all_pass fails (t ∷ ts) i good =
+    rw (All-head (λ t. fails t ≡ false) t ts good) (all_pass fails ts (i + 1) (All-tail (λ t. fails t ≡ false) t ts good))
+
+-- the tests of a table's numbers
+abbrev width_fails : Table → Bool
+width_fails t = is_outside 8 t.width
+
+abbrev capacity_fails : Table → Bool
+capacity_fails t = is_outside 4096 t.capacity
+
+abbrev ring_fails : Table → Bool
+ring_fails t = is_outside 16 t.ring
 
 -- a table whose three numbers are within their limits fits
-table_fits : (ts : List Table) → All (λ t. is_outside 8 t.width ≡ false) ts → All (λ t. is_outside 4096 t.capacity ≡ false) ts → All (λ t. is_outside 16 t.ring ≡ false) ts → All FitsTable ts
+table_fits : (ts : List Table) → All (λ t. width_fails t ≡ false) ts → All (λ t. capacity_fails t ≡ false) ts
+    → All (λ t. ring_fails t ≡ false) ts → All FitsTable ts
 table_fits ts widths capacities rings = λ k d here.
     let width = within 8 _ (widths k d here) in
     let capacity = within 4096 _ (capacities k d here) in
@@ -86,14 +103,15 @@ is_within shape none =
     let start = none_before _ (nat_lt (greatest_number shape.form) shape.start) BadStart names.0 in
     let cells = none_before _ (is_outside 64 shape.cells) BadCells start.0 in
     let buckets = none_before _ (is_outside 256 shape.buckets) BadBuckets cells.0 in
-    let rings = none_before_table _ BadRing (first_table (λ t. is_outside 16 t.ring) ts) buckets.0 in
-    let capacities = none_before_table _ BadCapacity (first_table (λ t. is_outside 4096 t.capacity) ts) rings.0 in
-    let widths = none_before_table _ BadWidth (first_table (λ t. is_outside 8 t.width) ts) capacities.0 in
+    let rings = none_before_table _ BadRing (first_table ring_fails ts) buckets.0 in
+    let capacities = none_before_table _ BadCapacity (first_table capacity_fails ts) rings.0 in
+    let widths = none_before_table _ BadWidth (first_table width_fails ts) capacities.0 in
     let some_table = none_before _ (length ts == 0) NoTables widths.0 in
     let workers = none_before (fault_if (shape.workers == 0) NoWorkers) (nat_lt 16 shape.workers) TooManyWorkers some_table.0 in
     let some_worker = none_before None (shape.workers == 0) NoWorkers workers.0 in
     let most_workers = ltb-false 16 shape.workers workers.1 in
-    let tables = table_fits ts (none_fails (λ t. is_outside 8 t.width) ts 0 widths.1) (none_fails (λ t. is_outside 4096 t.capacity) ts 0 capacities.1) (none_fails (λ t. is_outside 16 t.ring) ts 0 rings.1) in
+    let tables = table_fits ts (none_fails width_fails ts 0 widths.1)
+    (none_fails capacity_fails ts 0 capacities.1) (none_fails ring_fails ts 0 rings.1) in
     let bucket = within 256 shape.buckets buckets.1 in
     let cell = within 64 shape.cells cells.1 in
     let found = found_from [] 0 ts refl names.1 in
@@ -131,11 +149,15 @@ has_no_fault shape fits =
     let some_worker = still_none None (shape.workers == 0) NoWorkers refl (ne_eqb shape.workers 0 (λ e. omega (arith, fits.least_workers))) in
     let workers = still_none _ (nat_lt 16 shape.workers) TooManyWorkers some_worker (le-ltb 16 shape.workers fits.most_workers) in
     let some_table = still_none _ (length ts == 0) NoTables workers (ne_eqb (length ts) 0 (λ e. omega (arith, fits.least_tables))) in
-    let widths = still_none_at_table _ BadWidth (first_table (λ t. is_outside 8 t.width) ts) some_table (passes (λ t. is_outside 8 t.width) (λ t is. inside 8 t.width is.least_width is.most_width)) in
-    let capacities = still_none_at_table _ BadCapacity (first_table (λ t. is_outside 4096 t.capacity) ts) widths (passes (λ t. is_outside 4096 t.capacity) (λ t is. inside 4096 t.capacity is.least_capacity is.most_capacity)) in
-    let rings = still_none_at_table _ BadRing (first_table (λ t. is_outside 16 t.ring) ts) capacities (passes (λ t. is_outside 16 t.ring) (λ t is. inside 16 t.ring is.least_ring is.most_ring)) in
+    let widths = still_none_at_table _ BadWidth (first_table width_fails ts) some_table
+    (passes width_fails (λ t is. inside 8 t.width is.least_width is.most_width)) in
+    let capacities = still_none_at_table _ BadCapacity (first_table capacity_fails ts) widths
+    (passes capacity_fails (λ t is. inside 4096 t.capacity is.least_capacity is.most_capacity)) in
+    let rings = still_none_at_table _ BadRing (first_table ring_fails ts) capacities
+    (passes ring_fails (λ t is. inside 16 t.ring is.least_ring is.most_ring)) in
     let buckets = still_none _ (is_outside 256 shape.buckets) BadBuckets rings (inside 256 shape.buckets fits.least_buckets fits.most_buckets) in
     let cells = still_none _ (is_outside 64 shape.cells) BadCells buckets (inside 64 shape.cells fits.least_cells fits.most_cells) in
-    let start = still_none _ (nat_lt (greatest_number shape.form) shape.start) BadStart cells (le-ltb (greatest_number shape.form) shape.start fits.start) in
+    let start = still_none _ (nat_lt (greatest_number shape.form) shape.start) BadStart cells
+    (le-ltb (greatest_number shape.form) shape.start fits.start) in
     let names = still_none_at_table _ TwiceNamed (first_twice_named [] 0 ts) start (none_twice [] 0 ts refl (λ k from here. fits.names k here)) in
     still_none _ (nat_lt 4194304 (words_of shape)) TooManyWords names (le-ltb 4194304 (words_of shape) fits.words)

@@ -7,6 +7,7 @@ use Rattle.nam_catalog.specs.Tables.{name_of, first_named}
 use Rattle.nam_catalog.specs.Words.{words_of}
 use Rattle.nam_catalog.specs.Limits.{fault_of}
 
+-- the numbers of a table are within their limits
 pub record FitsTable (table : Table) : Type 0 where
   pub least_width : 1 ≤ table.width
   pub most_width : table.width ≤ 8
@@ -15,7 +16,8 @@ pub record FitsTable (table : Table) : Type 0 where
   pub least_ring : 1 ≤ table.ring
   pub most_ring : table.ring ≤ 16
 
--- each number and each table is within its limits, and no two tables bear one name, so that each is found by its name
+-- Each number and each table is within its limits, and no two tables bear one name, so that each is found by its name.
+-- That there are at most 8 tables is in the type of the shape, and `check` says it.
 pub record FitsLimits (shape : Shape) : Type 0 where
   pub least_workers : 1 ≤ shape.workers
   pub most_workers : shape.workers ≤ 16

@@ -30,7 +30,8 @@ first_table fails tables = position_from fails 0 tables
 -- the first of the tables, counted from `place`, that bears the name of one before it
 abbrev pub first_twice_named : List Table → ℕ → List Table → Option ℕ
 first_twice_named before place [] = None
-first_twice_named before place (t ∷ ts) = if is_some (first_named t.name before) then Some place else first_twice_named (before ++ t ∷ []) (place + 1) ts
+first_twice_named before place (t ∷ ts) =
+    if is_some (first_named t.name before) then Some place else first_twice_named (before ++ t ∷ []) (place + 1) ts
 
 -- the first fault but for the words of the whole, where each fault is tried at all tables before the next fault
 abbrev pub limit_fault_of : Shape → Option ShapeFault

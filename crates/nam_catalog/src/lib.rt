@@ -1,6 +1,9 @@
 //! Shapes of stores: how many workers and tables there are, how large they are, and which form their headers have.
 //!
-//! So far the crate has the types, the greatest commit number of each form, and the name of a table by its number.
+//! `check` gives the number of words that a store of a shape takes, or else the first fault of the shape. A shape has
+//! no fault exactly where it fits its limits, as `fits_law` says: so much follows from an `Ok` of `check`. `table_named`
+//! finds the first table of a name, `name_at` the name of a table, and `greatest` the greatest commit number of a form.
+//! No call takes memory.
 #![tactic(auto)]
 
 mod fault;

@@ -29,7 +29,9 @@ const MOST_WORDS: u64 = 4_194_304;
 /// The number of words that a store of the shape takes, or else the first fault of the shape: in the order of
 /// `ShapeFault`, and each fault of a table tried at all tables before the next fault.
 pub fn check(shape: &Shape) -> Result<u64, ShapeFault>
-    ensures exact { MatchResult result (λ words. (fault_of shape.now ≡ None) × (words ≡ words_of shape.now)) (λ fault. fault_of shape.now ≡ Some fault) }
+    ensures exact { MatchResult result
+        (λ words. (fault_of shape.now ≡ None) × (words ≡ words_of shape.now))
+        (λ fault. fault_of shape.now ≡ Some fault) }
     ensures fits { OnOk result (FitsLimits shape.now) }
     ensures tables { length shape.now.tables ≤ 8 }
 {

@@ -33,6 +33,13 @@ fn with_table(form: Form, width: u32, capacity: u32, ring: u32) -> Shape {
     shape(form, tables)
 }
 
+fn with_tables(first: Table, second: Table) -> Shape {
+    let mut tables: ShortList<Table, 8> = ShortList::new();
+    tables.push(first);
+    tables.push(second);
+    shape(Form::Narrow, tables)
+}
+
 #[test]
 fn a_name_keeps_its_text(rt: HostRuntime) {
     let name = TableName::from_text("acct");
@@ -83,24 +90,19 @@ fn each_number_has_its_fault(rt: HostRuntime) {
 
 #[test]
 fn each_table_has_its_faults(rt: HostRuntime) {
-    let mut tables: ShortList<Table, 8> = ShortList::new();
-    tables.push(table("acct", 8, 1, 17));
-    tables.push(table("cust", 9, 0, 0));
-    let mut two = shape(Form::Narrow, tables);
-    assert_eq!(rt; check(&two), Err(ShapeFault::BadWidth { table: 1 }));
-    two.tables.set(1, table("cust", 1, 4097, 0));
-    assert_eq!(rt; check(&two), Err(ShapeFault::BadCapacity { table: 1 }));
-    two.tables.set(1, table("acct", 1, 4096, 0));
-    assert_eq!(rt; check(&two), Err(ShapeFault::BadRing { table: 0 }));
-    two.tables.set(0, table("acct", 8, 1, 16));
-    assert_eq!(rt; check(&two), Err(ShapeFault::BadRing { table: 1 }));
-    two.tables.set(1, table("acct", 1, 4096, 1));
-    assert_eq!(rt; check(&two), Err(ShapeFault::TwiceNamed { table: 1 }));
-    assert_eq!(rt; table_named(&two, "acct"), Some(0));
-    two.tables.set(0, table("cust", 8, 1, 16));
-    assert_eq!(rt; check(&two), Ok(28_857));
-    assert_eq!(rt; table_named(&two, "acct"), Some(1));
-    assert_eq!(rt; table_named(&two, "acc"), None);
+    let width = with_tables(table("acct", 8, 1, 17), table("cust", 9, 0, 0));
+    assert_eq!(rt; check(&width), Err(ShapeFault::BadWidth { table: 1 }));
+    let capacity = with_tables(table("acct", 8, 1, 17), table("cust", 1, 4097, 0));
+    assert_eq!(rt; check(&capacity), Err(ShapeFault::BadCapacity { table: 1 }));
+    let ring = with_tables(table("acct", 8, 1, 17), table("acct", 1, 4096, 0));
+    assert_eq!(rt; check(&ring), Err(ShapeFault::BadRing { table: 0 }));
+    let name = with_tables(table("acct", 8, 1, 16), table("acct", 1, 4096, 1));
+    assert_eq!(rt; check(&name), Err(ShapeFault::TwiceNamed { table: 1 }));
+    assert_eq!(rt; table_named(&name, "acct"), Some(0));
+    let sound = with_tables(table("cust", 8, 1, 16), table("acct", 1, 4096, 1));
+    assert_eq!(rt; check(&sound), Ok(28_857));
+    assert_eq!(rt; table_named(&sound, "acct"), Some(1));
+    assert_eq!(rt; table_named(&sound, "acc"), None);
 }
 
 #[test]

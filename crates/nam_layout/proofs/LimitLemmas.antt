@@ -1,5 +1,5 @@
 -- limits of rows, places and cells
-use Rattle.std.proofs.Common.{◌≡◌, ℕ, ◌+◌, ◌-◌, ◌*◌, ◌<◌, ◌≤◌, inl, inr, List, [], ◌∷◌, refl, sym, ◌∙◌, ap, subst, arith}
+use Rattle.std.proofs.Common.{◌≡◌, ℕ, ◌+◌, ◌-◌, ◌*◌, ◌<◌, ◌≤◌, inl, inr, List, [], ◌∷◌, refl, sym, subst, arith}
 use Rattle.std.specs.Prelude.{All}
 use Rattle.std.proofs.lemmas.Bool.{cases_lt}
 use Rattle.std.proofs.lemmas.Nat.{row_fits}
@@ -7,8 +7,8 @@ use Rattle.std.proofs.lemmas.List.Elements.{All-head, All-tail}
 use Rattle.nam_catalog.specs.declared.shape.Table.{Table}
 use Rattle.nam_catalog.specs.declared.shape.Shape.{Shape}
 use Rattle.nam_catalog.specs.Fits.{FitsTable, FitsLimits}
-use Rattle.nam_catalog.specs.Words.{slot_words, position_words, tables_words}
-use Rattle.nam_layout.specs.Rows.{rows_in, width_at, ring_at, row_at}
+use Rattle.nam_catalog.specs.Words.{slot_words}
+use Rattle.nam_layout.specs.Rows.{rows_in, width_at, ring_at}
 use Rattle.nam_layout.specs.Address.{IsRow}
 use Rattle.nam_layout.specs.Place.{place_at, cells_of}
 use Rattle.nam_layout.specs.PlaceFits.{FitsPlace, FitsCells}

@@ -1,0 +1,92 @@
+-- what a layout keeps of its shape, and what it gives for it
+use Rattle.std.proofs.Common.{◌≡◌, ℕ, ◌+◌, ◌-◌, ◌*◌, ◌^◌, ◌<◌, ◌≤◌, List, length, get_or, None, sym, ◌∙◌, ap, subst, arith}
+use Rattle.nam_catalog.specs.declared.shape.Table.{Table}
+use Rattle.nam_catalog.specs.declared.shape.Shape.{Shape}
+use Rattle.nam_catalog.specs.Limits.{fault_of}
+use Rattle.nam_catalog.specs.Words.{intent_words}
+use Rattle.nam_catalog.proofs.FitsLemmas.{fits_limits}
+use Rattle.nam_layout.specs.declared.extent.Extent.{Extent}
+use Rattle.nam_layout.specs.Rows.{row_of, width_at, ring_at}
+use Rattle.nam_layout.specs.RowLaw.{IsPosition}
+use Rattle.nam_layout.specs.declared.field.Field.TheVariants.{Word, SlotHeader}
+use Rattle.nam_layout.specs.Address.{tables_at, cells_at, position_at, address}
+use Rattle.nam_layout.specs.FieldAt.{row_in, rest_in, field_in_position, field_at}
+use Rattle.nam_layout.specs.Place.{place_of}
+use Rattle.nam_layout.specs.Extent.{extents_of, IsIn, field_in_extents, place_in}
+use Rattle.nam_layout.specs.Laid.{IsLaidOut}
+use Rattle.nam_layout.proofs.PositionLemmas.{position_is_row}
+use Rattle.nam_layout.proofs.AddressLemmas.{in_tables}
+use Rattle.nam_layout.proofs.ExtentLemmas.{IsExtent, extents_length, extent_is, rows_le, place_within, is_in, field_is}
+
+module _ (shape : Shape) (extents : List Extent) where
+  -- what a new layout keeps, with a copy of the tables
+  pub laid_out : (tables : List Table) (cells words : ℕ) → tables ≡ shape.tables → fault_of shape ≡ None → extents ≡ extents_of (tables_at shape) 0 shape.tables → cells ≡ cells_at shape → words ≡ intent_words shape.form
+      → IsLaidOut (record shape { tables = tables }) extents cells (cells + shape.buckets * shape.cells * 12) (cells + shape.buckets * shape.cells * 12 + shape.workers * words)
+  laid_out tables cells words same none are cells_are words_are =
+      let intents = cells + shape.buckets * shape.cells * 12 in
+      subst (λ ts. IsLaidOut (record shape { tables = ts }) extents cells intents (intents + shape.workers * words)) (sym same) (record {
+        fits = fits_limits shape none;
+        extents_are = are;
+        cells_are = cells_are;
+        intents_are = omega arith;
+        total_is = rw words_are (omega arith);
+      })
+
+  module _ (cells intents total : ℕ) (laid : IsLaidOut shape extents cells intents total) where
+    pub length_is : length extents ≡ length shape.tables
+    length_is = ap (length {A = Extent}) laid.extents_are ∙ extents_length (tables_at shape) 0 shape.tables
+
+    -- the extent of a table
+    pub is_extent : (table : ℕ) (e : Extent) → table < length shape.tables → e ≡ get_or extents table e → IsExtent (tables_at shape) 0 shape.tables table e
+    is_extent table e less here =
+        let same : e ≡ get_or (extents_of (tables_at shape) 0 shape.tables) table e = here ∙ ap (λ (es : List Extent). get_or es table e) laid.extents_are in
+        subst (IsExtent (tables_at shape) 0 shape.tables table) (sym same) (extent_is (tables_at shape) 0 shape.tables table e less)
+
+    -- an extent gives the place of a position
+    pub place_is : (table position : ℕ) (e : Extent) → IsPosition shape.tables table position → e ≡ get_or extents table e → place_in e position shape.form ≡ place_of shape table position
+    place_is table position e is here =
+        let at = is_extent table e is.0 here in
+        let row = position_is_row shape.tables table position is in
+        let r = row_of shape.tables table position in
+        let row_same : e.row + position ≡ r = at.row_is position ∙ (omega arith) in
+        let key_same : e.at + position * e.words ≡ position_at shape r = at.at_is position (subst (λ n. position < n) (sym at.capacity_is) is.1) in
+        let width_same : e.width ≡ width_at shape.tables r = at.width_is ∙ sym row.width_is in
+        let ring_same : e.ring ≡ ring_at shape.tables r = at.ring_is ∙ sym row.ring_is in
+        let words_same : e.at + position * e.words + 3 ≡ address shape (Word r 0) = omega arith in
+        let slots_same : e.at + position * e.words + 3 + e.width ≡ address shape (SlotHeader r 0) = omega arith in
+        cc
+
+    -- the sums of an extent's numbers with those of a position are small
+    pub place_fits : (table position : ℕ) (e : Extent) → IsPosition shape.tables table position → e ≡ get_or extents table e → (e.row + position < 2 ^ 32) × (e.at + position * e.words + 3 + e.width < 2 ^ 32)
+    place_fits table position e is here =
+        let at = is_extent table e is.0 here in
+        let row = position_is_row shape.tables table position is in
+        let r = row_of shape.tables table position in
+        let within = row.within in
+        let rows = rows_le shape.tables in
+        let row_same : e.row + position ≡ 0 + r = at.row_is position in
+        let key_same : e.at + position * e.words ≡ position_at shape r = at.at_is position (subst (λ n. position < n) (sym at.capacity_is) is.1) in
+        let width_same : e.width ≡ width_at shape.tables r = at.width_is ∙ sym row.width_is in
+        let words = place_within shape.tables r within in
+        let most = laid.fits.words in
+        (omega arith, omega arith)
+
+    -- an address of the tables is in their extents
+    pub address_in : (address : ℕ) → tables_at shape ≤ address → address < cells → IsIn address extents
+    address_in address least less =
+        let rows = rows_le shape.tables in
+        let most = laid.fits.words in
+        let end = laid.cells_are in
+        subst (IsIn address) (sym laid.extents_are) (is_in (tables_at shape) 0 address shape.tables laid.fits.tables (omega arith) (omega arith) least (omega arith))
+
+    -- the field in the extents is that at the address
+    pub field_there : (address : ℕ) → tables_at shape ≤ address → address < cells → field_in_extents extents address ≡ field_at shape address
+    field_there address least less =
+        let end = laid.cells_are in
+        let offset = address - tables_at shape in
+        let r = row_in shape.tables offset in
+        let same : 0 + r ≡ r = omega arith in
+        ap (λ es. field_in_extents es address) laid.extents_are
+        ∙ field_is (tables_at shape) 0 address shape.tables least (omega arith)
+        ∙ ap (λ n. field_in_position (width_at shape.tables r) n (rest_in shape.tables offset)) same
+        ∙ sym (in_tables shape address least (omega arith))

@@ -1,0 +1,9 @@
+pub mod TestLemmas
+pub mod NumberLemmas
+pub mod RowLemmas
+pub mod PositionLemmas
+pub mod FieldAtLemmas
+pub mod AddressLemmas
+pub mod LimitLemmas
+pub mod ExtentLemmas
+pub mod LayoutLemmas

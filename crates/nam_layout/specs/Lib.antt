@@ -1,0 +1,10 @@
+pub mod Rows
+pub mod RowLaw
+pub mod Address
+pub mod FieldAt
+pub mod AddressLaw
+pub mod Place
+pub mod PlaceLaw
+pub mod PlaceFits
+pub mod Extent
+pub mod Laid

@@ -1,0 +1,33 @@
+//! What addresses, fields, rows and places have to do with each other.
+
+ghost use Rattle.nam_layout.specs.AddressLaw.{FieldLaw, AddressLaw, DistinctLaw};
+ghost use Rattle.nam_layout.specs.RowLaw.{PositionLaw, RowLaw};
+ghost use Rattle.nam_layout.specs.PlaceLaw.{PlaceLaw, CellsLaw, IntentLaw};
+ghost use Rattle.nam_layout.specs.PlaceFits.{PlaceFitsLaw, CellsFitLaw};
+
+/// The addresses of a shape's fields are distinct and fill 0 to the number of its words, less 1: each field has an
+/// address there, of which it is the field, and each address there has a field, of which it is the address.
+pub fn address_law()
+    ensures field { FieldLaw }
+    ensures address { AddressLaw }
+    ensures distinct { DistinctLaw }
+{}
+
+/// Each position of a table is one row, and each row one position of a table, whose width and ring it has.
+pub fn row_law()
+    ensures position { PositionLaw }
+    ensures row { RowLaw }
+{}
+
+/// The words of a position, of a bucket's cells and of an intent, counted from the addresses that a layout gives.
+pub fn place_law()
+    ensures place { PlaceLaw }
+    ensures cells { CellsLaw }
+    ensures intent { IntentLaw }
+{}
+
+/// The places and cells of a shape within its limits have few words, each of which is a word of a store.
+pub fn limit_law()
+    ensures place { PlaceFitsLaw }
+    ensures cells { CellsFitLaw }
+{}

@@ -20,6 +20,18 @@ fn is_short(job: &Vec<Op>) -> bool
     job.len() < 100
 }
 
+fn all_jobs_fit(widths: &[u32], jobs: &[Vec<Op>]) -> bool
+    ensures { IsTrue result → All (λ job. All (OpFits widths.now) job.items) jobs.now }
+{
+    jobs.iter().all(|job| fits(widths, job))
+}
+
+fn all_are_short(jobs: &[Vec<Op>]) -> bool
+    ensures { IsTrue result → All (λ job. length job.items < 2 ^ 32) jobs.now }
+{
+    jobs.iter().all(|job| is_short(job))
+}
+
 /// Is the history legal, over a table of width 1 that the jobs and rows fit?
 fn legal(
     alloc: Global,
@@ -28,11 +40,10 @@ fn legal(
     history: &[CommitLine],
 ) -> Result<bool, AllocError> {
     let widths = [1];
-    let fit = jobs.iter().all(|job| fits(&widths, job)) && jobs.iter().all(is_short);
-    if !fit || !all_wide(&widths, rows) {
-        return Ok(false);
+    if all_jobs_fit(&widths, jobs) && all_are_short(jobs) && all_wide(&widths, rows) {
+        return is_legal(alloc, &widths, rows, jobs, history);
     }
-    is_legal(alloc, &widths, rows, jobs, history)
+    Ok(false)
 }
 
 /// The entry of a commit that wrote one word.

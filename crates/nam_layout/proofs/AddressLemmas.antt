@@ -36,7 +36,8 @@ word width row nth less =
     let below : 3 + nth < 3 + width = omega arith in
     if_other _ _ _ _ some ∙ if_other _ _ _ _ more ∙ if_other _ _ _ _ most ∙ if_less _ _ _ _ below ∙ ap (Word row) after
 
-old : (width row slot rest : ℕ) → rest < slot_words width → field_in_position width row (3 + width + (slot * slot_words width + rest)) ≡ field_in_slot row slot rest
+old : (width row slot rest : ℕ) → rest < slot_words width
+    → field_in_position width row (3 + width + (slot * slot_words width + rest)) ≡ field_in_slot row slot rest
 old width row slot rest less =
     let at = 3 + width + (slot * slot_words width + rest) in
     let some : at ≢ 0 = λ same. omega arith in
@@ -98,7 +99,8 @@ module _ (shape : Shape) where
       let same : shape.workers + (worker - 1) - shape.workers + 1 ≡ worker = omega arith in
       (omega arith, in_horizon (shape.workers + (worker - 1)) (omega arith) (omega arith) ∙ ap Horizon same)
 
-  position_found : (at row rest : ℕ) → at ≡ position_at shape row + rest → IsRow shape row → rest < position_words (width_at shape.tables row) (ring_at shape.tables row)
+  position_found : (at row rest : ℕ) → at ≡ position_at shape row + rest → IsRow shape row
+      → rest < position_words (width_at shape.tables row) (ring_at shape.tables row)
       → Finds at (field_in_position (width_at shape.tables row) row rest)
   position_found at row rest there is less =
       let stands = row_stands shape.tables row rest is less in
@@ -116,16 +118,19 @@ module _ (shape : Shape) where
       → Finds at (field_in_slot row slot rest)
   slot_found at row slot rest there is less =
       let width = width_at shape.tables row in
-      let within : slot * slot_words width + rest < ring_at shape.tables row * slot_words width = place_within slot (slot_words width) rest (ring_at shape.tables row) is.1 less in
+      let within : slot * slot_words width + rest < ring_at shape.tables row * slot_words width
+      = place_within slot (slot_words width) rest (ring_at shape.tables row) is.1 less in
       let found = position_found at row (3 + width + (slot * slot_words width + rest)) (omega arith) is.0 (omega arith) in
       (found.0, found.1 ∙ old width row slot rest less)
 
-  cell_found : (at bucket cell rest : ℕ) → at ≡ cell_at shape bucket cell + rest → IsCell shape bucket cell → rest < 12 → Finds at (field_in_cell bucket cell rest)
+  cell_found : (at bucket cell rest : ℕ) → at ≡ cell_at shape bucket cell + rest → IsCell shape bucket cell → rest < 12
+      → Finds at (field_in_cell bucket cell rest)
   cell_found at bucket cell rest there is less =
       let cells = shape.cells in
       let nth = bucket * cells + cell in
       let below : nth < shape.buckets * cells = place_within bucket cells cell shape.buckets is.0 is.1 in
-      let within : nth * cell_words + rest < shape.buckets * cells * cell_words = place_within nth cell_words rest (shape.buckets * cells) below less in
+      let within : nth * cell_words + rest < shape.buckets * cells * cell_words
+      = place_within nth cell_words rest (shape.buckets * cells) below less in
       let from : at - cells_at shape ≡ nth * cell_words + rest = omega arith in (
         omega arith,
         in_cells at (omega arith) (omega arith)
@@ -136,7 +141,8 @@ module _ (shape : Shape) where
             ∙ ap (λ c. field_in_cell bucket c rest) (mod-mul-add bucket cells cell is.1),
       )
 
-  intent_found : (worker nth : ℕ) → IsWorker shape worker → nth < intent_words shape.form → Finds (intents_at shape + (worker - 1) * intent_words shape.form + nth) (Intent worker nth)
+  intent_found : (worker nth : ℕ) → IsWorker shape worker → nth < intent_words shape.form
+      → Finds (intents_at shape + (worker - 1) * intent_words shape.form + nth) (Intent worker nth)
   intent_found worker nth is less =
       let words = intent_words shape.form in
       let before = worker - 1 in

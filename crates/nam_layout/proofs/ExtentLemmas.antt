@@ -27,7 +27,8 @@ pub extents_length : (at row : ℕ) (tables : List Table) → length (extents_of
 extents_length at row [] = refl
 extents_length at row (t ∷ ts) = ap suc (extents_length (at + table_words t) (row + t.capacity) ts)
 
-pub extent_is : (at row : ℕ) (tables : List Table) (table : ℕ) (other : Extent) → table < length tables → IsExtent at row tables table (get_or (extents_of at row tables) table other)
+pub extent_is : (at row : ℕ) (tables : List Table) (table : ℕ) (other : Extent) → table < length tables
+    → IsExtent at row tables table (get_or (extents_of at row tables) table other)
 extent_is at row [] table other less = absurd (omega arith)
 extent_is at row (t ∷ ts) zero other less = record {
   capacity_is = refl;
@@ -47,7 +48,8 @@ extent_is at row (t ∷ ts) (suc table) other less =
           let r = row_of ts table position in
           let past : t.capacity ≤ t.capacity + r = omega arith in
           let before : t.capacity + r - t.capacity ≡ r = omega arith in
-          let later : row_at (t ∷ ts) (t.capacity + r) ≡ table_words t + row_at ts r = if_not_less _ _ _ _ past ∙ ap (λ n. table_words t + row_at ts n) before in
+          let later : row_at (t ∷ ts) (t.capacity + r) ≡ table_words t + row_at ts r
+          = if_not_less _ _ _ _ past ∙ ap (λ n. table_words t + row_at ts n) before in
           is.at_is position here ∙ (omega arith);
     }
 
@@ -61,7 +63,10 @@ rows_le (t ∷ ts) =
 
 -- the first words of a position are among the words of the tables
 pub place_within : (tables : List Table) (row : ℕ) → row < rows_in tables → row_at tables row + 3 + width_at tables row ≤ tables_words tables
-place_within tables row within = let stands = row_stands tables row (2 + width_at tables row) within (omega arith) in let w = stands.offset_within in omega arith
+place_within tables row within =
+    let stands = row_stands tables row (2 + width_at tables row) within (omega arith) in
+    let w = stands.offset_within in
+    omega arith
 
 -- an address among the words of the tables is in their extents
 pub is_in : (at row address : ℕ) (tables : List Table) → All FitsTable tables → at + tables_words tables < 2 ^ 32 → row + rows_in tables < 2 ^ 32
@@ -77,7 +82,8 @@ is_in at row address (t ∷ ts) fit words rows least less =
 
 -- the field at a word of the tables, counted from this row on, by its row and its word in the position
 named : (tables : List Table) (row offset r rest width : ℕ) → row_in tables offset ≡ r → rest_in tables offset ≡ rest → width_at tables r ≡ width
-    → field_in_position (width_at tables (row_in tables offset)) (row + row_in tables offset) (rest_in tables offset) ≡ field_in_position width (row + r) rest
+    → field_in_position (width_at tables (row_in tables offset)) (row + row_in tables offset) (rest_in tables offset)
+    ≡ field_in_position width (row + r) rest
 named tables row offset r rest width row_is rest_is width_is =
     ap (λ n. field_in_position (width_at tables n) (row + n) (rest_in tables offset)) row_is
     ∙ ap (field_in_position (width_at tables r) (row + r)) rest_is
@@ -94,7 +100,9 @@ field_is at row address (t ∷ ts) least less = elim (cases_lt address (at + tab
       let offset = address - at in
       let within : offset < table_words t = omega arith in
       let first : offset / size < t.capacity = div_below offset size t.capacity (omega arith) within in
-      if_less _ _ _ _ here ∙ sym (named (t ∷ ts) row offset (offset / size) (offset % size) t.width (if_less _ _ _ _ within) (if_less _ _ _ _ within) (if_less _ _ _ _ first))
+      if_less _ _ _ _ here
+      ∙ sym (named (t ∷ ts) row offset (offset / size) (offset % size) t.width
+      (if_less _ _ _ _ within) (if_less _ _ _ _ within) (if_less _ _ _ _ first))
   | inr past ↦
       let offset = address - at in
       let after = offset - table_words t in
@@ -108,5 +116,6 @@ field_is at row address (t ∷ ts) least less = elim (cases_lt address (at + tab
       ∙ field_is (at + table_words t) (row + t.capacity) address ts past (omega arith)
       ∙ ap (λ o. field_in_position (width_at ts (row_in ts o)) (row + t.capacity + row_in ts o) (rest_in ts o)) same
       ∙ ap (λ n. field_in_position (width_at ts r) n (rest_in ts after)) rows
-      ∙ sym (named (t ∷ ts) row offset (t.capacity + r) (rest_in ts after) (width_at ts r) (if_not_less _ _ _ _ beyond) (if_not_less _ _ _ _ beyond) (if_not_less _ _ _ _ later ∙ ap (width_at ts) before))
+      ∙ sym (named (t ∷ ts) row offset (t.capacity + r) (rest_in ts after) (width_at ts r)
+      (if_not_less _ _ _ _ beyond) (if_not_less _ _ _ _ beyond) (if_not_less _ _ _ _ later ∙ ap (width_at ts) before))
 ]

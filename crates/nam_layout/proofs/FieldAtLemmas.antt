@@ -17,7 +17,8 @@ module _ (shape : Shape) where
     pub field : IsField shape f
     pub address_is : address shape f ≡ at
 
-  in_slot : (row slot rest : ℕ) → IsSlot shape row slot → rest < slot_words (width_at shape.tables row) → IsAt (slot_at shape row slot + rest) (field_in_slot row slot rest)
+  in_slot : (row slot rest : ℕ) → IsSlot shape row slot → rest < slot_words (width_at shape.tables row)
+      → IsAt (slot_at shape row slot + rest) (field_in_slot row slot rest)
   in_slot row slot rest is less =
       let P = λ (f : Field). IsAt (slot_at shape row slot + rest) f in
       by_equal P rest 0 _ _ (λ same. record { field = is; address_is = omega arith }) (λ not_header.
@@ -38,7 +39,9 @@ module _ (shape : Shape) where
       by_less P rest (3 + width) _ _ (λ word. record { field = (is, omega arith); address_is = omega arith }) (λ old.
       let whole : slot * slot_words width + nth ≡ after = div-add-mod' after (slot_words width) in
       let there : slot_at shape row slot + nth ≡ position_at shape row + rest = omega arith in
-      subst (λ at. IsAt at (field_in_slot row slot nth)) there (in_slot row slot nth (is, div_below after (slot_words width) (ring_at shape.tables row) (omega arith) (omega arith)) (mod_below after (slot_words width) (omega arith)))))))
+      let within : slot < ring_at shape.tables row = div_below after (slot_words width) (ring_at shape.tables row) (omega arith) (omega arith) in
+      let less : nth < slot_words width = mod_below after (slot_words width) (omega arith) in
+      subst (λ at. IsAt at (field_in_slot row slot nth)) there (in_slot row slot nth (is, within) less)))))
 
   in_tables : (offset : ℕ) → offset < tables_words shape.tables → IsAt (tables_at shape + offset) (field_in_tables shape.tables offset)
   in_tables offset within =
@@ -70,7 +73,8 @@ module _ (shape : Shape) where
       let there : cell_at shape bucket cell + rest ≡ cells_at shape + offset = omega arith in
       subst (λ at. IsAt at (field_in_cell bucket cell rest)) there (in_cell bucket cell rest is (mod_below offset cell_words (omega arith)))
 
-  in_intents : (offset : ℕ) → offset < shape.workers * intent_words shape.form → IsAt (intents_at shape + offset) (field_in_intents (intent_words shape.form) offset)
+  in_intents : (offset : ℕ) → offset < shape.workers * intent_words shape.form
+      → IsAt (intents_at shape + offset) (field_in_intents (intent_words shape.form) offset)
   in_intents offset within =
       let words = intent_words shape.form in
       let some : 1 ≤ words = some_length offset shape.workers words within in
@@ -88,8 +92,10 @@ module _ (shape : Shape) where
   stands_there at within =
       by_less (IsAt at) at shape.workers _ _ (λ less. record { field = (omega arith, omega arith); address_is = omega arith }) (λ least.
       by_less (IsAt at) at (tables_at shape) _ _ (λ less. record { field = (omega arith, omega arith); address_is = omega arith }) (λ least.
-      by_less (IsAt at) at (cells_at shape) _ _ (λ less. from (tables_at shape) (field_in_tables shape.tables) least (in_tables (at - tables_at shape) (omega arith))) (λ least.
-      by_less (IsAt at) at (intents_at shape) _ _ (λ less. from (cells_at shape) (field_in_cells shape.cells) least (in_cells (at - cells_at shape) (omega arith))) (λ least.
+      by_less (IsAt at) at (cells_at shape) _ _ (λ less.
+      from (tables_at shape) (field_in_tables shape.tables) least (in_tables (at - tables_at shape) (omega arith))) (λ least.
+      by_less (IsAt at) at (intents_at shape) _ _ (λ less.
+      from (cells_at shape) (field_in_cells shape.cells) least (in_cells (at - cells_at shape) (omega arith))) (λ least.
       from (intents_at shape) (field_in_intents (intent_words shape.form)) least (in_intents (at - intents_at shape) (omega arith))))))
     where
       from : (begin : ℕ) (named : ℕ → Field) → begin ≤ at → IsAt (begin + (at - begin)) (named (at - begin)) → IsAt at (named (at - begin))

@@ -20,8 +20,10 @@ use Rattle.nam_layout.proofs.ExtentLemmas.{IsExtent, extents_length, extent_is, 
 
 module _ (shape : Shape) (extents : List Extent) where
   -- what a new layout keeps, with a copy of the tables
-  pub laid_out : (tables : List Table) (cells words : ℕ) → tables ≡ shape.tables → fault_of shape ≡ None → extents ≡ extents_of (tables_at shape) 0 shape.tables → cells ≡ cells_at shape → words ≡ intent_words shape.form
-      → IsLaidOut (record shape { tables = tables }) extents cells (cells + shape.buckets * shape.cells * 12) (cells + shape.buckets * shape.cells * 12 + shape.workers * words)
+  pub laid_out : (tables : List Table) (cells words : ℕ) → tables ≡ shape.tables → fault_of shape ≡ None
+      → extents ≡ extents_of (tables_at shape) 0 shape.tables → cells ≡ cells_at shape → words ≡ intent_words shape.form
+      → IsLaidOut (record shape { tables = tables }) extents cells
+      (cells + shape.buckets * shape.cells * 12) (cells + shape.buckets * shape.cells * 12 + shape.workers * words)
   laid_out tables cells words same none are cells_are words_are =
       let intents = cells + shape.buckets * shape.cells * 12 in
       subst (λ ts. IsLaidOut (record shape { tables = ts }) extents cells intents (intents + shape.workers * words)) (sym same) (record {
@@ -37,13 +39,15 @@ module _ (shape : Shape) (extents : List Extent) where
     length_is = ap (length {A = Extent}) laid.extents_are ∙ extents_length (tables_at shape) 0 shape.tables
 
     -- the extent of a table
-    pub is_extent : (table : ℕ) (e : Extent) → table < length shape.tables → e ≡ get_or extents table e → IsExtent (tables_at shape) 0 shape.tables table e
+    pub is_extent : (table : ℕ) (e : Extent) → table < length shape.tables → e ≡ get_or extents table e
+        → IsExtent (tables_at shape) 0 shape.tables table e
     is_extent table e less here =
         let same : e ≡ get_or (extents_of (tables_at shape) 0 shape.tables) table e = here ∙ ap (λ (es : List Extent). get_or es table e) laid.extents_are in
         subst (IsExtent (tables_at shape) 0 shape.tables table) (sym same) (extent_is (tables_at shape) 0 shape.tables table e less)
 
     -- an extent gives the place of a position
-    pub place_is : (table position : ℕ) (e : Extent) → IsPosition shape.tables table position → e ≡ get_or extents table e → place_in e position shape.form ≡ place_of shape table position
+    pub place_is : (table position : ℕ) (e : Extent) → IsPosition shape.tables table position → e ≡ get_or extents table e
+        → place_in e position shape.form ≡ place_of shape table position
     place_is table position e is here =
         let at = is_extent table e is.0 here in
         let row = position_is_row shape.tables table position is in
@@ -57,7 +61,8 @@ module _ (shape : Shape) (extents : List Extent) where
         cc
 
     -- the sums of an extent's numbers with those of a position are small
-    pub place_fits : (table position : ℕ) (e : Extent) → IsPosition shape.tables table position → e ≡ get_or extents table e → (e.row + position < 2 ^ 32) × (e.at + position * e.words + 3 + e.width < 2 ^ 32)
+    pub place_fits : (table position : ℕ) (e : Extent) → IsPosition shape.tables table position → e ≡ get_or extents table e
+        → (e.row + position < 2 ^ 32) × (e.at + position * e.words + 3 + e.width < 2 ^ 32)
     place_fits table position e is here =
         let at = is_extent table e is.0 here in
         let row = position_is_row shape.tables table position is in
@@ -77,7 +82,8 @@ module _ (shape : Shape) (extents : List Extent) where
         let rows = rows_le shape.tables in
         let most = laid.fits.words in
         let end = laid.cells_are in
-        subst (IsIn address) (sym laid.extents_are) (is_in (tables_at shape) 0 address shape.tables laid.fits.tables (omega arith) (omega arith) least (omega arith))
+        subst (IsIn address) (sym laid.extents_are)
+        (is_in (tables_at shape) 0 address shape.tables laid.fits.tables (omega arith) (omega arith) least (omega arith))
 
     -- the field in the extents is that at the address
     pub field_there : (address : ℕ) → tables_at shape ≤ address → address < cells → field_in_extents extents address ≡ field_at shape address

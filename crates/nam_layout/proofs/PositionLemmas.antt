@@ -35,7 +35,8 @@ module _ (t : Table) (ts : List Table) where
       }
 
 -- each position is a row
-pub position_is_row : (tables : List Table) (table position : ℕ) → IsPosition tables table position → IsRowOf tables table position (row_of tables table position)
+pub position_is_row : (tables : List Table) (table position : ℕ) → IsPosition tables table position
+    → IsRowOf tables table position (row_of tables table position)
 position_is_row [] table position is = let none = is.0 in absurd (omega arith)
 position_is_row (t ∷ ts) zero position is = first_row t ts position is.1
 position_is_row (t ∷ ts) (suc table) position is =
@@ -43,7 +44,8 @@ position_is_row (t ∷ ts) (suc table) position is =
     later_row t ts table position (row_of ts table position) (position_is_row ts table position (omega arith, is.1))
 
 -- a row is the position that is told of it
-named : (tables : List Table) (table position row : ℕ) → IsRowOf tables table position row → IsRowOf tables (table_of tables row) (position_of tables row) row
+named : (tables : List Table) (table position row : ℕ) → IsRowOf tables table position row
+    → IsRowOf tables (table_of tables row) (position_of tables row) row
 named tables table position row is =
     subst (λ t. IsRowOf tables t (position_of tables row) row) (sym is.table_is) (subst (λ p. IsRowOf tables table p row) (sym is.position_is) is)
 
@@ -56,5 +58,6 @@ row_is_position (t ∷ ts) row within = elim (cases_lt row t.capacity) [
       let before = row - t.capacity in
       let same : t.capacity + before ≡ row = omega arith in
       let is = later_row t ts _ _ before (row_is_position ts before (omega arith)) in
-      named (t ∷ ts) (suc (table_of ts before)) (position_of ts before) row (subst (λ r. IsRowOf (t ∷ ts) (suc (table_of ts before)) (position_of ts before) r) same is)
+      named (t ∷ ts) (suc (table_of ts before)) (position_of ts before) row
+      (subst (λ r. IsRowOf (t ∷ ts) (suc (table_of ts before)) (position_of ts before) r) same is)
 ]

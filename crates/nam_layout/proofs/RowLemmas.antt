@@ -20,7 +20,8 @@ pub record Stands (tables : List Table) (row rest offset : ℕ) : Type 0 where
 
 module _ (t : Table) (ts : List Table) where
   -- a word of the first table
-  first_stands : (row rest : ℕ) → row < t.capacity → rest < position_words t.width t.ring → Stands (t ∷ ts) row rest (row * position_words t.width t.ring + rest)
+  first_stands : (row rest : ℕ) → row < t.capacity → rest < position_words t.width t.ring
+      → Stands (t ∷ ts) row rest (row * position_words t.width t.ring + rest)
   first_stands row rest some less =
       let size = position_words t.width t.ring in
       let within : row * size + rest < t.capacity * size = place_within row size rest t.capacity some less in
@@ -28,7 +29,10 @@ module _ (t : Table) (ts : List Table) where
         row_is = if_less _ _ _ _ within ∙ div-mul-add row size rest less;
         rest_is = if_less _ _ _ _ within ∙ mod-mul-add row size rest less;
         row_within = omega arith;
-        rest_within = rw (if_less row t.capacity t.width (width_at ts (row - t.capacity)) some, if_less row t.capacity t.ring (ring_at ts (row - t.capacity)) some) less;
+        rest_within = rw (
+          if_less row t.capacity t.width (width_at ts (row - t.capacity)) some,
+          if_less row t.capacity t.ring (ring_at ts (row - t.capacity)) some,
+        ) less;
         offset_is = ap (λ n. n + rest) (if_less row t.capacity _ _ some);
         offset_within = omega arith;
       }
@@ -45,8 +49,13 @@ module _ (t : Table) (ts : List Table) where
         row_is = if_not_less _ _ _ _ passed ∙ ap (λ o. t.capacity + row_in ts o) after ∙ ap (λ r. t.capacity + r) stands.row_is;
         rest_is = if_not_less _ _ _ _ passed ∙ ap (rest_in ts) after ∙ stands.rest_is;
         row_within = let r = stands.row_within in omega arith;
-        rest_within = rw (if_not_less _ _ t.width (width_at ts (t.capacity + row - t.capacity)) past, if_not_less _ _ t.ring (ring_at ts (t.capacity + row - t.capacity)) past, before) stands.rest_within;
-        offset_is = ap (λ n. n + rest) (if_not_less (t.capacity + row) t.capacity _ _ past ∙ ap (λ r. words + row_at ts r) before) ∙ (let o = stands.offset_is in omega arith);
+        rest_within = rw (
+          if_not_less _ _ t.width (width_at ts (t.capacity + row - t.capacity)) past,
+          if_not_less _ _ t.ring (ring_at ts (t.capacity + row - t.capacity)) past,
+          before,
+        ) stands.rest_within;
+        offset_is = ap (λ n. n + rest) (if_not_less (t.capacity + row) t.capacity _ _ past ∙ ap (λ r. words + row_at ts r) before)
+            ∙ (let o = stands.offset_is in omega arith);
         offset_within = let w = stands.offset_within in omega arith;
       }
 
@@ -55,9 +64,11 @@ at_row : (tables : List Table) (row rest offset : ℕ) → Stands tables row res
 at_row tables row rest offset stands = subst (λ o. Stands tables row rest o) (sym stands.offset_is) stands
 
 -- a word belongs to the row that its place says
-of_offset : (tables : List Table) (row rest offset : ℕ) → Stands tables row rest offset → Stands tables (row_in tables offset) (rest_in tables offset) offset
+of_offset : (tables : List Table) (row rest offset : ℕ) → Stands tables row rest offset
+    → Stands tables (row_in tables offset) (rest_in tables offset) offset
 of_offset tables row rest offset stands =
-    subst (λ r. Stands tables r (rest_in tables offset) offset) (sym stands.row_is) (subst (λ k. Stands tables row k offset) (sym stands.rest_is) stands)
+    subst (λ r. Stands tables r (rest_in tables offset) offset) (sym stands.row_is)
+    (subst (λ k. Stands tables row k offset) (sym stands.rest_is) stands)
 
 -- each word of a row's position stands among the words of the tables
 pub row_stands : (tables : List Table) (row rest : ℕ) → row < rows_in tables → rest < position_words (width_at tables row) (ring_at tables row)
@@ -66,7 +77,10 @@ row_stands [] row rest some less = absurd (omega arith)
 row_stands (t ∷ ts) row rest some less = elim (cases_lt row t.capacity) [
   | inl here ↦
       let within : rest < position_words t.width t.ring
-      = rw (if_less row t.capacity t.width (width_at ts (row - t.capacity)) here, if_less row t.capacity t.ring (ring_at ts (row - t.capacity)) here) at less in
+      = rw (
+        if_less row t.capacity t.width (width_at ts (row - t.capacity)) here,
+        if_less row t.capacity t.ring (ring_at ts (row - t.capacity)) here,
+      ) at less in
       at_row (t ∷ ts) row rest _ (first_stands t ts row rest here within)
   | inr past ↦
       let before = row - t.capacity in
@@ -83,7 +97,8 @@ offset_stands [] offset within = absurd (omega arith)
 offset_stands (t ∷ ts) offset within = elim (cases_lt offset (table_words t)) [
   | inl here ↦
       let size = position_words t.width t.ring in
-      let stands = first_stands t ts (offset / size) (offset % size) (div_below offset size t.capacity (omega arith) here) (mod_below offset size (omega arith)) in
+      let stands = first_stands t ts (offset / size) (offset % size)
+      (div_below offset size t.capacity (omega arith) here) (mod_below offset size (omega arith)) in
       of_offset (t ∷ ts) _ _ offset (subst (λ o. Stands (t ∷ ts) (offset / size) (offset % size) o) (div-add-mod' offset size) stands)
   | inr past ↦
       let before = offset - table_words t in

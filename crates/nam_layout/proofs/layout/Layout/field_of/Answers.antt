@@ -6,7 +6,8 @@ use Rattle.nam_layout.proofs.layout.Layout.field_of.Goals as goal
 
 pub field_in-requires : goal.field_in-requires
 field_in-requires c =
-    subst (IsIn c.args.address) (sym c.as_slice.ensures.value) (address_in _ _ _ _ _ c.self.invariant c.args.address c.if-address-workers-2.false c.if-address-self.true)
+    subst (IsIn c.args.address) (sym c.as_slice.ensures.value)
+    (address_in _ _ _ _ _ c.self.invariant c.args.address c.if-address-workers-2.false c.if-address-self.true)
 
 pub returns-then-address-self : goal.returns-then-address-self
 returns-then-address-self c =

@@ -3,6 +3,7 @@
 //! A report that fits its script, in its tables, widths and counts, has one text. `report_text` gives exactly that.
 #![tactic(auto)]
 
+mod arranging;
 mod attempt;
 mod audit;
 mod event;

@@ -1,0 +1,6 @@
+//! The order of a history.
+
+mod guards;
+mod levels;
+mod lines;
+

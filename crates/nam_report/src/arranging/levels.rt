@@ -57,7 +57,7 @@ pub fn snapshots_of(
     start: u64,
 ) -> Result<Vec<&Snapshot>, AllocError>
     ensures same { IfOk result (λ found. IsPermutation (snaps_in_logs logs.now) (shown found.items)) }
-    ensures rise { IfOk result (λ found. IsNonDecreasingBy (λ snap. min (sum_above start snap) (2 ^ 64 - 1)) (shown found.items)) }
+    ensures rise { IfOk result (λ found. IsNonDecreasingBy (λ snap. min (sum_above start snap.now) (2 ^ 64 - 1)) found.items) }
 {
     let mut found = Vec::new(alloc);
     for log in logs {

@@ -13,11 +13,11 @@ use Rattle.si_model.specs.History.{stamp_of}
 use Rattle.si_model.proofs.ListLemmas.{All-listed, All-from_listed, listed_map, map_listed}
 use Rattle.nam_report.specs.declared.arranging.placed.Placed.{Placed}
 use Rattle.nam_report.specs.declared.arranging.placed.LevelKey.{LevelKey}
-use Rattle.nam_report.specs.Depths.{at_depth, flat, level_key, has_guard, reach, deepest, next_depth, deepened, AreSettled, is_beside, Rises, SettledBelow}
+use Rattle.nam_report.specs.Depths.{at_depth, flat, level_key, has_guard, reach, deepest, next_depth, deepened, AreSettled, is_beside, Rises, SettledBelow, AreAcyclic}
 
 -- ---- a map over the front of a list
 
-pub mapped_front : {X : Type 0} (f : X → X) → ℕ → List X → List X
+abbrev pub mapped_front : {X : Type 0} (f : X → X) → ℕ → List X → List X
 mapped_front f zero xs = xs
 mapped_front f (suc i) [] = []
 mapped_front f (suc i) (x ∷ xs) = f x ∷ mapped_front f i xs
@@ -99,3 +99,49 @@ settled_round n ps settled number rises p l lt =
     whole a la low =
         let stays = next_stays (next_depth ps) ps a (λ q lq beside. settled number before q lq (let lower = before q a lq la beside in omega (arith, lower, low))) in
         next_is ps a ∙ stays ∙ sym (next_is (deepened ps) a)
+
+-- ---- all rounds
+
+fixed : (f : Placed → ℕ) (ps : List Placed) → ps ≡ map (λ p. at_depth (f p) p) ps → AllByRecursion (λ p. p.depth ≡ f p) ps
+fixed f [] h = tt
+fixed f (p ∷ ps) h =
+    let here : p ≡ at_depth (f p) p = cc in
+    let rest : ps ≡ map (λ p. at_depth (f p) p) ps = cc in
+    (ap (λ (q : Placed). q.depth) here, fixed f ps rest)
+
+-- a round that changes nothing ends it
+pub settled_fixed : (ps : List Placed) → ps ≡ deepened ps → AreSettled ps
+settled_fixed ps h = fixed (next_depth ps) ps h
+
+-- commits that differ in depth alone stand so to each other
+same_flat : (ps qs : List Placed) → map flat qs ≡ map flat ps → (q : Placed) → Listed q qs → (p : Placed) × Listed p ps × (flat p ≡ flat q)
+same_flat ps qs same q l = map_listed flat ps (flat q) (subst (Listed (flat q)) same (listed_map flat qs q l))
+
+pub rises_flat : (number : Stamp → ℕ) (ps qs : List Placed) → map flat qs ≡ map flat ps → Rises number ps → Rises number qs
+rises_flat number ps qs same rises a b la lb beside =
+    let x = same_flat ps qs same a la in
+    let y = same_flat ps qs same b lb in
+    let beside' : is_beside x.0 y.0 ≡ true = ap (λ (z : Placed). is_beside z (flat y.0)) x.2 ∙ ap (λ (z : Placed). is_beside (flat a) z) y.2 ∙ beside in
+    let lt = rises x.0 y.0 x.1 y.1 beside' in
+    omega (arith, lt, ap (λ (z : Placed). number (stamp_of z.line)) x.2, ap (λ (z : Placed). number (stamp_of z.line)) y.2)
+
+-- after as many rounds as commits all are settled
+pub settled_all : (n : ℕ) (ps qs : List Placed) → map flat qs ≡ map flat ps → AreAcyclic n ps → SettledBelow n qs → AreSettled qs
+settled_all n ps qs same acyclic settled =
+    All-from_listed (λ q. q.depth ≡ next_depth qs q) qs (λ q l.
+    let x = same_flat ps qs same q l in
+    let low = acyclic.below x.0 x.1 in
+    settled acyclic.number (rises_flat acyclic.number ps qs same acyclic.rises) q l (omega (arith, low, ap (λ (z : Placed). acyclic.number (stamp_of z.line)) x.2)))
+
+-- ---- a map over the front, place by place
+
+pub front_more : {X : Type 0} (f : X → X) (xs : List X) (i : ℕ) (d : X) → i < length xs → set (mapped_front f i xs) i (f (get_or (mapped_front f i xs) i d)) ≡ mapped_front f (i + 1) xs
+front_more f [] i d h = absurd (omega arith)
+front_more f (x ∷ xs) zero d h = refl
+front_more f (x ∷ xs) (suc i) d h = let e : suc i + 1 ≡ suc (i + 1) = omega arith in rw e (ap (λ ys. f x ∷ ys) (front_more f xs i d (omega arith)))
+
+pub front_all : {X : Type 0} (f : X → X) (xs : List X) (n : ℕ) → length xs ≤ n → mapped_front f n xs ≡ map f xs
+front_all f [] zero h = refl
+front_all f [] (suc n) h = refl
+front_all f (x ∷ xs) zero h = absurd (omega arith)
+front_all f (x ∷ xs) (suc n) h = ap (λ ys. f x ∷ ys) (front_all f xs n (omega arith))

@@ -1,1 +1,7 @@
 pub mod FitsLemmas
+mod LevelLemmas
+mod DepthLemmas
+mod OrderLemmas
+mod LineLemmas
+mod PublishedLemmas
+mod ArrangedLemmas

@@ -1,5 +1,5 @@
 -- The depths of placed commits, and how they settle.
-use Rattle.std.specs.Prelude.{ℕ, suc, ◌-◌, ◌<◌, ◌≤◌, ◌≡◌, ◌==◌, ◌&&◌, max, Bool, IsTrue, if◌then◌else◌, List, [], ◌∷◌, map, slice_index_or, unwrap_or}
+use Rattle.std.specs.Prelude.{ℕ, suc, ◌-◌, ◌<◌, ◌≤◌, ◌≡◌, ◌==◌, ◌&&◌, ◌⊎◌, max, Bool, IsTrue, if◌then◌else◌, List, [], ◌∷◌, map, slice_index_or, unwrap_or, IsPermutation}
 use Rattle.std.specs.List.{list_any, AllByRecursion}
 use Rattle.std.specs.declared.cmp.Ordering.{Ordering}
 use Rattle.std.specs.Ordering.{nat_cmp, ordering_then}
@@ -9,7 +9,7 @@ use Rattle.si_model.specs.declared.row.Item.{Item}
 use Rattle.si_model.specs.declared.op.Op.{Op}
 use Rattle.si_model.specs.declared.log.Stamp.{Stamp}
 use Rattle.si_model.specs.declared.report.CommitLine.{CommitLine}
-use Rattle.si_model.specs.Lists.{Listed}
+use Rattle.si_model.specs.Lists.{Listed, Pairwise}
 use Rattle.si_model.specs.Rows.{same_key, item_key, writes_key}
 use Rattle.si_model.specs.Evaluation.{guard_keys}
 use Rattle.si_model.specs.History.{stamp_of, same_stamp}
@@ -93,3 +93,21 @@ pub record AreAcyclic (n : ℕ) (ps : List Placed) : Type 0 where
 abbrev pub depth_in : List Placed → Stamp → ℕ
 depth_in [] s = 0
 depth_in (p ∷ ps) s = if same_stamp (stamp_of p.line) s then p.depth else depth_in ps s
+
+-- the first commit stands before the second by level, depth, worker and number, or is at its place
+abbrev pub NotAfter : Placed → Placed → Type 0
+NotAfter a b =
+    (a.level < b.level)
+    ⊎ ((a.level ≡ b.level)
+    × ((a.depth < b.depth)
+    ⊎ ((a.depth ≡ b.depth) × ((a.line.worker < b.line.worker) ⊎ ((a.line.worker ≡ b.line.worker) × (a.line.number ≤ b.line.number))))))
+
+abbrev pub line_of : Placed → CommitLine
+line_of p = p.line
+
+-- the entries are those of the commits, in order
+pub record AreOrdered (ps : List Placed) (entries : List CommitLine) : Type 0 where
+  pub commits : List Placed
+  pub same : IsPermutation ps commits
+  pub ordered : Pairwise NotAfter commits
+  pub entries_are : map line_of commits ≡ entries

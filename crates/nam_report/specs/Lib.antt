@@ -1,3 +1,4 @@
 pub mod Text
 pub mod Fits
 pub mod Lines
+pub mod Depths

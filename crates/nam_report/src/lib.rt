@@ -1,6 +1,7 @@
-//! The text of a report.
+//! The history of closed logs, and the text of a report.
 //!
-//! A report that fits its script, in its tables, widths and counts, has one text. `report_text` gives exactly that.
+//! `arrange` puts the commits that consistent logs list into the order of a history. A report that fits its script, in
+//! its tables, widths and counts, has one text. `report_text` gives exactly that.
 #![tactic(auto)]
 
 mod arranging;
@@ -14,4 +15,5 @@ mod report;
 #[cfg(test)]
 mod tests;
 
+pub use arranging::arrange;
 pub use report::report_text;

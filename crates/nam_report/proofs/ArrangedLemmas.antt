@@ -61,12 +61,12 @@ chained start tss order ss same rise few = record {
   ordered =
       Pairwise-weaker (λ x. Listed x (snaps_by tss)) (λ x y. min (sum_above start x) (2 ^ 64 - 1) ≤ min (sum_above start y) (2 ^ 64 - 1)) AreAtMost
       (λ x y lx ly le. at_most_by_sum start x y tss (order.within x lx) (order.within y ly) (order.ordered x y lx ly)
-          (let a = sum_within start 1 x tss order.owned (order.within x lx) in
-          let b = sum_within start 1 y tss order.owned (order.within y ly) in
-          omega (arith, le, a, b, few)))
+      (let a = sum_within start 1 x tss order.owned (order.within x lx) in
+      let b = sum_within start 1 y tss order.owned (order.within y ly) in
+      omega (arith, le, a, b, few)))
       (shown ss) listed
       (Pairwise-map (λ (s : Bor (List ℕ)). s.now) (λ x y. min (sum_above start x) (2 ^ 64 - 1) ≤ min (sum_above start y) (2 ^ 64 - 1)) ss
-          (Pairwise-from_near (λ (x y : Bor (List ℕ)). min (sum_above start x.now) (2 ^ 64 - 1) ≤ min (sum_above start y.now) (2 ^ 64 - 1)) (λ x y z h k. omega (arith, h, k)) ss (λ k d lt. rise k (k + 1) d (omega arith) lt)));
+      (Pairwise-from_near (λ (x y : Bor (List ℕ)). min (sum_above start x.now) (2 ^ 64 - 1) ≤ min (sum_above start y.now) (2 ^ 64 - 1)) (λ x y z h k. omega (arith, h, k)) ss (λ k d lt. rise k (k + 1) d (omega arith) lt)));
   most = All-from_listed (λ snap. sum_above start snap ≤ suc (length (published_by tss))) (shown ss) (λ x l.
       let a = sum_within start 1 x tss order.owned (order.within x (listed x l)) in omega (arith, a));
 }
@@ -128,10 +128,13 @@ strict : (level depth : Stamp → ℕ) (a b : Placed) → level (stamp_of a.line
     → NotAfter a b → AreApart a b → Precedes level depth a.line b.line
 strict level depth a b la lb da db h apart = elim h [
   | inl p ↦ inl (omega (arith, la, lb, p))
-  | inr p ↦ inr (la ∙ p.0 ∙ sym lb, elim p.1 [
+  | inr p ↦ inr (
+    la ∙ p.0 ∙ sym lb,
+    elim p.1 [
       | inl q ↦ inl (omega (arith, da, db, q))
       | inr q ↦ inr (da ∙ q.0 ∙ sym db, elim q.1 [ inl w ↦ inl w | inr w ↦ inr (w.0, less w.0 w.1) ])
-    ])
+    ],
+  )
 ]
   where
     less : a.line.worker ≡ b.line.worker → a.line.number ≤ b.line.number → a.line.number < b.line.number
@@ -235,8 +238,8 @@ module _ (start : ℕ) (jobs : List (List Op)) (logs : List Log) (can : CanBeArr
       depths = depths settled;
       ordered = subst (Pairwise (Precedes level (depth_in ps))) ordered.entries_are
           (Pairwise-map line_of (Precedes level (depth_in ps)) ordered.commits
-              (Pairwise-weaker (λ q. Listed q ps) (λ a b. NotAfter a b × AreApart a b) (λ a b. Precedes level (depth_in ps) a.line b.line)
-                  (λ a b la lb h. strict level (depth_in ps) a b (has_level a la) (has_level b lb) (depth_is ps apart a la) (depth_is ps apart b lb) h.0 h.1)
-                  ordered.commits (λ q l. listed_permutation ordered.commits ps q (IsPermutation-sym ps ordered.commits ordered.same) l)
-                  (Pairwise-both NotAfter AreApart ordered.commits ordered.ordered (apart_sorted ordered.commits ordered.same))));
+          (Pairwise-weaker (λ q. Listed q ps) (λ a b. NotAfter a b × AreApart a b) (λ a b. Precedes level (depth_in ps) a.line b.line)
+          (λ a b la lb h. strict level (depth_in ps) a b (has_level a la) (has_level b lb) (depth_is ps apart a la) (depth_is ps apart b lb) h.0 h.1)
+          ordered.commits (λ q l. listed_permutation ordered.commits ps q (IsPermutation-sym ps ordered.commits ordered.same) l)
+          (Pairwise-both NotAfter AreApart ordered.commits ordered.ordered (apart_sorted ordered.commits ordered.same))));
     }

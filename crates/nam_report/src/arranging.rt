@@ -6,7 +6,6 @@ ghost use Rattle.si_model.specs.Tells.{CountsFit, tells_of};
 ghost use Rattle.si_model.specs.Consistency.{CanBeArranged};
 ghost use Rattle.si_model.specs.Arranged.{IsArranged};
 
-
 mod depths;
 mod guards;
 mod levels;

@@ -21,11 +21,7 @@ fn reach_at(reached: &BTreeMap<LevelKey, u64>, key: LevelKey) -> u64
 }
 
 /// Raises what is said of a key at a level.
-fn raise(
-    reached: &mut BTreeMap<LevelKey, u64>,
-    key: LevelKey,
-    reach: u64,
-) -> Result<(), AllocError>
+fn raise(reached: &mut BTreeMap<LevelKey, u64>, key: LevelKey, reach: u64) -> Result<(), AllocError>
     ensures { OnOk result ((k : LevelKey) → reach_in reached.new k ≡ max (if same_level_key key k then reach else 0) (reach_in reached.old k)) }
 {
     if reach_at(reached, key) < reach {
@@ -56,7 +52,12 @@ fn reached_by(alloc: Global, placed: &[Placed]) -> Result<BTreeMap<LevelKey, u64
 {
     let mut reached = BTreeMap::new(alloc);
     for commit in placed {
-        raise_guards(&mut reached, commit.level, commit.guards.as_slice(), commit.depth + 1)?;
+        raise_guards(
+            &mut reached,
+            commit.level,
+            commit.guards.as_slice(),
+            commit.depth + 1,
+        )?;
     }
     Ok(reached)
 }

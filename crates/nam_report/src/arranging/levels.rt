@@ -51,11 +51,7 @@ fn add_snapshots<'a>(
 }
 
 /// References to the snapshots that the logs list, those of fewer commits first.
-pub fn snapshots_of(
-    alloc: Global,
-    logs: &[Log],
-    start: u64,
-) -> Result<Vec<&Snapshot>, AllocError>
+pub fn snapshots_of(alloc: Global, logs: &[Log], start: u64) -> Result<Vec<&Snapshot>, AllocError>
     ensures same { IfOk result (λ found. IsPermutation (snaps_in_logs logs.now) (shown found.items)) }
     ensures rise { IfOk result (λ found. IsNonDecreasingBy (λ snap. min (sum_above start snap.now) (2 ^ 64 - 1)) found.items) }
 {

@@ -1,6 +1,6 @@
 -- Sorted commits of settled depths are an arranged history.
-use Rattle.std.proofs.Common.{◌≡◌, ℕ, zero, suc, ◌+◌, ◌-◌, ◌^◌, ◌<◌, ◌≤◌, min, max, Bool, true, false, cond, ◌⊎◌, inl, inr, List, [], ◌∷◌, length, get_or, map, refl, ap, sym, ◌∙◌, subst, arith, ◌&&◌, ◌==◌, Bor}
-use Rattle.std.specs.Prelude.{IsTrue, IsPermutation, filter}
+use Rattle.std.proofs.Common.{◌≡◌, ℕ, suc, ◌+◌, ◌-◌, ◌^◌, ◌<◌, ◌≤◌, min, max, Bool, true, false, cond, inl, inr, List, [], ◌∷◌, length, map, refl, ap, sym, ◌∙◌, subst, arith, ◌&&◌, ◌==◌, Bor}
+use Rattle.std.specs.Prelude.{IsPermutation, filter}
 use Rattle.std.specs.List.{AllByRecursion, IsDistinct, list_any}
 use Rattle.std.specs.List.Sorted.{IsNonDecreasingBy}
 use Rattle.std.proofs.Math.Path.{fun_ext}
@@ -31,7 +31,7 @@ use Rattle.nam_report.specs.Lines.{lines_by, shown, AreChained}
 use Rattle.nam_report.specs.Depths.{HasJob, placed_with, at_depth, flat, next_depth, AreSettled, is_beside, AreAcyclic, depth_in, NotAfter, line_of, AreOrdered}
 use Rattle.nam_report.proofs.LineLemmas.{lines_by_told}
 use Rattle.nam_report.proofs.DepthLemmas.{next_by, next_is}
-use Rattle.nam_report.proofs.PublishedLemmas.{HasOps, ops_from, sum_within, Apart, apart_from, distinct_from_pairs, pairs_from_distinct}
+use Rattle.nam_report.proofs.PublishedLemmas.{HasOps, ops_from, sum_within, apart_from, distinct_from_pairs, pairs_from_distinct}
 
 -- ---- levels
 
@@ -55,7 +55,8 @@ level_permuted start top xs ys h = fun_ext (λ s.
     omega (arith, below, above))
 
 -- snapshots by rising sums are a chain
-pub chained : (start : ℕ) (tss : List (List Tell)) → HaveOrder start tss → (ss : List (Bor (List ℕ))) → IsPermutation (snaps_by tss) (shown ss) → IsNonDecreasingBy (λ (s : Bor (List ℕ)). min (sum_above start s.now) (2 ^ 64 - 1)) ss
+pub chained : (start : ℕ) (tss : List (List Tell)) → HaveOrder start tss → (ss : List (Bor (List ℕ)))
+    → IsPermutation (snaps_by tss) (shown ss) → IsNonDecreasingBy (λ (s : Bor (List ℕ)). min (sum_above start s.now) (2 ^ 64 - 1)) ss
     → length (published_by tss) < 2 ^ 64 → AreChained start (suc (length (published_by tss))) (shown ss)
 chained start tss order ss same rise few = record {
   ordered =
@@ -83,20 +84,23 @@ told level depth jobs c = at_depth (depth (stamp_of c.line)) (placed_with level 
 beside_told : (level : Stamp → ℕ) (jobs : List (List Op)) (c d : Published) → HasOps jobs c → is_beside (placed_with level jobs c.line) (placed_with level jobs d.line) ≡ guards_beside level c d
 beside_told level jobs c d ops = ap (λ os. (level (stamp_of c.line) == level (stamp_of d.line)) && list_any (λ key. writes_key d.line.writes key) (guard_keys os)) (sym ops)
 
-pick : (depth : Stamp → ℕ) (d : Published) (ds : List Published) (n : ℕ) (a b : Bool) → a ≡ b → n ≡ above_all depth ds → max (cond a (suc (depth (stamp_of d.line))) 0) n ≡ above_all depth (cond b (d ∷ ds) ds)
+pick : (depth : Stamp → ℕ) (d : Published) (ds : List Published) (n : ℕ) (a b : Bool) → a ≡ b
+    → n ≡ above_all depth ds → max (cond a (suc (depth (stamp_of d.line))) 0) n ≡ above_all depth (cond b (d ∷ ds) ds)
 pick depth d ds n true true e h = omega (arith, h)
 pick depth d ds n true false e h = absurd (true≢false e)
 pick depth d ds n false true e h = absurd (false≢true e)
 pick depth d ds n false false e h = omega (arith, h)
 
-next_told : (level depth : Stamp → ℕ) (jobs : List (List Op)) (c : Published) (cs : List Published) → AllByRecursion (HasOps jobs) cs → next_by (map (told level depth jobs) cs) (told level depth jobs c) ≡ above_all depth (filter (λ d. guards_beside level d c) cs)
+next_told : (level depth : Stamp → ℕ) (jobs : List (List Op)) (c : Published) (cs : List Published) → AllByRecursion (HasOps jobs) cs
+    → next_by (map (told level depth jobs) cs) (told level depth jobs c) ≡ above_all depth (filter (λ d. guards_beside level d c) cs)
 next_told level depth jobs c [] ops = refl
 next_told level depth jobs c (d ∷ cs) ops =
     pick depth d (filter (λ d. guards_beside level d c) cs) (next_by (map (told level depth jobs) cs) (told level depth jobs c)) (is_beside (told level depth jobs d) (told level depth jobs c)) (guards_beside level d c)
     (beside_told level jobs d c ops.0) (next_told level depth jobs c cs ops.1)
 
 -- commits are told where their depths are those of their stamps
-regain : (level depth : Stamp → ℕ) (jobs : List (List Op)) (ps : List Placed) (cs : List Published) → map flat ps ≡ map (λ c. placed_with level jobs c.line) cs → ((p : Placed) → Listed p ps → depth (stamp_of p.line) ≡ p.depth) → ps ≡ map (told level depth jobs) cs
+regain : (level depth : Stamp → ℕ) (jobs : List (List Op)) (ps : List Placed) (cs : List Published) → map flat ps ≡ map (λ c. placed_with level jobs c.line) cs
+    → ((p : Placed) → Listed p ps → depth (stamp_of p.line) ≡ p.depth) → ps ≡ map (told level depth jobs) cs
 regain level depth jobs [] [] e h = refl
 regain level depth jobs [] (c ∷ cs) e h = cc
 regain level depth jobs (p ∷ ps) [] e h = cc
@@ -181,7 +185,8 @@ module _ (start : ℕ) (jobs : List (List Op)) (logs : List Log) (can : CanBeArr
     rises = λ p q lp lq beside.
         let c = commit_of p lp in
         let d = commit_of q lq in
-        let b : is_beside (placed_with level jobs c.0.line) (placed_with level jobs d.0.line) ≡ true = ap (λ (z : Placed). is_beside z (placed_with level jobs d.0.line)) c.2 ∙ ap (λ (z : Placed). is_beside p z) d.2 ∙ beside in
+        let b : is_beside (placed_with level jobs c.0.line) (placed_with level jobs d.0.line) ≡ true =
+        ap (λ (z : Placed). is_beside z (placed_with level jobs d.0.line)) c.2 ∙ ap (λ (z : Placed). is_beside p z) d.2 ∙ beside in
         let lt = can.no_circle.rises c.0 d.0 c.1 d.1 (sym (beside_told level jobs c.0 d.0 (All-listed (HasOps jobs) cs c.0 (ops_from jobs 1 logs) c.1)) ∙ b) in
         omega (arith, lt, ap (λ (z : Placed). can.no_circle.place (stamp_of z.line)) c.2, ap (λ (z : Placed). can.no_circle.place (stamp_of z.line)) d.2);
   }
@@ -206,7 +211,8 @@ module _ (start : ℕ) (jobs : List (List Op)) (logs : List Log) (can : CanBeArr
 
     apart : Pairwise AreApart ps
     apart =
-        let by_entry : Pairwise (λ (a b : CommitLine). same_stamp (stamp_of a) (stamp_of b) ≡ false) (map entry_of cs) = Pairwise-map entry_of (λ (a b : CommitLine). same_stamp (stamp_of a) (stamp_of b) ≡ false) cs (apart_from start 1 (map (tells_of jobs) logs) can.order.owned) in
+        let by_entry : Pairwise (λ (a b : CommitLine). same_stamp (stamp_of a) (stamp_of b) ≡ false) (map entry_of cs) =
+        Pairwise-map entry_of (λ (a b : CommitLine). same_stamp (stamp_of a) (stamp_of b) ≡ false) cs (apart_from start 1 (map (tells_of jobs) logs) can.order.owned) in
         Pairwise-unmap line_of (λ (a b : CommitLine). same_stamp (stamp_of a) (stamp_of b) ≡ false) ps (subst (Pairwise (λ (a b : CommitLine). same_stamp (stamp_of a) (stamp_of b) ≡ false)) (sym lines) by_entry)
 
     are_told : ps ≡ map (told level (depth_in ps) jobs) cs

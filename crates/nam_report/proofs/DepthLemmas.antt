@@ -1,8 +1,7 @@
 -- Depths that settle round by round.
-use Rattle.std.proofs.Common.{◌≡◌, ℕ, zero, suc, ◌+◌, ◌-◌, ◌<◌, ◌≤◌, max, Bool, true, false, cond, not, ◌⊎◌, inl, inr, List, [], ◌∷◌, ◌++◌, length, get_or, set, take, drop, map, refl, ap, sym, ◌∙◌, subst, arith, ◌&&◌, ◌||◌, ◌==◌}
-use Rattle.std.specs.Prelude.{IsTrue}
+use Rattle.std.proofs.Common.{◌≡◌, ℕ, zero, suc, ◌+◌, ◌<◌, ◌≤◌, max, true, false, cond, inl, inr, List, [], ◌∷◌, length, get_or, set, map, refl, ap, sym, ◌∙◌, subst, arith, ◌&&◌, ◌||◌, ◌==◌}
 use Rattle.std.specs.List.{AllByRecursion, list_any}
-use Rattle.std.proofs.lemmas.Bool.{cond_both, false≢true, true≢false, cases_Bool, false_from_ne_true}
+use Rattle.std.proofs.lemmas.Bool.{cond_both, cases_Bool}
 use Rattle.std.proofs.lemmas.Bool.Decides.{nat_tests}
 use Rattle.si_model.specs.declared.row.Key.{Key}
 use Rattle.si_model.specs.declared.row.Item.{Item}
@@ -10,10 +9,10 @@ use Rattle.si_model.specs.declared.log.Stamp.{Stamp}
 use Rattle.si_model.specs.Lists.{Listed}
 use Rattle.si_model.specs.Rows.{same_key, item_key, writes_key}
 use Rattle.si_model.specs.History.{stamp_of}
-use Rattle.si_model.proofs.ListLemmas.{All-listed, All-from_listed, listed_map, map_listed}
+use Rattle.si_model.proofs.ListLemmas.{All-from_listed, listed_map, map_listed}
 use Rattle.nam_report.specs.declared.arranging.placed.Placed.{Placed}
 use Rattle.nam_report.specs.declared.arranging.placed.LevelKey.{LevelKey}
-use Rattle.nam_report.specs.Depths.{at_depth, flat, level_key, has_guard, reach, deepest, next_depth, deepened, AreSettled, is_beside, Rises, SettledBelow, AreAcyclic}
+use Rattle.nam_report.specs.Depths.{at_depth, flat, has_guard, reach, deepest, next_depth, deepened, AreSettled, is_beside, Rises, SettledBelow, AreAcyclic}
 
 -- ---- a map over the front of a list
 
@@ -37,7 +36,8 @@ deepest-none : (level : ℕ) (ws : List Item) → deepest (λ k. 0) level ws ≡
 deepest-none level [] = refl
 deepest-none level (w ∷ ws) = let rest = deepest-none level ws in omega (arith, rest)
 
-any-or : (w : Item) (ws : List Item) (guards : List Key) → list_any (λ key. writes_key (w ∷ ws) key) guards ≡ (list_any (λ key. same_key key (item_key w)) guards || list_any (λ key. writes_key ws key) guards)
+any-or : (w : Item) (ws : List Item) (guards : List Key)
+    → list_any (λ key. writes_key (w ∷ ws) key) guards ≡ (list_any (λ key. same_key key (item_key w)) guards || list_any (λ key. writes_key ws key) guards)
 any-or w ws [] = refl
 any-or w ws (g ∷ gs) = let rest = any-or w ws gs in grind (arith, nat_tests)
 

@@ -1,8 +1,8 @@
 -- The level of a stamp in a chain of snapshots.
-use Rattle.std.proofs.Common.{◌≡◌, ℕ, zero, suc, ◌+◌, ◌<◌, ◌≤◌, min, Bool, true, false, cond, not, ◌⊎◌, inl, inr, List, [], ◌∷◌, length, get_or, map, refl, ap, sym, ◌∙◌, subst, arith, Bor}
+use Rattle.std.proofs.Common.{◌≡◌, ℕ, zero, suc, ◌<◌, ◌≤◌, min, Bool, true, false, not, inl, inr, List, [], ◌∷◌, length, get_or, refl, sym, subst, arith, Bor}
 use Rattle.std.specs.List.{AllByRecursion}
-use Rattle.std.specs.List.Sorted.{IsPartitionedBy, IsNonDecreasingBy}
-use Rattle.std.proofs.lemmas.Bool.{cond_both, false≢true, true≢false, cases_Bool, false_from_ne_true, cases_lt}
+use Rattle.std.specs.List.Sorted.{IsPartitionedBy}
+use Rattle.std.proofs.lemmas.Bool.{cond_both, false≢true, true≢false, cases_lt}
 use Rattle.si_model.specs.declared.log.Stamp.{Stamp}
 use Rattle.si_model.specs.Lists.{Listed, Pairwise}
 use Rattle.si_model.specs.Snapshots.{contains, sum_above}
@@ -30,7 +30,8 @@ pub partitioned : (s : Stamp) (ss : List (Bor (List ℕ))) → Pairwise AreAtMos
 partitioned s ss chain i j d le within fails =
     elim (cases_lt i j) [
       | inl lt ↦
-          let most : AreAtMost (get_or ss i d).now (get_or ss j d).now = Pairwise-at (λ x y. AreAtMost x.now y.now) ss i j d (Pairwise-unmap (λ (x : Bor (List ℕ)). x.now) AreAtMost ss chain) lt within in
+          let most : AreAtMost (get_or ss i d).now (get_or ss j d).now =
+          Pairwise-at (λ x y. AreAtMost x.now y.now) ss i j d (Pairwise-unmap (λ (x : Bor (List ℕ)). x.now) AreAtMost ss chain) lt within in
           negated (contains (get_or ss i d).now s) (contains (get_or ss j d).now s) (contains_at_most (get_or ss i d).now (get_or ss j d).now s most) fails
       | inr ge ↦ let same : i ≡ j = omega arith in subst (λ k. not (contains (get_or ss k d).now s) ≡ true) (sym same) fails
     ]
@@ -58,7 +59,8 @@ level_found start top s (x ∷ ss) chain (suc i) d within below here =
     rw (below 0 (omega arith)) (level_found start top s ss (record { ordered = chain.ordered.1; most = chain.most.1 }) i d (omega arith) (λ k lt. below (suc k) (omega arith)) here)
 
 -- and where none does the level is the top
-pub level_none : (start top : ℕ) (s : Stamp) (ss : List (Bor (List ℕ))) → ((k : ℕ) (d : Bor (List ℕ)) → k < length ss → contains (get_or ss k d).now s ≡ false) → level_from start top (shown ss) s ≡ top
+pub level_none : (start top : ℕ) (s : Stamp) (ss : List (Bor (List ℕ)))
+    → ((k : ℕ) (d : Bor (List ℕ)) → k < length ss → contains (get_or ss k d).now s ≡ false) → level_from start top (shown ss) s ≡ top
 level_none start top s [] below = refl
 level_none start top s (x ∷ ss) below = rw (below 0 x (omega arith)) (level_none start top s ss (λ k d lt. below (suc k) d (omega arith)))
 

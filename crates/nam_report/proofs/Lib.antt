@@ -5,3 +5,5 @@ mod OrderLemmas
 mod LineLemmas
 mod PublishedLemmas
 mod ArrangedLemmas
+mod ArrangedExamples
+mod SizedExamples

@@ -1,5 +1,5 @@
 -- The entries and snapshots read off the flat lists are those that the logs tell.
-use Rattle.std.proofs.Common.{◌≡◌, ℕ, suc, ◌+◌, ◌-◌, ◌<◌, ◌≤◌, List, [], ◌∷◌, ◌++◌, length, get_or, take, drop, map, refl, ap, sym, ◌∙◌, subst, arith, Option, Some, None, inl, inr}
+use Rattle.std.proofs.Common.{◌≡◌, ℕ, suc, ◌+◌, List, [], ◌∷◌, ◌++◌, length, get_or, take, drop, map, refl, ap, sym, ◌∙◌, arith, Option, Some, inl, inr}
 use Rattle.std.specs.Prelude.{is_some}
 use Rattle.std.specs.List.{AllByRecursion}
 use Rattle.std.proofs.lemmas.List.{map-append, nil_from_length}
@@ -9,9 +9,9 @@ use Rattle.si_model.specs.declared.op.Op.{Op}
 use Rattle.si_model.specs.declared.log.Lock.{Lock}
 use Rattle.si_model.specs.declared.log.Attempt.{Attempt}
 use Rattle.si_model.specs.declared.log.Outcome.{Outcome}
-use Rattle.si_model.specs.declared.log.Outcome.TheVariants.{Commit, ReadOnly, Declined, NoSpace, Spent, Again, Locked, Newer, TooOld, Full, Cut, Left}
+use Rattle.si_model.specs.declared.log.Outcome.TheVariants.{Commit}
 use Rattle.si_model.specs.declared.log.Event.{Event}
-use Rattle.si_model.specs.declared.log.Event.TheVariants.{Tried, NoRoom, Moved, Collected, CollectAgain, CollectCut, TidyCut, TailCut, Finished}
+use Rattle.si_model.specs.declared.log.Event.TheVariants.{Tried}
 use Rattle.si_model.specs.declared.log.Log.{Log}
 use Rattle.si_model.specs.Tells.{Tell, tells_from, tells_of, ops_in, reads_in, locks_in, writes_in, snaps_in, total, prefix_in, CountsFit}
 use Rattle.si_model.specs.Commits.{entry_of, published_in, published_at, published_of, published_from, snaps_of, snaps_by}
@@ -25,7 +25,8 @@ line_told : (j : ℕ) (t : Tell) (e : Event) → map entry_of (published_at j t 
 line_told j t (Tried a) = line_in_told j t a a.prefix a.outcome
 line_told j t e = refl
 
-lines_told : (j : ℕ) (jobs : List (List Op)) (es : List Event) (rs : List Item) (ls : List Lock) (ws : List Item) (ss : List (List ℕ)) → map entry_of (published_of j (tells_from jobs es rs ls ws ss)) ≡ lines_from j es ws
+lines_told : (j : ℕ) (jobs : List (List Op)) (es : List Event) (rs : List Item) (ls : List Lock) (ws : List Item) (ss : List (List ℕ))
+    → map entry_of (published_of j (tells_from jobs es rs ls ws ss)) ≡ lines_from j es ws
 lines_told j jobs [] rs ls ws ss = refl
 lines_told j jobs (e ∷ es) rs ls ws ss =
     let t : Tell = record { event = e; ops = ops_in jobs e; reads = take (reads_in e) rs; locks = take (locks_in e) ls; writes = take (writes_in e) ws; snap = get_or (take (snaps_in e) ss) 0 [] } in
@@ -46,7 +47,8 @@ one_snap : (ss : List (List ℕ)) (n : ℕ) → 1 + n ≡ length ss → (x : Lis
 one_snap [] n h = absurd (omega arith)
 one_snap (x ∷ rest) n h = (x, rest, refl, omega arith)
 
-snaps_flat : (jobs : List (List Op)) (es : List Event) (rs : List Item) (ls : List Lock) (ws : List Item) (ss : List (List ℕ)) → total snaps_in es ≡ length ss → snaps_of (tells_from jobs es rs ls ws ss) ≡ ss
+snaps_flat : (jobs : List (List Op)) (es : List Event) (rs : List Item) (ls : List Lock) (ws : List Item) (ss : List (List ℕ))
+    → total snaps_in es ≡ length ss → snaps_of (tells_from jobs es rs ls ws ss) ≡ ss
 snaps_flat jobs [] rs ls ws ss h = sym (nil_from_length ss (sym h))
 snaps_flat jobs (e ∷ es) rs ls ws ss h =
     elim (cases_Bool (is_some (prefix_in e))) [

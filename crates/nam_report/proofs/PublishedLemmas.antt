@@ -1,20 +1,18 @@
 -- Published commits: their workers, numbers and operations, and how many a snapshot has.
-use Rattle.std.proofs.Common.{◌≡◌, ◌≢◌, ℕ, zero, suc, ◌+◌, ◌-◌, ◌<◌, ◌≤◌, Bool, true, false, ◌⊎◌, inl, inr, List, [], ◌∷◌, ◌++◌, length, get_or, take, drop, map, refl, ap, sym, ◌∙◌, subst, arith, Option, Some, None}
+use Rattle.std.proofs.Common.{◌≡◌, ℕ, suc, ◌+◌, ◌-◌, ◌<◌, ◌≤◌, Bool, false, inl, inr, List, [], ◌∷◌, ◌++◌, length, get_or, take, drop, map, refl, ap, arith, Option, Some, None}
 use Rattle.std.specs.Prelude.{is_some, unwrap_or, IsTrue, slice_index_or}
 use Rattle.std.specs.List.{AllByRecursion, IsDistinct}
 use Rattle.std.proofs.lemmas.List.{length-append}
 use Rattle.std.proofs.lemmas.Bool.{false≢true}
 use Rattle.std.proofs.lemmas.Bool.Decides.{nat_tests}
-use Rattle.std.proofs.lemmas.Map.Keys.{IsDistinct-cons, IsDistinct-head, IsDistinct-tail}
 use Rattle.si_model.specs.declared.row.Item.{Item}
 use Rattle.si_model.specs.declared.op.Op.{Op}
 use Rattle.si_model.specs.declared.log.Lock.{Lock}
-use Rattle.si_model.specs.declared.log.Stamp.{Stamp}
 use Rattle.si_model.specs.declared.log.Attempt.{Attempt}
 use Rattle.si_model.specs.declared.log.Outcome.{Outcome}
-use Rattle.si_model.specs.declared.log.Outcome.TheVariants.{Commit, ReadOnly, Declined, NoSpace, Spent, Again, Locked, Newer, TooOld, Full, Cut, Left}
+use Rattle.si_model.specs.declared.log.Outcome.TheVariants.{Commit}
 use Rattle.si_model.specs.declared.log.Event.{Event}
-use Rattle.si_model.specs.declared.log.Event.TheVariants.{Tried, NoRoom, Moved, Collected, CollectAgain, CollectCut, TidyCut, TailCut, Finished}
+use Rattle.si_model.specs.declared.log.Event.TheVariants.{Tried}
 use Rattle.si_model.specs.declared.log.Log.{Log}
 use Rattle.si_model.specs.Lists.{Listed, Pairwise}
 use Rattle.si_model.specs.History.{stamp_of, same_stamp}
@@ -22,7 +20,7 @@ use Rattle.si_model.specs.Tells.{Tell, tells_from, tells_of, ops_in, reads_in, l
 use Rattle.si_model.specs.Commits.{Published, published_in, published_at, published_of, published_from}
 use Rattle.si_model.specs.Snapshots.{sum_above}
 use Rattle.si_model.specs.Consistency.{OwnsSnapshot, NumbersFollow, AreOwned, IsWithin}
-use Rattle.si_model.proofs.ListLemmas.{All-listed, All-from_listed, All-append, Pairwise-map}
+use Rattle.si_model.proofs.ListLemmas.{All-listed, All-from_listed, All-append}
 
 -- ---- the worker
 
@@ -50,7 +48,8 @@ worker_from j (ts ∷ tss) =
 abbrev pub HasOps : List (List Op) → Published → Type 0
 HasOps jobs c = c.ops ≡ slice_index_or jobs (c.line.txn - 1) []
 
-ops_in_attempt : (jobs : List (List Op)) (j : ℕ) (t : Tell) (a : Attempt) (p : Option ℕ) (o : Outcome) → t.ops ≡ slice_index_or jobs (a.txn - 1) [] → AllByRecursion (HasOps jobs) (published_in j t a p o)
+ops_in_attempt : (jobs : List (List Op)) (j : ℕ) (t : Tell) (a : Attempt) (p : Option ℕ) (o : Outcome)
+    → t.ops ≡ slice_index_or jobs (a.txn - 1) [] → AllByRecursion (HasOps jobs) (published_in j t a p o)
 ops_in_attempt jobs j t a (Some p) (Commit n) h = (h, tt)
 ops_in_attempt jobs j t a p o h = tt
 
@@ -58,7 +57,8 @@ ops_at : (jobs : List (List Op)) (j : ℕ) (t : Tell) (e : Event) → t.ops ≡ 
 ops_at jobs j t (Tried a) h = ops_in_attempt jobs j t a a.prefix a.outcome h
 ops_at jobs j t e h = tt
 
-ops_of : (jobs : List (List Op)) (j : ℕ) (es : List Event) (rs : List Item) (ls : List Lock) (ws : List Item) (ss : List (List ℕ)) → AllByRecursion (HasOps jobs) (published_of j (tells_from jobs es rs ls ws ss))
+ops_of : (jobs : List (List Op)) (j : ℕ) (es : List Event) (rs : List Item) (ls : List Lock) (ws : List Item) (ss : List (List ℕ))
+    → AllByRecursion (HasOps jobs) (published_of j (tells_from jobs es rs ls ws ss))
 ops_of jobs j [] rs ls ws ss = tt
 ops_of jobs j (e ∷ es) rs ls ws ss =
     let t : Tell = record { event = e; ops = ops_in jobs e; reads = take (reads_in e) rs; locks = take (locks_in e) ls; writes = take (writes_in e) ws; snap = get_or (take (snaps_in e) ss) 0 [] } in
@@ -74,7 +74,8 @@ ops_from jobs j (log ∷ logs) =
 
 -- ---- the numbers
 
-last_in : (j n : ℕ) (t : Tell) (ts : List Tell) (cs : List Published) (a : Attempt) (p : Option ℕ) (o : Outcome) → (IsTrue (is_some (number_in o)) → IsTrue (is_some p)) → NumbersFollow n (published_in j t a p o ++ cs)
+last_in : (j n : ℕ) (t : Tell) (ts : List Tell) (cs : List Published) (a : Attempt) (p : Option ℕ) (o : Outcome)
+    → (IsTrue (is_some (number_in o)) → IsTrue (is_some p)) → NumbersFollow n (published_in j t a p o ++ cs)
     → ((m : ℕ) → NumbersFollow m cs → last_number m ts ≡ m + length cs) → last_number (unwrap_or (number_in o) n) ts ≡ n + length (published_in j t a p o ++ cs)
 last_in j n t ts cs a (Some p) (Commit number) has follow rest =
     let at : last_number number ts ≡ last_number (suc n) ts = ap (λ m. last_number m ts) follow.0 in

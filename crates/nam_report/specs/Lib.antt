@@ -2,3 +2,4 @@ pub mod Text
 pub mod Fits
 pub mod Lines
 pub mod Depths
+pub mod ArrangedExamples

@@ -14,6 +14,8 @@ mod log;
 mod report;
 #[cfg(test)]
 mod tests;
+#[cfg(test)]
+mod tests_arrange;
 
 pub use arranging::arrange;
 pub use report::report_text;

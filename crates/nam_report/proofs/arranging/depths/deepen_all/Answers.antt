@@ -1,8 +1,7 @@
-use Rattle.std.proofs.Common.{◌≡◌, ◌++◌, List, [], length, take, drop, map, ap, sym, ◌∙◌, append-nil, arith}
+use Rattle.std.proofs.Common.{◌≡◌, ◌++◌, [], length, take, drop, map, ap, ◌∙◌, append-nil, arith}
 use Rattle.std.proofs.Math.Path.{fun_ext}
 use Rattle.std.proofs.lemmas.List.{drop_all, take_all, length-map}
 use Rattle.nam_report.specs.declared.arranging.placed.Placed.{Placed}
-use Rattle.nam_report.specs.declared.arranging.placed.LevelKey.{LevelKey}
 use Rattle.nam_report.specs.Depths.{at_depth, reach_in, reach, deepest, deepened}
 use Rattle.nam_report.proofs.arranging.depths.deepen_all.Goals as goal
 

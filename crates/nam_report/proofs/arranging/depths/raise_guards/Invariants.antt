@@ -1,4 +1,4 @@
-use Rattle.std.proofs.Common.{◌≡◌, drop, cond}
+use Rattle.std.proofs.Common.{◌≡◌, drop}
 use Rattle.std.specs.Prelude.{max, if◌then◌else◌}
 use Rattle.nam_report.specs.declared.arranging.placed.LevelKey.{LevelKey}
 use Rattle.nam_report.specs.Depths.{has_guard, reach_in}

@@ -1,9 +1,9 @@
 use Rattle.std.proofs.Common.{◌≡◌, ◌≤◌, ◌<◌, ◌+◌, ◌^◌, suc, length, map, refl, ap, sym, ◌∙◌, subst, arith}
-use Rattle.std.specs.List.{AllByRecursion, All}
+use Rattle.std.specs.List.{AllByRecursion}
 use Rattle.std.proofs.lemmas.List.Elements.{All-from_recursion}
 use Rattle.si_model.proofs.ListLemmas.{All-listed, All-from_listed}
 use Rattle.nam_report.specs.declared.arranging.placed.Placed.{Placed}
-use Rattle.nam_report.specs.Depths.{flat, deepened, AreSettled, SettledBelow}
+use Rattle.nam_report.specs.Depths.{flat, deepened, SettledBelow}
 use Rattle.nam_report.proofs.DepthLemmas.{low_round, flat_deepened, settled_round, settled_fixed, settled_all}
 use Rattle.nam_report.proofs.arranging.depths.settle.Goals as goal
 

@@ -1,6 +1,6 @@
-use Rattle.std.proofs.Common.{◌≡◌, ◌++◌, [], drop, not}
+use Rattle.std.proofs.Common.{◌≡◌, ◌++◌, drop, not}
 use Rattle.std.specs.Prelude.{filter}
-use Rattle.si_model.specs.Evaluation.{key_guarded, keys_from, ops_write, guard_keys}
+use Rattle.si_model.specs.Evaluation.{ops_write, guard_keys}
 use Rattle.nam_report.proofs.arranging.guards.guards_of.Given as goal
 
 -- with the unwritten keys from here on, all are there

@@ -1,1 +1,9 @@
 pub mod FitsLemmas
+mod LevelLemmas
+mod DepthLemmas
+mod OrderLemmas
+mod LineLemmas
+mod PublishedLemmas
+mod ArrangedLemmas
+mod ArrangedExamples
+mod SizedExamples

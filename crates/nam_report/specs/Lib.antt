@@ -1,2 +1,5 @@
 pub mod Text
 pub mod Fits
+pub mod Lines
+pub mod Depths
+pub mod ArrangedExamples

@@ -1,8 +1,10 @@
-//! The text of a report.
+//! The history of closed logs, and the text of a report.
 //!
-//! A report that fits its script, in its tables, widths and counts, has one text. `report_text` gives exactly that.
+//! `arrange` puts the commits that consistent logs list into the order of a history. A report that fits its script, in
+//! its tables, widths and counts, has one text. `report_text` gives exactly that.
 #![tactic(auto)]
 
+mod arranging;
 mod attempt;
 mod audit;
 mod event;
@@ -12,5 +14,8 @@ mod log;
 mod report;
 #[cfg(test)]
 mod tests;
+#[cfg(test)]
+mod tests_arrange;
 
+pub use arranging::arrange;
 pub use report::report_text;

@@ -185,7 +185,14 @@ fn close(alloc: Global, store: Store, logs: List<Log>) -> Result<Report, AllocEr
     })
 }
 
-/// Runs a script, one worker after another.
+/// Runs a script, one worker after another, and each transaction once.
+///
+/// It serves every script in range, with any operations, turns and policy: it has no positions and no rings, so none of
+/// its attempts ends for want of them, and its tidyings find nothing to move.
+///
+/// # Errors
+///
+/// Only where memory is not found.
 pub fn run_serial(alloc: Global, script: &Script) -> Result<Report, AllocError>
     requires in_range { IsInRange script.now }
     requires few { HasFew script.now }

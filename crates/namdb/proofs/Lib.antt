@@ -1,9 +1,11 @@
 mod HistoryLemmas
 mod SerialLemmas
+mod PolicyLemmas
 mod SerialRunLemmas
 mod WholeRunLemmas
 mod SerialFitsLemmas
 mod EvaluateLemmas
+mod NamedLemmas
 mod StoreLemmas
 mod ServeLemmas
 mod TopLemmas

@@ -23,7 +23,7 @@ use Rattle.si_model.specs.Setting.{Setting, txns_of}
 use Rattle.si_model.proofs.EvaluationLemmas.{same_key-refl, same_key_says}
 use Rattle.nam_script.specs.declared.script.Script.{Script}
 use Rattle.nam_script.specs.declared.script.ScriptTxn.{ScriptTxn}
-use Rattle.nam_script.specs.Limits.{RowFits, TxnFits, IsPlain}
+use Rattle.nam_script.specs.Limits.{RowFits, TxnFits, IsInRange}
 use Rattle.nam_report.specs.Text.{reads_of as reads_owned, locks_of as locks_owned}
 use Rattle.nam_report.specs.Fits.{NamesTable, ItemFits, LockFits, EventFits, EntryFits, AuditRowFits, LogFits, FitsScript}
 use Rattle.nam_report.proofs.FitsLemmas.{AllByRecursion-append}
@@ -288,11 +288,11 @@ fit-jobs workers widths [] fits = tt
 fit-jobs workers widths (x ∷ xs) fits = (fits.0.ops, fit-jobs workers widths xs fits.1)
 
 -- the report of the serial run, with the final rows as its audit, fits the script
-pub serial_fits : (script : Script) (r : Report) (rows : List Row) → IsPlain script → r.history ≡ end_after (setting_of script) 1 [] script.shape.workers → r.logs ≡ logs_after (setting_of script) 1 [] script.shape.workers → r.audit ≡ audit_of rows → ListsRows rows (state_at (rows_of script.rows) r.history) → FitsScript script r
-serial_fits script r rows plain history logs audit lists =
+pub serial_fits : (script : Script) (r : Report) (rows : List Row) → IsInRange script → r.history ≡ end_after (setting_of script) 1 [] script.shape.workers → r.logs ≡ logs_after (setting_of script) 1 [] script.shape.workers → r.audit ≡ audit_of rows → ListsRows rows (state_at (rows_of script.rows) r.history) → FitsScript script r
+serial_fits script r rows in_range history logs audit lists =
     let s = setting_of script in
-    let rows_fit = plain.in_range.rows in
-    let jobs_fit = fit-jobs script.shape.workers s.widths script.txns plain.in_range.txns in
+    let rows_fit = in_range.rows in
+    let jobs_fit = fit-jobs script.shape.workers s.widths script.txns in_range.txns in
     let history_fits = subst (AllByRecursion (EntryFits s.widths)) (sym history) (fit-end s rows_fit jobs_fit 1 [] script.shape.workers tt) in
     record {
       workers = ap length logs ∙ length-logs_after s 1 [] script.shape.workers;

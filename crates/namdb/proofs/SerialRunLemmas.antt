@@ -11,7 +11,6 @@ use Rattle.si_model.specs.declared.log.Outcome.TheVariants.{Commit}
 use Rattle.si_model.specs.declared.report.CommitLine.{CommitLine}
 use Rattle.si_model.specs.declared.evaluated.Evaluated.TheVariants.{Done}
 use Rattle.si_model.specs.Rows.{rows_of}
-use Rattle.si_model.specs.Evaluation.{written_keys}
 use Rattle.si_model.specs.History.{count_of, entries_at}
 use Rattle.si_model.specs.Tells.{Tell, tells_of, last_number}
 use Rattle.si_model.specs.View.{View, by_history}
@@ -19,17 +18,10 @@ use Rattle.si_model.specs.Setting.{Setting, by_script, txns_of}
 use Rattle.si_model.specs.Knowledge.{AreAtMost, SeesForward}
 use Rattle.si_model.specs.Answers.{AnswersMatch}
 use Rattle.si_model.specs.Causes.{HaveCausesAfter}
-use Rattle.si_model.specs.Tries.{tells_in, settles, next_owed, outcome_owed, Stage, goes_on, is_short}
-use Rattle.si_model.specs.Tries.Part.{attempted}
-use Rattle.si_model.specs.Tries.Stage.{going, committed}
 use Rattle.si_model.specs.Run.{times_listed, is_listed_as}
 use Rattle.namdb.specs.Serial.{writes_by, entry_by, ops_of, evaluated_after, tell_after, entry_after, tells_after, history_after, log_of, logs_after, end_after}
 use Rattle.namdb.proofs.HistoryLemmas.{count_of-append, count_of-own, at_most-refl}
 use Rattle.namdb.proofs.SerialLemmas.{by_outcome, told, answers_after, sees_after, known_then, caused_after, last_number_then}
-
-or_true : (b : Bool) → (b || true) ≡ true
-or_true true = refl
-or_true false = refl
 
 module _ (s : Setting) (j : ℕ) where
   -- the history only grows
@@ -71,21 +63,6 @@ module _ (s : Setting) (j : ℕ) where
           caused_after s j history x final next.0 next.1 tss done number,
           causes_all tss (history ++ entry_after s j history x) xs more (done ++ tell_after s j history x ∷ []) longer (last_number_then s j history x done number),
         )
-
-  -- a worker's attempts follow the policy: each of its transactions is tried once
-  pub settles_all : s.policy.tidy ≡ false → (history : List CommitLine) (xs : List ℕ) (stage : Stage) → goes_on stage ≡ true → settles s.policy (next_owed [] xs stage) (map attempted (tells_after s j history xs)) ≡ true
-  settles_all untidy history [] stage goes = or_true (is_short stage)
-  settles_all untidy history (x ∷ xs) stage goes =
-      let next = settles_all untidy (history ++ entry_after s j history x) xs in
-      rw (goes, eq-eqb x x refl) (by_outcome (λ e o. elim (outcome_owed s.policy (told s j history x e o) x xs 1 o) [ None ↦ false | Some owed ↦ settles s.policy owed (map attempted (tells_after s j (history ++ entry_after s j history x) xs)) ] ≡ true) s.greatest (s.start + count_of j history) (evaluated_after s j history x)
-      (λ op reads. next going refl)
-      (λ reads guards. next going refl)
-      (λ reads ws w guards l. next going refl)
-      (λ reads ws w guards. subst (λ b. settles s.policy (next_owed (if b then written_keys (ops_of s x) else []) xs committed) (map attempted (tells_after s j (history ++ entry_after s j history x) xs)) ≡ true) (sym untidy) (next committed refl)))
-
-pub read_all : (ts : List Tell) → flat_map tells_in (map attempted ts) ≡ ts
-read_all [] = refl
-read_all (t ∷ ts) = ap (λ us. t ∷ us) (read_all ts)
 
 -- what a log tells that was made of these: each takes its own items
 module _ (s : Setting) (j : ℕ) where

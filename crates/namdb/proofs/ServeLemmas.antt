@@ -1,7 +1,7 @@
 -- A worker's attempt, as the store sees it and as the definitions say it.
 use Rattle.std.proofs.Common.{◌≡◌, ℕ, zero, suc, ◌+◌, ◌-◌, ◌<◌, ◌≤◌, List, [], ◌∷◌, ◌++◌, length, map, refl, ap, sym, ◌∙◌, subst, arith, append-nil, append_assoc, add-one}
 use Rattle.std.proofs.lemmas.Bool.{eq-eqb, ne_eqb}
-use Rattle.std.specs.Prelude.{slice_index, slice_index_or, ◌==◌, if◌then◌else◌, Bool, true, false, Result, Ok, Err, IfOk}
+use Rattle.std.specs.Prelude.{slice_index, slice_index_or, ◌==◌, if◌then◌else◌, Bool, true, false, is_some, Result, Ok, Err, IfOk}
 use Rattle.std.specs.List.{AllByRecursion, flat_map}
 use Rattle.std.proofs.Math.Path.{fun_ext}
 use Rattle.si_model.specs.declared.row.Key.{Key}
@@ -31,6 +31,10 @@ use Rattle.namdb.specs.Store.{IsStore, IsPlan}
 use Rattle.namdb.specs.Serial.{outcome_of, writes_by, locks_by, locks_with, attempt_by, log_with, ops_of, evaluated_after, outcome_after, tell_after, entry_after, tells_after, history_after, own_txn, log_of, log_grown, logs_after, end_after}
 use Rattle.namdb.proofs.StoreLemmas.{entries_at-at, length-entries_at, map_locks}
 use Rattle.namdb.proofs.SerialFitsLemmas.{wide-state}
+use Rattle.namdb.specs.NamedRows.{has_key, named_keys}
+use Rattle.namdb.specs.Few.{reads_most}
+use Rattle.namdb.proofs.EvaluateLemmas.{contains_key}
+use Rattle.namdb.proofs.NamedLemmas.{NameAmong, reads_few, own_named}
 
 -- equal evaluations and outcomes give the same
 pub same_both : {A : Type 0} (f : Evaluated → Outcome → A) (e e' : Evaluated) (o o' : Outcome) → e ≡ e' → o ≡ o' → f e o ≡ f e' o'
@@ -124,10 +128,23 @@ own_here j owner x e = rw (eq-eqb owner j e) refl
 pub own_elsewhere : (j owner x : ℕ) → (owner ≡ j → ⊥) → own_txn j owner x ≡ []
 own_elsewhere j owner x e = rw (ne_eqb owner j e) refl
 
+-- no other keys hold rows than those of the plan
+pub plan_among : (s : Setting) (plan : Plan) (store : Store) → IsPlan s plan → IsStore s store → (key : Key) → is_some (rows_held store.rows key) ≡ true → has_key plan.keys.keys key ≡ true
+plan_among s plan store planned is key some =
+    sym (contains_key plan.keys.keys key) ∙ planned.keys key ∙ is.named key (sym (ap is_some (is.rows key)) ∙ some)
+
 module _ (s : Setting) (plan : Plan) (store : Store) (planned : IsPlan s plan) (is : IsStore s store) (j x : ℕ) (ops : List Op) (own : ops ≡ ops_of s x) where
   -- with the plan's widths and its greatest number
   pub plan_evaluated : evaluation_of plan.widths.items (rows_held store.rows) ops ≡ evaluated_after s j store.history x
   plan_evaluated = ap (λ ws. evaluation_of ws (rows_held store.rows) ops) planned.widths ∙ evaluated_held s store is j x ops own
+
+  -- it reads few items
+  pub plan_reads : length (reads_of (evaluation_of plan.widths.items (rows_held store.rows) ops)) ≤ reads_most (length (named_keys s)) ops
+  plan_reads =
+      let state = state_at (rows_of s.rows) store.history in
+      let named = subst (NameAmong (named_keys s)) (sym own) (own_named s x) in
+      subst (λ e. length (reads_of e) ≤ reads_most (length (named_keys s)) ops) (sym (plan_evaluated ∙ sym (ap (evaluation_of s.widths state) own)))
+      (reads_few (named_keys s) s.widths state ops is.named named)
 
   pub plan_outcome : 1 ≤ j → j ≤ s.workers → outcome_of plan.greatest (slice_index store.vector (j - 1)) (evaluation_of plan.widths.items (rows_held store.rows) ops) ≡ outcome_after s j store.history x
   plan_outcome low high =

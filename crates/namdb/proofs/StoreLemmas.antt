@@ -17,13 +17,15 @@ use Rattle.si_model.specs.History.{count_of, entries_from, entries_at, newest_fr
 use Rattle.namdb.specs.Stamps.{lock_held, stamp_held}
 use Rattle.namdb.specs.declared.store.Store.{Store}
 use Rattle.namdb.specs.Store.{IsStore}
-use Rattle.namdb.specs.Serial.{lock_on, writes_by, entry_by, vector_by, number_by, evaluated_after, outcome_after, entry_after}
+use Rattle.namdb.specs.Serial.{lock_on, writes_by, entry_by, vector_by, number_by, ops_of, evaluated_after, outcome_after, entry_after}
 use Rattle.namdb.proofs.HistoryLemmas.{entries_at-own, count_of-own, count_of-other}
 use Rattle.nam_report.specs.Fits.{EntryFits}
 use Rattle.nam_script.specs.Limits.{RowFits}
 use Rattle.si_model.specs.Evaluation.{OpFits}
 use Rattle.namdb.proofs.SerialLemmas.{by_outcome, by_ending}
-use Rattle.namdb.proofs.EvaluateLemmas.{overlay_agrees}
+use Rattle.namdb.specs.NamedRows.{named_keys}
+use Rattle.namdb.proofs.EvaluateLemmas.{overlay_agrees, AreAmong}
+use Rattle.namdb.proofs.NamedLemmas.{among-overlay, done_writes-named, own_named, loaded_among}
 use Rattle.namdb.proofs.SerialFitsLemmas.{fit-entry}
 
 -- the locks of a write set, and then of guards
@@ -118,6 +120,19 @@ module _ (s : Setting) (j : ℕ) (history : List CommitLine) (x : ℕ) where
         | inr e ↦ omega (arith, count_of-other i history (line (w ∷ ws)) (λ q. eqb-false i j e (sym q)), within i)
       ])
 
+  -- no other keys hold rows than those that are named
+  named_after : AreAmong (named_keys s) (state_at (rows_of s.rows) history) → AreAmong (named_keys s) (state_at (rows_of s.rows) (history ++ entry_after s j history x))
+  named_after among =
+      let state = state_at (rows_of s.rows) history in
+      let same = subst (λ h. AreAmong (named_keys s) (state_at (rows_of s.rows) h)) (sym (append-nil history)) among in
+      by_outcome (λ e o. evaluated ≡ e → AreAmong (named_keys s) (state_at (rows_of s.rows) (history ++ entry_by j x (length history) (writes_by e o) o))) s.greatest (s.start + count_of j history) evaluated
+      (λ op reads e. same)
+      (λ reads guards e. same)
+      (λ reads ws w guards l e. same)
+      (λ reads ws w guards e. subst (AreAmong (named_keys s)) (sym (state_more (rows_of s.rows) history (line (w ∷ ws))))
+      (among-overlay (named_keys s) (w ∷ ws) state (done_writes-named (named_keys s) s.widths state (ops_of s x) reads (w ∷ ws) guards e (own_named s x)) among))
+      refl
+
   -- what a store holds after the attempt
   pub store_after : AllByRecursion (RowFits s.widths) s.rows → AllByRecursion (AllByRecursion (OpFits s.widths)) s.jobs → (old new : Store) → old.history ≡ history → IsStore s old → 1 ≤ j → j ≤ s.workers →
       new.history ≡ history ++ entry_after s j history x →
@@ -131,6 +146,7 @@ module _ (s : Setting) (j : ℕ) (history : List CommitLine) (x : ℕ) where
     stamps = λ key. stamps key ∙ stamps_after (stamp_held old.stamps) (λ k. store.stamps k ∙ ap (newest_writer k) is) key ∙ ap (newest_writer key) (sym grown);
     numbers = λ i. subst (λ h. s.start + count_of i h ≤ s.greatest) (sym grown) (numbers_after (λ k. subst (λ h. s.start + count_of k h ≤ s.greatest) is (store.numbers k)) i);
     fit = subst (AllByRecursion (EntryFits s.widths)) (sym grown) (fit-entry s rows_fit jobs_fit j history x (subst (AllByRecursion (EntryFits s.widths)) is store.fit));
+    named = subst (λ h. AreAmong (named_keys s) (state_at (rows_of s.rows) h)) (sym grown) (named_after (subst (λ h. AreAmong (named_keys s) (state_at (rows_of s.rows) h)) is store.named));
   }
 
 -- a store that was opened
@@ -141,4 +157,5 @@ store_open s store within none vector rows stamps = record {
   stamps = λ key. stamps key ∙ ap (newest_writer key) (sym none);
   numbers = λ j. subst (λ h. s.start + count_of j h ≤ s.greatest) (sym none) (omega (arith, within));
   fit = subst (AllByRecursion (EntryFits s.widths)) (sym none) tt;
+  named = subst (λ h. AreAmong (named_keys s) (state_at (rows_of s.rows) h)) (sym none) (loaded_among s);
 }

@@ -13,12 +13,12 @@ use Rattle.si_model.specs.View.{View, by_history}
 use Rattle.si_model.specs.Setting.{Setting, txns_of, places_of}
 use Rattle.si_model.specs.Audit.{IsAuditLine, row_in}
 use Rattle.si_model.specs.Run.{IsRun, IsWorkerRun, AreWorkerRuns, times_listed, tells_in_report}
-use Rattle.si_model.specs.Tries.Part.{attempted}
 use Rattle.si_model.specs.Tries.Stage.{going}
 use Rattle.namdb.specs.Serial.{writes_by, entry_by, evaluated_after, entry_after, tells_after, history_after, logs_after, end_after, audit_of}
 use Rattle.namdb.proofs.HistoryLemmas.{count_of-other, start-at_most}
 use Rattle.namdb.proofs.SerialLemmas.{by_outcome, legal_after, numbered_after}
-use Rattle.namdb.proofs.SerialRunLemmas.{IsOnce, once_more, all_map, times_in, times_after, history_grows, answers_all, sees_all, causes_all, settles_all, read_all, tells_back}
+use Rattle.namdb.proofs.SerialRunLemmas.{IsOnce, once_more, all_map, times_in, times_after, history_grows, answers_all, sees_all, causes_all, tells_back}
+use Rattle.namdb.proofs.PolicyLemmas.{parts_after, parts_read, parts_settle, parts_follow}
 
 -- what holds of the history of a serial run
 pub record IsSound (s : Setting) (history : List CommitLine) : Type 0 where
@@ -85,7 +85,7 @@ end_grows s j history (suc n) =
     let rest = end_grows s (suc j) (history_after s j history (txns_of j s.owners)) n in
     (own.0 ++ rest.0, rest.1 ∙ ap (λ h. h ++ rest.0) own.1 ∙ append_assoc history own.0 rest.0)
 
-module _ (s : Setting) (final : List CommitLine) (tss : List (List Tell)) (untidy : s.policy.tidy ≡ false) where
+module _ (s : Setting) (final : List CommitLine) (tss : List (List Tell)) where
   abbrev view : View
   view = by_history (rows_of s.rows) s.workers s.start final
 
@@ -96,10 +96,10 @@ module _ (s : Setting) (final : List CommitLine) (tss : List (List Tell)) (untid
       record {
         sees = sees_all s j final low high history xs more (replicate s.workers s.start) longer (start-at_most s.workers 1 s.start history);
         follows = record {
-          parts = map attempted (tells_after s j history xs);
-          read = read_all (tells_after s j history xs);
-          settled = settles_all s j untidy history xs going refl;
-          fulls = λ tidy. absurd (cc (tidy, untidy));
+          parts = parts_after s j history xs;
+          read = parts_read s j history xs;
+          settled = parts_settle s j history xs going refl;
+          fulls = λ tidy. parts_follow s j view [] history xs;
         };
         answers = answers_all s j final history xs more longer;
         causes = causes_all s j final tss history xs more [] longer (omega (arith, none));
@@ -129,8 +129,8 @@ audit_lines tss [] = tt
 audit_lines tss (r ∷ rs) = (record { absent = λ none. absurd cc; locked = λ yes. absurd cc }, audit_lines tss rs)
 
 -- the report of the serial run, with the final rows as its audit, is a run
-pub serial_is_run : (s : Setting) (r : Report) (rows : List Row) → s.policy.tidy ≡ false → length s.owners ≡ length s.jobs → r.history ≡ end_after s 1 [] s.workers → r.logs ≡ logs_after s 1 [] s.workers → r.audit ≡ audit_of rows → ListsRows rows (state_at (rows_of s.rows) r.history) → IsRun s r
-serial_is_run s r rows untidy same history logs audit lists =
+pub serial_is_run : (s : Setting) (r : Report) (rows : List Row) → length s.owners ≡ length s.jobs → r.history ≡ end_after s 1 [] s.workers → r.logs ≡ logs_after s 1 [] s.workers → r.audit ≡ audit_of rows → ListsRows rows (state_at (rows_of s.rows) r.history) → IsRun s r
+serial_is_run s r rows same history logs audit lists =
     let sound = subst (IsSound s) (sym history) (sound_end s same 1 [] s.workers (record { legal = tt; numbered = tt; once = tt })) in
     let tss = tells_in_report s r in
     let told : tss ≡ map (tells_of s.jobs) (logs_after s 1 [] s.workers) = ap (map (tells_of s.jobs)) logs in
@@ -141,7 +141,7 @@ serial_is_run s r rows untidy same history logs audit lists =
       one_log_each = ap length logs ∙ length-logs_after s 1 [] s.workers;
       legal = sound.legal;
       numbered = sound.numbered;
-      workers = subst (AreWorkerRuns s (by_history (rows_of s.rows) s.workers s.start r.history) tss 1) (sym told) (worker_runs s r.history tss untidy 1 [] s.workers (omega arith) (omega arith) (λ i above. refl) history);
+      workers = subst (AreWorkerRuns s (by_history (rows_of s.rows) s.workers s.start r.history) tss 1) (sym told) (worker_runs s r.history tss 1 [] s.workers (omega arith) (omega arith) (λ i above. refl) history);
       listed = all_map (IsOnce s.start r.history) (λ e. times_listed e 1 tss ≡ 1) r.history (λ e o. listed e ∙ o.once) sound.once;
       audit = record {
         state = subst (λ qs. ListsRows qs (state_at (rows_of s.rows) r.history)) (sym (ap (flat_map row_in) audit ∙ rows_back rows)) lists;

@@ -1,11 +1,13 @@
--- The rows that a transaction's operations name.
-use Rattle.std.specs.Prelude.{ℕ, List, [], ◌∷◌, Option, Some, None}
+-- The keys that rows and operations name, and the rows that operations may look at.
+use Rattle.std.specs.Prelude.{ℕ, ◌==◌, ◌&&◌, ◌||◌, nat_le, Bool, false, List, [], ◌∷◌, ◌++◌, map, filter, Option, Some, None}
 use Rattle.std.specs.List.{flat_map}
 use Rattle.si_model.specs.declared.row.Key.{Key}
 use Rattle.si_model.specs.declared.row.Row.{Row}
 use Rattle.si_model.specs.declared.op.Op.{Op}
 use Rattle.si_model.specs.declared.op.Op.TheVariants.{Get, Put, Add, Del, Need, Guard, Scan}
-use Rattle.si_model.specs.Rows.{Rows, key_at}
+use Rattle.si_model.specs.Rows.{Rows, key_at, same_key, row_key}
+use Rattle.si_model.specs.Setting.{Setting}
+use Rattle.nam_script.specs.declared.script.ScriptTxn.{ScriptTxn}
 
 -- the key that an operation names; of a scan its first
 abbrev pub key_of : Op → Key
@@ -17,11 +19,43 @@ key_of (Need t k f least) = key_at t k
 key_of (Guard t k) = key_at t k
 key_of (Scan t low high) = key_at t low
 
+-- is the key among these
+abbrev pub has_key : List Key → Key → Bool
+has_key [] key = false
+has_key (k ∷ ks) key = same_key k key || has_key ks key
+
+-- does an operation of the transactions name the key
+abbrev pub txns_name : List ScriptTxn → Key → Bool
+txns_name [] key = false
+txns_name (x ∷ xs) key = has_key (map key_of x.ops) key || txns_name xs key
+
+-- the keys that the rows and the operations name
+abbrev pub named_keys : Setting → List Key
+named_keys s = map row_key s.rows ++ flat_map (λ ops. map key_of ops) s.jobs
+
+-- is the key one of the table from low to high
+abbrev pub is_between : ℕ → ℕ → ℕ → Key → Bool
+is_between t low high key = (key.table == t) && nat_le low key.key && nat_le key.key high
+
+-- the keys that an operation may look at, where no other than these hold rows
+abbrev pub keys_for : List Key → Op → List Key
+keys_for keys (Get t k) = key_at t k ∷ []
+keys_for keys (Put t k v) = key_at t k ∷ []
+keys_for keys (Add t k f up by) = key_at t k ∷ []
+keys_for keys (Del t k) = key_at t k ∷ []
+keys_for keys (Need t k f least) = key_at t k ∷ []
+keys_for keys (Guard t k) = key_at t k ∷ []
+keys_for keys (Scan t low high) = filter (is_between t low high) keys
+
 -- the row of a key, if it holds one
 abbrev pub row_at : Key → Option (List ℕ) → List Row
 row_at key None = []
 row_at key (Some v) = record { table = key.table; key = key.key; value = v } ∷ []
 
--- the rows of the keys that the operations name
-abbrev pub rows_named : Rows → List Op → List Row
-rows_named rows ops = flat_map (λ op. row_at (key_of op) (rows (key_of op))) ops
+-- the rows of keys
+abbrev pub rows_at : Rows → List Key → List Row
+rows_at rows keys = flat_map (λ key. row_at key (rows key)) keys
+
+-- the rows that the operations may look at, where no other keys than these hold rows
+abbrev pub rows_named : List Key → Rows → List Op → List Row
+rows_named keys rows ops = flat_map (λ op. rows_at rows (keys_for keys op)) ops

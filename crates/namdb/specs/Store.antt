@@ -1,5 +1,5 @@
 -- What a store of the serial run holds after a history.
-use Rattle.std.specs.Prelude.{ℕ, ◌+◌, ◌≤◌, ◌≡◌, ◌-◌, ◌++◌, length, List, slice_index, if◌then◌else◌}
+use Rattle.std.specs.Prelude.{ℕ, ◌+◌, ◌≤◌, ◌≡◌, ◌-◌, ◌++◌, length, List, slice_index, true, is_some, if◌then◌else◌}
 use Rattle.si_model.specs.declared.row.Key.{Key}
 use Rattle.si_model.specs.declared.op.Op.{Op}
 use Rattle.si_model.specs.declared.log.Log.{Log}
@@ -13,26 +13,31 @@ use Rattle.si_model.specs.State.{state_at}
 use Rattle.si_model.specs.History.{count_of, entries_at, newest_writer, stamp_at}
 use Rattle.si_model.specs.Setting.{Setting}
 use Rattle.std.specs.List.{AllByRecursion}
+use Rattle.std.specs.BTreeSet.{contains}
+use Rattle.si_model.specs.Held.{key_cmp}
 use Rattle.nam_report.specs.Fits.{EntryFits}
 use Rattle.namdb.specs.declared.attempt.Plan.{Plan}
 use Rattle.namdb.specs.declared.store.Store.{Store}
+use Rattle.namdb.specs.NamedRows.{has_key, named_keys}
 use Rattle.namdb.specs.Stamps.{stamp_held, lock_held}
 use Rattle.namdb.specs.Serial.{outcome_of, writes_by, entry_by, locks_with, attempt_by, vector_by, number_by, log_with}
 
 -- the vector has the published numbers, the rows are the committed state, each stamp is the newest writer's, no number is above
--- the greatest, and the entries fit the tables
+-- the greatest, the entries fit the tables, and no other keys hold rows than those that the script names
 pub record IsStore (s : Setting) (store : Store) : Type 0 where
   pub vector : store.vector ≡ entries_at s.workers s.start store.history
   pub rows : (key : Key) → rows_held store.rows key ≡ state_at (rows_of s.rows) store.history key
   pub stamps : (key : Key) → stamp_held store.stamps key ≡ newest_writer key store.history
   pub numbers : (j : ℕ) → s.start + count_of j store.history ≤ s.greatest
   pub fit : AllByRecursion (EntryFits s.widths) store.history
+  pub named : (key : Key) → is_some (state_at (rows_of s.rows) store.history key) ≡ true → has_key (named_keys s) key ≡ true
 
--- the plan is that of the setting
+-- the plan is that of the setting, and has the keys that its rows and operations name
 pub record IsPlan (s : Setting) (plan : Plan) : Type 0 where
   pub workers : plan.workers ≡ s.workers
   pub greatest : plan.greatest ≡ s.greatest
   pub widths : plan.widths.items ≡ s.widths
+  pub keys : (key : Key) → contains key_cmp plan.keys key ≡ has_key (named_keys s) key
 
 -- An attempt of worker j at transaction x, with the evaluation e, ended by o on the snapshot seen: its event is listed, and
 -- where it committed its entry is appended and published, its write set put over the rows, and its stamp noted.

@@ -9,6 +9,7 @@
 
 mod attempt;
 mod evaluate;
+mod keys;
 mod serial;
 mod stamps;
 mod status;

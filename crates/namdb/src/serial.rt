@@ -7,13 +7,15 @@ ghost use Rattle.si_model.specs.Committed.{rows_held};
 ghost use Rattle.si_model.specs.Run.{IsRun};
 ghost use Rattle.si_model.specs.Setting.{txns_of};
 ghost use Rattle.nam_catalog.specs.Tables.{widths_of};
-ghost use Rattle.nam_script.specs.Limits.{IsPlain};
+ghost use Rattle.nam_script.specs.Limits.{IsInRange};
 ghost use Rattle.nam_report.specs.Fits.{FitsScript};
 ghost use Rattle.namdb.specs.ScriptSetting.{setting_of};
+ghost use Rattle.namdb.specs.Few.{HasFew};
 ghost use Rattle.namdb.specs.Store.{IsStore, IsPlan};
 ghost use Rattle.namdb.specs.Serial.{own_txn, tells_after, history_after, log_of, log_grown, logs_after, end_after, audit_of};
 
 use crate::attempt::{Plan, attempt};
+use crate::keys::names_of;
 use crate::store::Store;
 use lists::List;
 use nam_catalog::{Table, greatest};
@@ -26,6 +28,20 @@ fn widths_of(alloc: Global, tables: &[Table]) -> Result<Vec<u32>, AllocError>
     ensures { IfOk result (λ widths. widths.items ≡ widths_of tables.now) }
 {
     tables.iter().map(|table| table.width).collect(alloc)
+}
+
+/// What is the same for all attempts at the transactions of a script.
+fn plan_of(alloc: Global, script: &Script) -> Result<Plan, AllocError>
+    ensures { IfOk result (λ plan. IsPlan (setting_of script.now) plan) }
+{
+    let widths = widths_of(alloc, script.shape.tables.as_slice())?;
+    let keys = names_of(alloc, script.rows.as_slice(), script.txns.as_slice())?;
+    Ok(Plan {
+        workers: script.shape.workers,
+        greatest: greatest(script.shape.form),
+        widths,
+        keys,
+    })
 }
 
 /// A log without events.
@@ -51,7 +67,8 @@ fn serve(
     worker: u32,
     place: usize,
 ) -> Result<(), AllocError>
-    requires plain { IsPlain script.now }
+    requires in_range { IsInRange script.now }
+    requires few { HasFew script.now }
     requires plan { IsPlan (setting_of script.now) plan.now }
     requires store { IsStore (setting_of script.now) store.old }
     requires worker { (1 ≤ worker) × (worker ≤ script.now.shape.workers) }
@@ -90,7 +107,8 @@ fn run_worker(
     store: &mut Store,
     worker: u32,
 ) -> Result<Log, AllocError>
-    requires plain { IsPlain script.now }
+    requires in_range { IsInRange script.now }
+    requires few { HasFew script.now }
     requires plan { IsPlan (setting_of script.now) plan.now }
     requires store { IsStore (setting_of script.now) store.old }
     requires worker { (1 ≤ worker) × (worker ≤ script.now.shape.workers) }
@@ -116,7 +134,8 @@ fn run_workers(
     plan: &Plan,
     store: &mut Store,
 ) -> Result<List<Log>, AllocError>
-    requires plain { IsPlain script.now }
+    requires in_range { IsInRange script.now }
+    requires few { HasFew script.now }
     requires plan { IsPlan (setting_of script.now) plan.now }
     requires store { IsStore (setting_of script.now) store.old }
     ensures store { OnOk result (IsStore (setting_of script.now) store.new) }
@@ -166,17 +185,21 @@ fn close(alloc: Global, store: Store, logs: List<Log>) -> Result<Report, AllocEr
     })
 }
 
-/// Runs a script, one worker after another.
+/// Runs a script, one worker after another, and each transaction once.
+///
+/// It serves every script in range, with any operations, turns and policy: it has no positions and no rings, so none of
+/// its attempts ends for want of them, and its tidyings find nothing to move.
+///
+/// # Errors
+///
+/// Only where memory is not found.
 pub fn run_serial(alloc: Global, script: &Script) -> Result<Report, AllocError>
-    requires { IsPlain script.now }
+    requires in_range { IsInRange script.now }
+    requires few { HasFew script.now }
     ensures run { IfOk result (λ report. IsRun (setting_of script.now) report) }
     ensures fits { IfOk result (λ report. FitsScript script.now report) }
 {
-    let plan = Plan {
-        workers: script.shape.workers,
-        greatest: greatest(script.shape.form),
-        widths: widths_of(alloc, script.shape.tables.as_slice())?,
-    };
+    let plan = plan_of(alloc, script)?;
     let mut store = Store::open(
         alloc,
         script.shape.workers,

@@ -21,7 +21,7 @@ use Rattle.namdb.proofs.serial.run_serial.Goals as goal
 pub run_workers-requires-clause-store : goal.run_workers-requires-clause-store
 run_workers-requires-clause-store c =
     store_open (setting_of c.args.script.now) c.in_ok-store.store c.requires.in_range.start c.in_ok-store.ensures.history c.in_ok-store.ensures.vector
-    (λ key. c.in_ok-store.ensures.rows key ∙ ap (λ rows. rows_of rows key) c.as_slice-2.ensures) c.in_ok-store.ensures.stamps
+    (λ key. c.in_ok-store.ensures.rows key ∙ ap (λ rows. rows_of rows key) c.as_slice.ensures) c.in_ok-store.ensures.stamps
 
 -- the rows that were listed are the final state
 final_rows : (script : Script) (store : Store) (r : Report) → IsStore (setting_of script) store → r.history ≡ store.history → (rows : List Row) → ListsRows rows (rows_held store.rows) → ListsRows rows (state_at (rows_of script.rows) r.history)
@@ -41,7 +41,7 @@ returns-clause-run c =
     (λ r h l a.
     let history = h ∙ c.in_ok-logs.ensures.history ∙ ap (λ z. end_after s 1 z s.workers) none in
     let logs = l ∙ c.in_ok-logs.ensures.logs ∙ ap (λ z. logs_after s 1 z s.workers) none in
-    serial_is_run s r a.0 c.requires.untidy (owners_length script) history logs a.1 (final_rows script store r c.in_ok-logs.ensures.store h a.0 a.2))
+    serial_is_run s r a.0 (owners_length script) history logs a.1 (final_rows script store r c.in_ok-logs.ensures.store h a.0 a.2))
     c.close.ensures.history c.close.ensures.logs c.close.ensures.audit
 
 pub returns-clause-fits : goal.returns-clause-fits
@@ -54,5 +54,5 @@ returns-clause-fits c =
     (λ r h l a.
     let history = h ∙ c.in_ok-logs.ensures.history ∙ ap (λ z. end_after s 1 z s.workers) none in
     let logs = l ∙ c.in_ok-logs.ensures.logs ∙ ap (λ z. logs_after s 1 z s.workers) none in
-    serial_fits script r a.0 c.requires history logs a.1 (final_rows script store r c.in_ok-logs.ensures.store h a.0 a.2))
+    serial_fits script r a.0 c.requires.in_range history logs a.1 (final_rows script store r c.in_ok-logs.ensures.store h a.0 a.2))
     c.close.ensures.history c.close.ensures.logs c.close.ensures.audit

@@ -12,7 +12,9 @@ use Rattle.namdb.specs.Stamps.{stamp_held}
 use Rattle.namdb.specs.Serial.{ops_of, own_txn, writes_by, entry_by, vector_by, number_by, history_after, tells_after, log_grown}
 use Rattle.namdb.proofs.StoreLemmas.{store_after}
 use Rattle.namdb.proofs.SerialFitsLemmas.{fit-jobs}
-use Rattle.namdb.proofs.ServeLemmas.{plan_evaluated, plan_outcome, log_after, vector_length, last_held, held_wide, same_both, all_index, index_map, index_or_map, own_here}
+use Rattle.namdb.specs.Few.{reads_most, ops_count}
+use Rattle.namdb.proofs.NamedLemmas.{length-named_keys}
+use Rattle.namdb.proofs.ServeLemmas.{plan_among, plan_reads, plan_evaluated, plan_outcome, log_after, vector_length, last_held, held_wide, same_both, all_index, index_map, index_or_map, own_here}
 use Rattle.namdb.proofs.serial.serve.Goals as goal
 
 pub attempt-requires-clause-vector : goal.attempt-requires-clause-vector
@@ -27,7 +29,7 @@ attempt-requires-clause-number c =
 pub attempt-requires-clause-fit : goal.attempt-requires-clause-fit
 attempt-requires-clause-fit c =
     let s = setting_of c.args.script.now in
-    let fits = all_index _ c.args.script.now.txns c.args.place c.at-txn.result.now c.requires.place c.at-txn.ensures c.requires.plain.in_range.txns in
+    let fits = all_index _ c.args.script.now.txns c.args.place c.at-txn.result.now c.requires.place c.at-txn.ensures c.requires.in_range.txns in
     subst (λ ops. AllByRecursion (OpFits c.args.plan.now.widths.items) ops) (sym c.as_slice.ensures)
     (subst (λ ws. AllByRecursion (OpFits ws) c.at-txn.result.now.ops) (sym c.requires.plan.widths) fits.ops)
 
@@ -35,7 +37,10 @@ pub attempt-requires-clause-wide : goal.attempt-requires-clause-wide
 attempt-requires-clause-wide c =
     let s = setting_of c.args.script.now in
     subst (λ ws. AreWide ws (rows_held c.args.store.now.rows)) (sym c.requires.plan.widths)
-    (held_wide s c.args.store.now c.requires.store c.requires.plain.in_range.rows (fit-jobs s.workers s.widths c.args.script.now.txns c.requires.plain.in_range.txns))
+    (held_wide s c.args.store.now c.requires.store c.requires.in_range.rows (fit-jobs s.workers s.widths c.args.script.now.txns c.requires.in_range.txns))
+
+pub attempt-requires-clause-keys : goal.attempt-requires-clause-keys
+attempt-requires-clause-keys c = plan_among (setting_of c.args.script.now) c.args.plan.now c.args.store.now c.requires.plan c.requires.store
 
 -- the transaction's operations and its worker, by its number
 own_ops : (script : Script) (place : ℕ) (txn : ScriptTxn) → place < length script.txns → txn ≡ slice_index_or script.txns place txn → ops_of (setting_of script) (place + 1) ≡ txn.ops
@@ -43,6 +48,14 @@ own_ops script place txn within is = ap (λ i. slice_index_or (map (λ x. x.ops)
 
 own_place : (script : Script) (place worker : ℕ) (txn : ScriptTxn) → place < length script.txns → txn ≡ slice_index_or script.txns place txn → txn.worker ≡ worker → own_txn worker (slice_index (setting_of script).owners place) (place + 1) ≡ (place + 1) ∷ []
 own_place script place worker txn within is owner = own_here worker (slice_index (setting_of script).owners place) (place + 1) (index_map (λ x. x.worker) script.txns place txn within is ∙ owner)
+
+pub attempt-requires-clause-few : goal.attempt-requires-clause-few
+attempt-requires-clause-few c =
+    let script = c.args.script.now in
+    let own = c.as_slice.ensures ∙ sym (own_ops script c.args.place c.at-txn.result.now c.requires.place c.at-txn.ensures) in
+    let few = all_index _ script.txns c.args.place c.at-txn.result.now c.requires.place c.at-txn.ensures c.requires.few.reads in
+    let reads = plan_reads (setting_of script) c.args.plan.now c.args.store.now c.requires.plan c.requires.store c.args.worker (c.args.place + 1) c.as_slice.result.now own in
+    omega (arith, reads, few, ap (λ ops. reads_most (length script.rows + ops_count script.txns) ops) c.as_slice.ensures, ap (λ n. reads_most n c.as_slice.result.now) (length-named_keys script))
 
 pub returns-clause-store : goal.returns-clause-store
 returns-clause-store c =
@@ -53,7 +66,7 @@ returns-clause-store c =
     let own = c.as_slice.ensures ∙ sym (own_ops c.args.script.now c.args.place c.at-txn.result.now c.requires.place c.at-txn.ensures) in
     let e_same = plan_evaluated s c.args.plan.now old c.requires.plan c.requires.store j x c.as_slice.result.now own in
     let o_same = plan_outcome s c.args.plan.now old c.requires.plan c.requires.store j x c.as_slice.result.now own c.requires.worker.0 c.requires.worker.1 in
-    store_after s j old.history x c.requires.plain.in_range.rows (fit-jobs s.workers s.widths c.args.script.now.txns c.requires.plain.in_range.txns) old c.attempt.new.store refl c.requires.store c.requires.worker.0 c.requires.worker.1
+    store_after s j old.history x c.requires.in_range.rows (fit-jobs s.workers s.widths c.args.script.now.txns c.requires.in_range.txns) old c.attempt.new.store refl c.requires.store c.requires.worker.0 c.requires.worker.1
     (c.in_ok-attempt.ensures.history ∙ same_both (λ e o. old.history ++ entry_by j x (length old.history) (writes_by e o) o) _ _ _ _ e_same o_same)
     (c.in_ok-attempt.ensures.vector ∙ same_both (λ e o. vector_by j o old.vector) _ _ _ _ e_same o_same)
     (λ key. c.in_ok-attempt.ensures.rows key ∙ same_both (λ e o. overlay (writes_by e o) (rows_held old.rows) key) _ _ _ _ e_same o_same)

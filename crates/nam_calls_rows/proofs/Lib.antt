@@ -1,0 +1,4 @@
+mod FuseGetExample
+mod FusePutExample
+mod RandomExample
+mod RandomMoreExample

@@ -30,7 +30,6 @@ use Rattle.nam_calls.specs.declared.txn.TxnState.{TxnState}
 use Rattle.nam_calls.specs.declared.txn.TxnPlace.{TxnPlace}
 use Rattle.nam_calls.specs.declared.txn.TxnAnswer.{TxnAnswer}
 use Rattle.nam_calls.specs.declared.txn.TxnAnswer.TheVariants as txn_answer
-use Rattle.nam_calls.specs.declared.txn.Stepped.{Stepped}
 use Rattle.nam_calls.specs.declared.scan.ScanPlace.{ScanPlace}
 use Rattle.nam_calls.specs.declared.scan.ScanAnswer.{ScanAnswer}
 use Rattle.nam_calls.specs.declared.scan.ScanAnswer.TheVariants as scan_answer
@@ -48,7 +47,7 @@ use Rattle.nam_calls.specs.Index.{find_begin, find_verb, find_after}
 use Rattle.nam_calls.specs.Mover.{move_begin, move_verb, move_after}
 use Rattle.nam_calls.specs.Horizon.{collect_begin, collect_verb, collect_after}
 use Rattle.nam_calls.specs.Operations.{own_value}
-use Rattle.nam_calls.specs.Txn.{new_txn}
+use Rattle.nam_calls.specs.Txn.{Stepped, new_txn}
 use Rattle.nam_calls.specs.Commit.{lock_at}
 use Rattle.nam_calls.specs.TxnCalls.{txn_ask, txn_verb, txn_after, taken_at, taken_now}
 use Rattle.nam_calls.specs.Scan.{scan_begin, scan_skip, scan_read, scan_verb, scan_after, position_of}
@@ -188,36 +187,36 @@ scan_listed client attempt table =
 abbrev pub scan_ended : ClientState → Open → Outcome → TxnAnswer → ClientState
 scan_ended client attempt outcome end = answered (ended (record client { scanned = [] }) attempt outcome) (client_answer.Txn end)
 
-module _ (shape : Shape) where
-  -- how a scan goes on once a position is left
-  abbrev pub on_skip : ClientState → Open → ℕ → ℕ → ℕ → Now ScanPlace ScanAnswer → ClientState
-  on_skip client attempt table low high (At place) = go client (Scanning table low high place)
-  on_skip client attempt table low high (Over end) = scan_listed client attempt table
+-- how a scan goes on once a position is left
+abbrev pub on_skip : ClientState → Open → ℕ → ℕ → ℕ → Now ScanPlace ScanAnswer → ClientState
+on_skip client attempt table low high (At place) = go client (Scanning table low high place)
+on_skip client attempt table low high (Over end) = scan_listed client attempt table
 
+-- an operation counts as one; the commit is none
+abbrev pub counted : Open → TxnCall → Open
+counted attempt Commit = attempt
+counted attempt call = record attempt { ops = attempt.ops + 1; ops_so_far = attempt.ops_so_far + 1 }
+
+module _ (shape : Shape) where
   -- a key of the write set is not read: its row is the write set's
   abbrev pub on_key : ClientState → Open → ℕ → ℕ → ℕ → ℕ → ℕ → ClientState
   on_key client attempt table low high position key =
       let own = key_at table key in
       if writes_key attempt.state.writes own
-      then on_skip (gathered client position key (own_value attempt.state.writes own)) attempt table low high (scan_skip shape table low high position)
-      else on_skip client attempt table low high (scan_read shape table low high position key)
+      then on_skip (gathered client position key (own_value attempt.state.writes own)) attempt table low high (scan_skip shape table position)
+      else on_skip client attempt table low high (scan_read position key)
 
   abbrev pub on_scan : ClientState → Open → ℕ → ℕ → ℕ → ℕ → Now ScanPlace ScanAnswer → ClientState
   on_scan client attempt table low high position (At place) = go client (Scanning table low high place)
   on_scan client attempt table low high position (Over (scan_answer.Key key)) = on_key client attempt table low high position key
   on_scan client attempt table low high position (Over (scan_answer.Row item)) =
-      on_skip (gathered client position item.key item.value) attempt table low high (scan_skip shape table low high position)
+      on_skip (gathered client position item.key item.value) attempt table low high (scan_skip shape table position)
   on_scan client attempt table low high position (Over scan_answer.Done) = scan_listed client attempt table
   on_scan client attempt table low high position (Over (scan_answer.TooOld worker entry horizon)) =
       scan_ended client attempt (outcome.TooOld worker entry horizon) (txn_answer.TooOld worker entry horizon)
   on_scan client attempt table low high position (Over scan_answer.Astray) = scan_ended client attempt outcome.Left txn_answer.Astray
 
   -- 4. A call is asked
-
-  -- an operation counts as one; the commit is none
-  abbrev pub counted : Open → TxnCall → Open
-  counted attempt Commit = attempt
-  counted attempt call = record attempt { ops = attempt.ops + 1; weight = attempt.weight + 1 }
 
   abbrev pub ask_txn : ClientState → TxnCall → Option Open → ClientState
   ask_txn client call None = client
@@ -226,14 +225,14 @@ module _ (shape : Shape) where
   abbrev pub ask_scan : ClientState → ℕ → ℕ → ℕ → Option Open → ClientState
   ask_scan client table low high None = client
   ask_scan client table low high (Some attempt) =
-      go (record client { txn = Some (record attempt { ops = attempt.ops + 1; weight = attempt.weight + capacity_of shape table }); scanned = [] })
-        (Scanning table low high (scan_begin shape table low high))
+      go (record client { txn = Some (record attempt { ops = attempt.ops + 1; ops_so_far = attempt.ops_so_far + capacity_of shape table }); scanned = [] })
+        (Scanning table low high scan_begin)
 
   abbrev pub client_ask : ClientState → Call → ClientState
   client_ask client (Begin txn nth) = go client (Beginning txn nth snap.begin)
   client_ask client (Txn call) = ask_txn client call client.txn
   client_ask client (Scan table low high) = ask_scan client table low high client.txn
-  client_ask client (Tidy table key) = go client (Seeking table key (find_begin shape table key))
+  client_ask client (Tidy table key) = go client (Seeking table key find_begin)
   client_ask client (Collect bucket) = go client (Snapping bucket snap.begin)
 
   -- 5. The verb that stands
@@ -246,7 +245,7 @@ module _ (shape : Shape) where
   abbrev pub call_verb : ClientState → CallPlace → Verb
   call_verb client (Beginning txn nth at) = snap.verb_at at
   call_verb client (InTxn at) = open_verb client.txn at
-  call_verb client (Scanning table low high at) = scan_verb shape table low high at
+  call_verb client (Scanning table low high at) = scan_verb shape table at
   call_verb client (Seeking table key passed) = find_verb shape table key passed
   call_verb client (Moving table key position at) =
       let place = place_of shape table position in move_verb place (cells_by shape place) at
@@ -266,7 +265,7 @@ module _ (shape : Shape) where
   on_begin client txn nth (At place) = go client (Beginning txn nth place)
   on_begin client txn nth (Over (snap_end.Done seen)) =
       let prefix = prefix_of client.start seen in
-      let attempt : Open = record { txn = txn; nth = nth; prefix = prefix; ops = 0; weight = 0; reads = 0; locks = 0; state = new_txn client.worker client.last seen } in
+      let attempt : Open = record { txn = txn; nth = nth; prefix = prefix; ops = 0; ops_so_far = 0; reads = 0; locks = 0; state = new_txn client.worker client.last seen } in
       answered (record client { log = with_snap client.log seen; txn = Some attempt }) (client_answer.Begun prefix)
   on_begin client txn nth (Over (snap_end.Again worker first second)) =
       answered (told client (unbegun txn nth (outcome.Again worker first second))) (client_answer.Again worker first second)
@@ -304,7 +303,7 @@ module _ (shape : Shape) where
   abbrev pub take_scan : ClientState → ℕ → ℕ → ℕ → ScanPlace → Option Open → ℕ → ClientState
   take_scan client table low high at None found = client
   take_scan client table low high at (Some attempt) found =
-      on_scan client attempt table low high (position_of shape table low high at) (scan_after shape table low high attempt.state.seen at found)
+      on_scan client attempt table low high (position_of at) (scan_after shape table low high attempt.state.seen at found)
 
   abbrev pub call_after : ClientState → CallPlace → ℕ → ClientState
   call_after client (Beginning txn nth at) found = on_begin client txn nth (snap.after_word shape.workers at found)

@@ -95,7 +95,7 @@ pub struct Open {
     /// How many operations were asked.
     pub ops: u32,
     /// The same, where a scan counts as many as its table has positions.
-    pub weight: u32,
+    pub ops_so_far: u32,
     /// How many reads and locks it has listed.
     pub reads: u32,
     pub locks: u32,

@@ -7,7 +7,6 @@ use crate::ring::{CopyPlace, SlotPlace};
 use crate::record::InstallPlace;
 use lists::ShortList;
 use nam_layout::Place;
-use nam_verbs::Now;
 use si_model::{Item, Key, Lock, Op, Snapshot, Value};
 
 /// A call of a transaction. Fields are counted from 1.
@@ -146,11 +145,4 @@ pub enum TxnAnswer {
     Full(Lock),
     /// A read went astray: this never comes in a world.
     Astray,
-}
-
-/// A transaction, and where its call stands or how it was answered.
-#[derive(Drop)]
-pub struct Stepped {
-    pub state: TxnState,
-    pub call: Now<TxnPlace, TxnAnswer>,
 }

@@ -23,3 +23,5 @@ pub mod World
 pub mod Schedule
 pub mod Closed
 pub mod Bound
+pub mod Left
+pub mod Fits

@@ -9,8 +9,8 @@ use Rattle.nam_calls.specs.Session.{settle}
 use Rattle.nam_calls.specs.Opening.{copies, load_from}
 use Rattle.nam_calls.proofs.Shown.{shape, table, loaded, txn, stint, up, fuse, item, row, lock, tried, unbegun, move, move_done, move_back, move_cut, shown}
 
-unfoldable of_get_beside_fuse_1 : Scenario
-of_get_beside_fuse_1 = record {
+unfoldable two_puts_and_gets : Scenario
+two_puts_and_gets = record {
   shape = shape Narrow 2 (table 1 2 2 ∷ []) 1 1 0;
   rows = loaded 0 0 (0 ∷ []) ∷ loaded 0 1 (0 ∷ []) ∷ [];
   policy = record { tries = 1; tidy = false };
@@ -18,7 +18,7 @@ of_get_beside_fuse_1 = record {
   schedule = Stints (stint 1 31 ∷ []);
 }
 
-get_beside_fuse_1 : shown of_get_beside_fuse_1 (fuse 1 ∷ up ∷ []) ≡ record {
+get_beside_fuse_1 : shown two_puts_and_gets (fuse 1 ∷ up ∷ []) ≡ record {
   logs =
     record {
       events = unbegun 1 1 Cut ∷ [];
@@ -37,19 +37,10 @@ get_beside_fuse_1 : shown of_get_beside_fuse_1 (fuse 1 ∷ up ∷ []) ≡ record
     [];
   audit = row 0 0 (Some (0 ∷ [])) false ∷ row 0 1 (Some (0 ∷ [])) false ∷ [];
 }
-unfolding of_get_beside_fuse_1 stint_workers picked after_workers until_ended settle copies load_from
+unfolding two_puts_and_gets stint_workers picked after_workers until_ended settle copies load_from
 get_beside_fuse_1 = refl
 
-unfoldable of_get_beside_fuse_2 : Scenario
-of_get_beside_fuse_2 = record {
-  shape = shape Narrow 2 (table 1 2 2 ∷ []) 1 1 0;
-  rows = loaded 0 0 (0 ∷ []) ∷ loaded 0 1 (0 ∷ []) ∷ [];
-  policy = record { tries = 1; tidy = false };
-  txns = txn 1 (Put 0 0 (1 ∷ []) ∷ Put 0 1 (1 ∷ []) ∷ []) ∷ txn 2 (Get 0 0 ∷ Get 0 1 ∷ []) ∷ [];
-  schedule = Stints (stint 1 31 ∷ []);
-}
-
-get_beside_fuse_2 : shown of_get_beside_fuse_2 (fuse 2 ∷ up ∷ []) ≡ record {
+get_beside_fuse_2 : shown two_puts_and_gets (fuse 2 ∷ up ∷ []) ≡ record {
   logs =
     record {
       events = unbegun 1 1 Cut ∷ [];
@@ -68,19 +59,10 @@ get_beside_fuse_2 : shown of_get_beside_fuse_2 (fuse 2 ∷ up ∷ []) ≡ record
     [];
   audit = row 0 0 (Some (0 ∷ [])) false ∷ row 0 1 (Some (0 ∷ [])) false ∷ [];
 }
-unfolding of_get_beside_fuse_2 stint_workers picked after_workers until_ended settle copies load_from
+unfolding two_puts_and_gets stint_workers picked after_workers until_ended settle copies load_from
 get_beside_fuse_2 = refl
 
-unfoldable of_get_beside_fuse_3 : Scenario
-of_get_beside_fuse_3 = record {
-  shape = shape Narrow 2 (table 1 2 2 ∷ []) 1 1 0;
-  rows = loaded 0 0 (0 ∷ []) ∷ loaded 0 1 (0 ∷ []) ∷ [];
-  policy = record { tries = 1; tidy = false };
-  txns = txn 1 (Put 0 0 (1 ∷ []) ∷ Put 0 1 (1 ∷ []) ∷ []) ∷ txn 2 (Get 0 0 ∷ Get 0 1 ∷ []) ∷ [];
-  schedule = Stints (stint 1 31 ∷ []);
-}
-
-get_beside_fuse_3 : shown of_get_beside_fuse_3 (fuse 3 ∷ up ∷ []) ≡ record {
+get_beside_fuse_3 : shown two_puts_and_gets (fuse 3 ∷ up ∷ []) ≡ record {
   logs =
     record {
       events = unbegun 1 1 Cut ∷ [];
@@ -99,19 +81,10 @@ get_beside_fuse_3 : shown of_get_beside_fuse_3 (fuse 3 ∷ up ∷ []) ≡ record
     [];
   audit = row 0 0 (Some (0 ∷ [])) false ∷ row 0 1 (Some (0 ∷ [])) false ∷ [];
 }
-unfolding of_get_beside_fuse_3 stint_workers picked after_workers until_ended settle copies load_from
+unfolding two_puts_and_gets stint_workers picked after_workers until_ended settle copies load_from
 get_beside_fuse_3 = refl
 
-unfoldable of_get_beside_fuse_4 : Scenario
-of_get_beside_fuse_4 = record {
-  shape = shape Narrow 2 (table 1 2 2 ∷ []) 1 1 0;
-  rows = loaded 0 0 (0 ∷ []) ∷ loaded 0 1 (0 ∷ []) ∷ [];
-  policy = record { tries = 1; tidy = false };
-  txns = txn 1 (Put 0 0 (1 ∷ []) ∷ Put 0 1 (1 ∷ []) ∷ []) ∷ txn 2 (Get 0 0 ∷ Get 0 1 ∷ []) ∷ [];
-  schedule = Stints (stint 1 31 ∷ []);
-}
-
-get_beside_fuse_4 : shown of_get_beside_fuse_4 (fuse 4 ∷ up ∷ []) ≡ record {
+get_beside_fuse_4 : shown two_puts_and_gets (fuse 4 ∷ up ∷ []) ≡ record {
   logs =
     record {
       events = unbegun 1 1 Cut ∷ [];
@@ -130,19 +103,10 @@ get_beside_fuse_4 : shown of_get_beside_fuse_4 (fuse 4 ∷ up ∷ []) ≡ record
     [];
   audit = row 0 0 (Some (0 ∷ [])) false ∷ row 0 1 (Some (0 ∷ [])) false ∷ [];
 }
-unfolding of_get_beside_fuse_4 stint_workers picked after_workers until_ended settle copies load_from
+unfolding two_puts_and_gets stint_workers picked after_workers until_ended settle copies load_from
 get_beside_fuse_4 = refl
 
-unfoldable of_get_beside_fuse_5 : Scenario
-of_get_beside_fuse_5 = record {
-  shape = shape Narrow 2 (table 1 2 2 ∷ []) 1 1 0;
-  rows = loaded 0 0 (0 ∷ []) ∷ loaded 0 1 (0 ∷ []) ∷ [];
-  policy = record { tries = 1; tidy = false };
-  txns = txn 1 (Put 0 0 (1 ∷ []) ∷ Put 0 1 (1 ∷ []) ∷ []) ∷ txn 2 (Get 0 0 ∷ Get 0 1 ∷ []) ∷ [];
-  schedule = Stints (stint 1 31 ∷ []);
-}
-
-get_beside_fuse_5 : shown of_get_beside_fuse_5 (fuse 5 ∷ up ∷ []) ≡ record {
+get_beside_fuse_5 : shown two_puts_and_gets (fuse 5 ∷ up ∷ []) ≡ record {
   logs =
     record {
       events = tried 1 1 0 0 0 0 Cut ∷ [];
@@ -161,19 +125,10 @@ get_beside_fuse_5 : shown of_get_beside_fuse_5 (fuse 5 ∷ up ∷ []) ≡ record
     [];
   audit = row 0 0 (Some (0 ∷ [])) false ∷ row 0 1 (Some (0 ∷ [])) false ∷ [];
 }
-unfolding of_get_beside_fuse_5 stint_workers picked after_workers until_ended settle copies load_from
+unfolding two_puts_and_gets stint_workers picked after_workers until_ended settle copies load_from
 get_beside_fuse_5 = refl
 
-unfoldable of_get_beside_fuse_6 : Scenario
-of_get_beside_fuse_6 = record {
-  shape = shape Narrow 2 (table 1 2 2 ∷ []) 1 1 0;
-  rows = loaded 0 0 (0 ∷ []) ∷ loaded 0 1 (0 ∷ []) ∷ [];
-  policy = record { tries = 1; tidy = false };
-  txns = txn 1 (Put 0 0 (1 ∷ []) ∷ Put 0 1 (1 ∷ []) ∷ []) ∷ txn 2 (Get 0 0 ∷ Get 0 1 ∷ []) ∷ [];
-  schedule = Stints (stint 1 31 ∷ []);
-}
-
-get_beside_fuse_6 : shown of_get_beside_fuse_6 (fuse 6 ∷ up ∷ []) ≡ record {
+get_beside_fuse_6 : shown two_puts_and_gets (fuse 6 ∷ up ∷ []) ≡ record {
   logs =
     record {
       events = tried 1 1 0 0 0 0 Cut ∷ [];
@@ -192,19 +147,10 @@ get_beside_fuse_6 : shown of_get_beside_fuse_6 (fuse 6 ∷ up ∷ []) ≡ record
     [];
   audit = row 0 0 (Some (0 ∷ [])) false ∷ row 0 1 (Some (0 ∷ [])) false ∷ [];
 }
-unfolding of_get_beside_fuse_6 stint_workers picked after_workers until_ended settle copies load_from
+unfolding two_puts_and_gets stint_workers picked after_workers until_ended settle copies load_from
 get_beside_fuse_6 = refl
 
-unfoldable of_get_beside_fuse_7 : Scenario
-of_get_beside_fuse_7 = record {
-  shape = shape Narrow 2 (table 1 2 2 ∷ []) 1 1 0;
-  rows = loaded 0 0 (0 ∷ []) ∷ loaded 0 1 (0 ∷ []) ∷ [];
-  policy = record { tries = 1; tidy = false };
-  txns = txn 1 (Put 0 0 (1 ∷ []) ∷ Put 0 1 (1 ∷ []) ∷ []) ∷ txn 2 (Get 0 0 ∷ Get 0 1 ∷ []) ∷ [];
-  schedule = Stints (stint 1 31 ∷ []);
-}
-
-get_beside_fuse_7 : shown of_get_beside_fuse_7 (fuse 7 ∷ up ∷ []) ≡ record {
+get_beside_fuse_7 : shown two_puts_and_gets (fuse 7 ∷ up ∷ []) ≡ record {
   logs =
     record {
       events = tried 1 1 0 0 0 0 Cut ∷ [];
@@ -223,19 +169,10 @@ get_beside_fuse_7 : shown of_get_beside_fuse_7 (fuse 7 ∷ up ∷ []) ≡ record
     [];
   audit = row 0 0 (Some (0 ∷ [])) false ∷ row 0 1 (Some (0 ∷ [])) false ∷ [];
 }
-unfolding of_get_beside_fuse_7 stint_workers picked after_workers until_ended settle copies load_from
+unfolding two_puts_and_gets stint_workers picked after_workers until_ended settle copies load_from
 get_beside_fuse_7 = refl
 
-unfoldable of_get_beside_fuse_8 : Scenario
-of_get_beside_fuse_8 = record {
-  shape = shape Narrow 2 (table 1 2 2 ∷ []) 1 1 0;
-  rows = loaded 0 0 (0 ∷ []) ∷ loaded 0 1 (0 ∷ []) ∷ [];
-  policy = record { tries = 1; tidy = false };
-  txns = txn 1 (Put 0 0 (1 ∷ []) ∷ Put 0 1 (1 ∷ []) ∷ []) ∷ txn 2 (Get 0 0 ∷ Get 0 1 ∷ []) ∷ [];
-  schedule = Stints (stint 1 31 ∷ []);
-}
-
-get_beside_fuse_8 : shown of_get_beside_fuse_8 (fuse 8 ∷ up ∷ []) ≡ record {
+get_beside_fuse_8 : shown two_puts_and_gets (fuse 8 ∷ up ∷ []) ≡ record {
   logs =
     record {
       events = tried 1 1 0 0 0 0 Cut ∷ [];
@@ -254,19 +191,10 @@ get_beside_fuse_8 : shown of_get_beside_fuse_8 (fuse 8 ∷ up ∷ []) ≡ record
     [];
   audit = row 0 0 (Some (0 ∷ [])) false ∷ row 0 1 (Some (0 ∷ [])) false ∷ [];
 }
-unfolding of_get_beside_fuse_8 stint_workers picked after_workers until_ended settle copies load_from
+unfolding two_puts_and_gets stint_workers picked after_workers until_ended settle copies load_from
 get_beside_fuse_8 = refl
 
-unfoldable of_get_beside_fuse_9 : Scenario
-of_get_beside_fuse_9 = record {
-  shape = shape Narrow 2 (table 1 2 2 ∷ []) 1 1 0;
-  rows = loaded 0 0 (0 ∷ []) ∷ loaded 0 1 (0 ∷ []) ∷ [];
-  policy = record { tries = 1; tidy = false };
-  txns = txn 1 (Put 0 0 (1 ∷ []) ∷ Put 0 1 (1 ∷ []) ∷ []) ∷ txn 2 (Get 0 0 ∷ Get 0 1 ∷ []) ∷ [];
-  schedule = Stints (stint 1 31 ∷ []);
-}
-
-get_beside_fuse_9 : shown of_get_beside_fuse_9 (fuse 9 ∷ up ∷ []) ≡ record {
+get_beside_fuse_9 : shown two_puts_and_gets (fuse 9 ∷ up ∷ []) ≡ record {
   logs =
     record {
       events = tried 1 1 0 0 1 0 Cut ∷ [];
@@ -285,19 +213,10 @@ get_beside_fuse_9 : shown of_get_beside_fuse_9 (fuse 9 ∷ up ∷ []) ≡ record
     [];
   audit = row 0 0 (Some (0 ∷ [])) true ∷ row 0 1 (Some (0 ∷ [])) false ∷ [];
 }
-unfolding of_get_beside_fuse_9 stint_workers picked after_workers until_ended settle copies load_from
+unfolding two_puts_and_gets stint_workers picked after_workers until_ended settle copies load_from
 get_beside_fuse_9 = refl
 
-unfoldable of_get_beside_fuse_10 : Scenario
-of_get_beside_fuse_10 = record {
-  shape = shape Narrow 2 (table 1 2 2 ∷ []) 1 1 0;
-  rows = loaded 0 0 (0 ∷ []) ∷ loaded 0 1 (0 ∷ []) ∷ [];
-  policy = record { tries = 1; tidy = false };
-  txns = txn 1 (Put 0 0 (1 ∷ []) ∷ Put 0 1 (1 ∷ []) ∷ []) ∷ txn 2 (Get 0 0 ∷ Get 0 1 ∷ []) ∷ [];
-  schedule = Stints (stint 1 31 ∷ []);
-}
-
-get_beside_fuse_10 : shown of_get_beside_fuse_10 (fuse 10 ∷ up ∷ []) ≡ record {
+get_beside_fuse_10 : shown two_puts_and_gets (fuse 10 ∷ up ∷ []) ≡ record {
   logs =
     record {
       events = tried 1 1 0 0 1 0 Cut ∷ [];
@@ -316,19 +235,10 @@ get_beside_fuse_10 : shown of_get_beside_fuse_10 (fuse 10 ∷ up ∷ []) ≡ rec
     [];
   audit = row 0 0 (Some (0 ∷ [])) true ∷ row 0 1 (Some (0 ∷ [])) false ∷ [];
 }
-unfolding of_get_beside_fuse_10 stint_workers picked after_workers until_ended settle copies load_from
+unfolding two_puts_and_gets stint_workers picked after_workers until_ended settle copies load_from
 get_beside_fuse_10 = refl
 
-unfoldable of_get_beside_fuse_11 : Scenario
-of_get_beside_fuse_11 = record {
-  shape = shape Narrow 2 (table 1 2 2 ∷ []) 1 1 0;
-  rows = loaded 0 0 (0 ∷ []) ∷ loaded 0 1 (0 ∷ []) ∷ [];
-  policy = record { tries = 1; tidy = false };
-  txns = txn 1 (Put 0 0 (1 ∷ []) ∷ Put 0 1 (1 ∷ []) ∷ []) ∷ txn 2 (Get 0 0 ∷ Get 0 1 ∷ []) ∷ [];
-  schedule = Stints (stint 1 31 ∷ []);
-}
-
-get_beside_fuse_11 : shown of_get_beside_fuse_11 (fuse 11 ∷ up ∷ []) ≡ record {
+get_beside_fuse_11 : shown two_puts_and_gets (fuse 11 ∷ up ∷ []) ≡ record {
   logs =
     record {
       events = tried 1 1 0 0 2 0 Cut ∷ [];
@@ -347,19 +257,10 @@ get_beside_fuse_11 : shown of_get_beside_fuse_11 (fuse 11 ∷ up ∷ []) ≡ rec
     [];
   audit = row 0 0 (Some (0 ∷ [])) true ∷ row 0 1 (Some (0 ∷ [])) true ∷ [];
 }
-unfolding of_get_beside_fuse_11 stint_workers picked after_workers until_ended settle copies load_from
+unfolding two_puts_and_gets stint_workers picked after_workers until_ended settle copies load_from
 get_beside_fuse_11 = refl
 
-unfoldable of_get_beside_fuse_12 : Scenario
-of_get_beside_fuse_12 = record {
-  shape = shape Narrow 2 (table 1 2 2 ∷ []) 1 1 0;
-  rows = loaded 0 0 (0 ∷ []) ∷ loaded 0 1 (0 ∷ []) ∷ [];
-  policy = record { tries = 1; tidy = false };
-  txns = txn 1 (Put 0 0 (1 ∷ []) ∷ Put 0 1 (1 ∷ []) ∷ []) ∷ txn 2 (Get 0 0 ∷ Get 0 1 ∷ []) ∷ [];
-  schedule = Stints (stint 1 31 ∷ []);
-}
-
-get_beside_fuse_12 : shown of_get_beside_fuse_12 (fuse 12 ∷ up ∷ []) ≡ record {
+get_beside_fuse_12 : shown two_puts_and_gets (fuse 12 ∷ up ∷ []) ≡ record {
   logs =
     record {
       events = tried 1 1 0 0 2 0 Cut ∷ [];
@@ -378,19 +279,10 @@ get_beside_fuse_12 : shown of_get_beside_fuse_12 (fuse 12 ∷ up ∷ []) ≡ rec
     [];
   audit = row 0 0 (Some (0 ∷ [])) true ∷ row 0 1 (Some (0 ∷ [])) true ∷ [];
 }
-unfolding of_get_beside_fuse_12 stint_workers picked after_workers until_ended settle copies load_from
+unfolding two_puts_and_gets stint_workers picked after_workers until_ended settle copies load_from
 get_beside_fuse_12 = refl
 
-unfoldable of_get_beside_fuse_13 : Scenario
-of_get_beside_fuse_13 = record {
-  shape = shape Narrow 2 (table 1 2 2 ∷ []) 1 1 0;
-  rows = loaded 0 0 (0 ∷ []) ∷ loaded 0 1 (0 ∷ []) ∷ [];
-  policy = record { tries = 1; tidy = false };
-  txns = txn 1 (Put 0 0 (1 ∷ []) ∷ Put 0 1 (1 ∷ []) ∷ []) ∷ txn 2 (Get 0 0 ∷ Get 0 1 ∷ []) ∷ [];
-  schedule = Stints (stint 1 31 ∷ []);
-}
-
-get_beside_fuse_13 : shown of_get_beside_fuse_13 (fuse 13 ∷ up ∷ []) ≡ record {
+get_beside_fuse_13 : shown two_puts_and_gets (fuse 13 ∷ up ∷ []) ≡ record {
   logs =
     record {
       events = tried 1 1 0 0 2 0 Cut ∷ [];
@@ -409,19 +301,10 @@ get_beside_fuse_13 : shown of_get_beside_fuse_13 (fuse 13 ∷ up ∷ []) ≡ rec
     [];
   audit = row 0 0 (Some (0 ∷ [])) true ∷ row 0 1 (Some (0 ∷ [])) true ∷ [];
 }
-unfolding of_get_beside_fuse_13 stint_workers picked after_workers until_ended settle copies load_from
+unfolding two_puts_and_gets stint_workers picked after_workers until_ended settle copies load_from
 get_beside_fuse_13 = refl
 
-unfoldable of_get_beside_fuse_14 : Scenario
-of_get_beside_fuse_14 = record {
-  shape = shape Narrow 2 (table 1 2 2 ∷ []) 1 1 0;
-  rows = loaded 0 0 (0 ∷ []) ∷ loaded 0 1 (0 ∷ []) ∷ [];
-  policy = record { tries = 1; tidy = false };
-  txns = txn 1 (Put 0 0 (1 ∷ []) ∷ Put 0 1 (1 ∷ []) ∷ []) ∷ txn 2 (Get 0 0 ∷ Get 0 1 ∷ []) ∷ [];
-  schedule = Stints (stint 1 31 ∷ []);
-}
-
-get_beside_fuse_14 : shown of_get_beside_fuse_14 (fuse 14 ∷ up ∷ []) ≡ record {
+get_beside_fuse_14 : shown two_puts_and_gets (fuse 14 ∷ up ∷ []) ≡ record {
   logs =
     record {
       events = tried 1 1 0 0 2 0 Cut ∷ [];
@@ -440,19 +323,10 @@ get_beside_fuse_14 : shown of_get_beside_fuse_14 (fuse 14 ∷ up ∷ []) ≡ rec
     [];
   audit = row 0 0 (Some (0 ∷ [])) true ∷ row 0 1 (Some (0 ∷ [])) true ∷ [];
 }
-unfolding of_get_beside_fuse_14 stint_workers picked after_workers until_ended settle copies load_from
+unfolding two_puts_and_gets stint_workers picked after_workers until_ended settle copies load_from
 get_beside_fuse_14 = refl
 
-unfoldable of_get_beside_fuse_15 : Scenario
-of_get_beside_fuse_15 = record {
-  shape = shape Narrow 2 (table 1 2 2 ∷ []) 1 1 0;
-  rows = loaded 0 0 (0 ∷ []) ∷ loaded 0 1 (0 ∷ []) ∷ [];
-  policy = record { tries = 1; tidy = false };
-  txns = txn 1 (Put 0 0 (1 ∷ []) ∷ Put 0 1 (1 ∷ []) ∷ []) ∷ txn 2 (Get 0 0 ∷ Get 0 1 ∷ []) ∷ [];
-  schedule = Stints (stint 1 31 ∷ []);
-}
-
-get_beside_fuse_15 : shown of_get_beside_fuse_15 (fuse 15 ∷ up ∷ []) ≡ record {
+get_beside_fuse_15 : shown two_puts_and_gets (fuse 15 ∷ up ∷ []) ≡ record {
   logs =
     record {
       events = tried 1 1 0 0 2 0 Cut ∷ [];
@@ -471,19 +345,10 @@ get_beside_fuse_15 : shown of_get_beside_fuse_15 (fuse 15 ∷ up ∷ []) ≡ rec
     [];
   audit = row 0 0 (Some (0 ∷ [])) true ∷ row 0 1 (Some (0 ∷ [])) true ∷ [];
 }
-unfolding of_get_beside_fuse_15 stint_workers picked after_workers until_ended settle copies load_from
+unfolding two_puts_and_gets stint_workers picked after_workers until_ended settle copies load_from
 get_beside_fuse_15 = refl
 
-unfoldable of_get_beside_fuse_16 : Scenario
-of_get_beside_fuse_16 = record {
-  shape = shape Narrow 2 (table 1 2 2 ∷ []) 1 1 0;
-  rows = loaded 0 0 (0 ∷ []) ∷ loaded 0 1 (0 ∷ []) ∷ [];
-  policy = record { tries = 1; tidy = false };
-  txns = txn 1 (Put 0 0 (1 ∷ []) ∷ Put 0 1 (1 ∷ []) ∷ []) ∷ txn 2 (Get 0 0 ∷ Get 0 1 ∷ []) ∷ [];
-  schedule = Stints (stint 1 31 ∷ []);
-}
-
-get_beside_fuse_16 : shown of_get_beside_fuse_16 (fuse 16 ∷ up ∷ []) ≡ record {
+get_beside_fuse_16 : shown two_puts_and_gets (fuse 16 ∷ up ∷ []) ≡ record {
   logs =
     record {
       events = tried 1 1 0 0 2 0 Cut ∷ [];
@@ -502,19 +367,10 @@ get_beside_fuse_16 : shown of_get_beside_fuse_16 (fuse 16 ∷ up ∷ []) ≡ rec
     [];
   audit = row 0 0 (Some (0 ∷ [])) true ∷ row 0 1 (Some (0 ∷ [])) true ∷ [];
 }
-unfolding of_get_beside_fuse_16 stint_workers picked after_workers until_ended settle copies load_from
+unfolding two_puts_and_gets stint_workers picked after_workers until_ended settle copies load_from
 get_beside_fuse_16 = refl
 
-unfoldable of_get_beside_fuse_17 : Scenario
-of_get_beside_fuse_17 = record {
-  shape = shape Narrow 2 (table 1 2 2 ∷ []) 1 1 0;
-  rows = loaded 0 0 (0 ∷ []) ∷ loaded 0 1 (0 ∷ []) ∷ [];
-  policy = record { tries = 1; tidy = false };
-  txns = txn 1 (Put 0 0 (1 ∷ []) ∷ Put 0 1 (1 ∷ []) ∷ []) ∷ txn 2 (Get 0 0 ∷ Get 0 1 ∷ []) ∷ [];
-  schedule = Stints (stint 1 31 ∷ []);
-}
-
-get_beside_fuse_17 : shown of_get_beside_fuse_17 (fuse 17 ∷ up ∷ []) ≡ record {
+get_beside_fuse_17 : shown two_puts_and_gets (fuse 17 ∷ up ∷ []) ≡ record {
   logs =
     record {
       events = tried 1 1 0 0 2 0 Cut ∷ [];
@@ -533,19 +389,10 @@ get_beside_fuse_17 : shown of_get_beside_fuse_17 (fuse 17 ∷ up ∷ []) ≡ rec
     [];
   audit = row 0 0 (Some (0 ∷ [])) true ∷ row 0 1 (Some (0 ∷ [])) true ∷ [];
 }
-unfolding of_get_beside_fuse_17 stint_workers picked after_workers until_ended settle copies load_from
+unfolding two_puts_and_gets stint_workers picked after_workers until_ended settle copies load_from
 get_beside_fuse_17 = refl
 
-unfoldable of_get_beside_fuse_18 : Scenario
-of_get_beside_fuse_18 = record {
-  shape = shape Narrow 2 (table 1 2 2 ∷ []) 1 1 0;
-  rows = loaded 0 0 (0 ∷ []) ∷ loaded 0 1 (0 ∷ []) ∷ [];
-  policy = record { tries = 1; tidy = false };
-  txns = txn 1 (Put 0 0 (1 ∷ []) ∷ Put 0 1 (1 ∷ []) ∷ []) ∷ txn 2 (Get 0 0 ∷ Get 0 1 ∷ []) ∷ [];
-  schedule = Stints (stint 1 31 ∷ []);
-}
-
-get_beside_fuse_18 : shown of_get_beside_fuse_18 (fuse 18 ∷ up ∷ []) ≡ record {
+get_beside_fuse_18 : shown two_puts_and_gets (fuse 18 ∷ up ∷ []) ≡ record {
   logs =
     record {
       events = tried 1 1 0 0 2 0 Cut ∷ [];
@@ -564,19 +411,10 @@ get_beside_fuse_18 : shown of_get_beside_fuse_18 (fuse 18 ∷ up ∷ []) ≡ rec
     [];
   audit = row 0 0 (Some (0 ∷ [])) true ∷ row 0 1 (Some (0 ∷ [])) true ∷ [];
 }
-unfolding of_get_beside_fuse_18 stint_workers picked after_workers until_ended settle copies load_from
+unfolding two_puts_and_gets stint_workers picked after_workers until_ended settle copies load_from
 get_beside_fuse_18 = refl
 
-unfoldable of_get_beside_fuse_19 : Scenario
-of_get_beside_fuse_19 = record {
-  shape = shape Narrow 2 (table 1 2 2 ∷ []) 1 1 0;
-  rows = loaded 0 0 (0 ∷ []) ∷ loaded 0 1 (0 ∷ []) ∷ [];
-  policy = record { tries = 1; tidy = false };
-  txns = txn 1 (Put 0 0 (1 ∷ []) ∷ Put 0 1 (1 ∷ []) ∷ []) ∷ txn 2 (Get 0 0 ∷ Get 0 1 ∷ []) ∷ [];
-  schedule = Stints (stint 1 31 ∷ []);
-}
-
-get_beside_fuse_19 : shown of_get_beside_fuse_19 (fuse 19 ∷ up ∷ []) ≡ record {
+get_beside_fuse_19 : shown two_puts_and_gets (fuse 19 ∷ up ∷ []) ≡ record {
   logs =
     record {
       events = tried 1 1 0 0 2 0 Cut ∷ [];
@@ -595,19 +433,10 @@ get_beside_fuse_19 : shown of_get_beside_fuse_19 (fuse 19 ∷ up ∷ []) ≡ rec
     [];
   audit = row 0 0 (Some (0 ∷ [])) true ∷ row 0 1 (Some (0 ∷ [])) true ∷ [];
 }
-unfolding of_get_beside_fuse_19 stint_workers picked after_workers until_ended settle copies load_from
+unfolding two_puts_and_gets stint_workers picked after_workers until_ended settle copies load_from
 get_beside_fuse_19 = refl
 
-unfoldable of_get_beside_fuse_20 : Scenario
-of_get_beside_fuse_20 = record {
-  shape = shape Narrow 2 (table 1 2 2 ∷ []) 1 1 0;
-  rows = loaded 0 0 (0 ∷ []) ∷ loaded 0 1 (0 ∷ []) ∷ [];
-  policy = record { tries = 1; tidy = false };
-  txns = txn 1 (Put 0 0 (1 ∷ []) ∷ Put 0 1 (1 ∷ []) ∷ []) ∷ txn 2 (Get 0 0 ∷ Get 0 1 ∷ []) ∷ [];
-  schedule = Stints (stint 1 31 ∷ []);
-}
-
-get_beside_fuse_20 : shown of_get_beside_fuse_20 (fuse 20 ∷ up ∷ []) ≡ record {
+get_beside_fuse_20 : shown two_puts_and_gets (fuse 20 ∷ up ∷ []) ≡ record {
   logs =
     record {
       events = tried 1 1 0 0 2 0 Cut ∷ [];
@@ -626,19 +455,10 @@ get_beside_fuse_20 : shown of_get_beside_fuse_20 (fuse 20 ∷ up ∷ []) ≡ rec
     [];
   audit = row 0 0 (Some (0 ∷ [])) true ∷ row 0 1 (Some (0 ∷ [])) true ∷ [];
 }
-unfolding of_get_beside_fuse_20 stint_workers picked after_workers until_ended settle copies load_from
+unfolding two_puts_and_gets stint_workers picked after_workers until_ended settle copies load_from
 get_beside_fuse_20 = refl
 
-unfoldable of_get_beside_fuse_21 : Scenario
-of_get_beside_fuse_21 = record {
-  shape = shape Narrow 2 (table 1 2 2 ∷ []) 1 1 0;
-  rows = loaded 0 0 (0 ∷ []) ∷ loaded 0 1 (0 ∷ []) ∷ [];
-  policy = record { tries = 1; tidy = false };
-  txns = txn 1 (Put 0 0 (1 ∷ []) ∷ Put 0 1 (1 ∷ []) ∷ []) ∷ txn 2 (Get 0 0 ∷ Get 0 1 ∷ []) ∷ [];
-  schedule = Stints (stint 1 31 ∷ []);
-}
-
-get_beside_fuse_21 : shown of_get_beside_fuse_21 (fuse 21 ∷ up ∷ []) ≡ record {
+get_beside_fuse_21 : shown two_puts_and_gets (fuse 21 ∷ up ∷ []) ≡ record {
   logs =
     record {
       events = tried 1 1 0 0 2 0 Cut ∷ [];
@@ -657,19 +477,10 @@ get_beside_fuse_21 : shown of_get_beside_fuse_21 (fuse 21 ∷ up ∷ []) ≡ rec
     [];
   audit = row 0 0 (Some (0 ∷ [])) true ∷ row 0 1 (Some (0 ∷ [])) true ∷ [];
 }
-unfolding of_get_beside_fuse_21 stint_workers picked after_workers until_ended settle copies load_from
+unfolding two_puts_and_gets stint_workers picked after_workers until_ended settle copies load_from
 get_beside_fuse_21 = refl
 
-unfoldable of_get_beside_fuse_22 : Scenario
-of_get_beside_fuse_22 = record {
-  shape = shape Narrow 2 (table 1 2 2 ∷ []) 1 1 0;
-  rows = loaded 0 0 (0 ∷ []) ∷ loaded 0 1 (0 ∷ []) ∷ [];
-  policy = record { tries = 1; tidy = false };
-  txns = txn 1 (Put 0 0 (1 ∷ []) ∷ Put 0 1 (1 ∷ []) ∷ []) ∷ txn 2 (Get 0 0 ∷ Get 0 1 ∷ []) ∷ [];
-  schedule = Stints (stint 1 31 ∷ []);
-}
-
-get_beside_fuse_22 : shown of_get_beside_fuse_22 (fuse 22 ∷ up ∷ []) ≡ record {
+get_beside_fuse_22 : shown two_puts_and_gets (fuse 22 ∷ up ∷ []) ≡ record {
   logs =
     record {
       events = tried 1 1 0 0 2 0 Cut ∷ [];
@@ -688,19 +499,10 @@ get_beside_fuse_22 : shown of_get_beside_fuse_22 (fuse 22 ∷ up ∷ []) ≡ rec
     [];
   audit = row 0 0 (Some (0 ∷ [])) true ∷ row 0 1 (Some (0 ∷ [])) true ∷ [];
 }
-unfolding of_get_beside_fuse_22 stint_workers picked after_workers until_ended settle copies load_from
+unfolding two_puts_and_gets stint_workers picked after_workers until_ended settle copies load_from
 get_beside_fuse_22 = refl
 
-unfoldable of_get_beside_fuse_23 : Scenario
-of_get_beside_fuse_23 = record {
-  shape = shape Narrow 2 (table 1 2 2 ∷ []) 1 1 0;
-  rows = loaded 0 0 (0 ∷ []) ∷ loaded 0 1 (0 ∷ []) ∷ [];
-  policy = record { tries = 1; tidy = false };
-  txns = txn 1 (Put 0 0 (1 ∷ []) ∷ Put 0 1 (1 ∷ []) ∷ []) ∷ txn 2 (Get 0 0 ∷ Get 0 1 ∷ []) ∷ [];
-  schedule = Stints (stint 1 31 ∷ []);
-}
-
-get_beside_fuse_23 : shown of_get_beside_fuse_23 (fuse 23 ∷ up ∷ []) ≡ record {
+get_beside_fuse_23 : shown two_puts_and_gets (fuse 23 ∷ up ∷ []) ≡ record {
   logs =
     record {
       events = tried 1 1 0 0 2 0 Cut ∷ [];
@@ -719,19 +521,10 @@ get_beside_fuse_23 : shown of_get_beside_fuse_23 (fuse 23 ∷ up ∷ []) ≡ rec
     [];
   audit = row 0 0 (Some (0 ∷ [])) false ∷ row 0 1 (Some (0 ∷ [])) true ∷ [];
 }
-unfolding of_get_beside_fuse_23 stint_workers picked after_workers until_ended settle copies load_from
+unfolding two_puts_and_gets stint_workers picked after_workers until_ended settle copies load_from
 get_beside_fuse_23 = refl
 
-unfoldable of_get_beside_fuse_24 : Scenario
-of_get_beside_fuse_24 = record {
-  shape = shape Narrow 2 (table 1 2 2 ∷ []) 1 1 0;
-  rows = loaded 0 0 (0 ∷ []) ∷ loaded 0 1 (0 ∷ []) ∷ [];
-  policy = record { tries = 1; tidy = false };
-  txns = txn 1 (Put 0 0 (1 ∷ []) ∷ Put 0 1 (1 ∷ []) ∷ []) ∷ txn 2 (Get 0 0 ∷ Get 0 1 ∷ []) ∷ [];
-  schedule = Stints (stint 1 31 ∷ []);
-}
-
-get_beside_fuse_24 : shown of_get_beside_fuse_24 (fuse 24 ∷ up ∷ []) ≡ record {
+get_beside_fuse_24 : shown two_puts_and_gets (fuse 24 ∷ up ∷ []) ≡ record {
   logs =
     record {
       events = tried 1 1 0 0 2 0 Cut ∷ [];
@@ -750,19 +543,10 @@ get_beside_fuse_24 : shown of_get_beside_fuse_24 (fuse 24 ∷ up ∷ []) ≡ rec
     [];
   audit = row 0 0 (Some (0 ∷ [])) false ∷ row 0 1 (Some (0 ∷ [])) true ∷ [];
 }
-unfolding of_get_beside_fuse_24 stint_workers picked after_workers until_ended settle copies load_from
+unfolding two_puts_and_gets stint_workers picked after_workers until_ended settle copies load_from
 get_beside_fuse_24 = refl
 
-unfoldable of_get_beside_fuse_25 : Scenario
-of_get_beside_fuse_25 = record {
-  shape = shape Narrow 2 (table 1 2 2 ∷ []) 1 1 0;
-  rows = loaded 0 0 (0 ∷ []) ∷ loaded 0 1 (0 ∷ []) ∷ [];
-  policy = record { tries = 1; tidy = false };
-  txns = txn 1 (Put 0 0 (1 ∷ []) ∷ Put 0 1 (1 ∷ []) ∷ []) ∷ txn 2 (Get 0 0 ∷ Get 0 1 ∷ []) ∷ [];
-  schedule = Stints (stint 1 31 ∷ []);
-}
-
-get_beside_fuse_25 : shown of_get_beside_fuse_25 (fuse 25 ∷ up ∷ []) ≡ record {
+get_beside_fuse_25 : shown two_puts_and_gets (fuse 25 ∷ up ∷ []) ≡ record {
   logs =
     record {
       events = tried 1 1 0 0 2 0 Cut ∷ [];
@@ -781,19 +565,10 @@ get_beside_fuse_25 : shown of_get_beside_fuse_25 (fuse 25 ∷ up ∷ []) ≡ rec
     [];
   audit = row 0 0 (Some (0 ∷ [])) false ∷ row 0 1 (Some (0 ∷ [])) true ∷ [];
 }
-unfolding of_get_beside_fuse_25 stint_workers picked after_workers until_ended settle copies load_from
+unfolding two_puts_and_gets stint_workers picked after_workers until_ended settle copies load_from
 get_beside_fuse_25 = refl
 
-unfoldable of_get_beside_fuse_26 : Scenario
-of_get_beside_fuse_26 = record {
-  shape = shape Narrow 2 (table 1 2 2 ∷ []) 1 1 0;
-  rows = loaded 0 0 (0 ∷ []) ∷ loaded 0 1 (0 ∷ []) ∷ [];
-  policy = record { tries = 1; tidy = false };
-  txns = txn 1 (Put 0 0 (1 ∷ []) ∷ Put 0 1 (1 ∷ []) ∷ []) ∷ txn 2 (Get 0 0 ∷ Get 0 1 ∷ []) ∷ [];
-  schedule = Stints (stint 1 31 ∷ []);
-}
-
-get_beside_fuse_26 : shown of_get_beside_fuse_26 (fuse 26 ∷ up ∷ []) ≡ record {
+get_beside_fuse_26 : shown two_puts_and_gets (fuse 26 ∷ up ∷ []) ≡ record {
   logs =
     record {
       events = tried 1 1 0 0 2 0 Cut ∷ [];
@@ -812,19 +587,10 @@ get_beside_fuse_26 : shown of_get_beside_fuse_26 (fuse 26 ∷ up ∷ []) ≡ rec
     [];
   audit = row 0 0 (Some (0 ∷ [])) false ∷ row 0 1 (Some (0 ∷ [])) true ∷ [];
 }
-unfolding of_get_beside_fuse_26 stint_workers picked after_workers until_ended settle copies load_from
+unfolding two_puts_and_gets stint_workers picked after_workers until_ended settle copies load_from
 get_beside_fuse_26 = refl
 
-unfoldable of_get_beside_fuse_27 : Scenario
-of_get_beside_fuse_27 = record {
-  shape = shape Narrow 2 (table 1 2 2 ∷ []) 1 1 0;
-  rows = loaded 0 0 (0 ∷ []) ∷ loaded 0 1 (0 ∷ []) ∷ [];
-  policy = record { tries = 1; tidy = false };
-  txns = txn 1 (Put 0 0 (1 ∷ []) ∷ Put 0 1 (1 ∷ []) ∷ []) ∷ txn 2 (Get 0 0 ∷ Get 0 1 ∷ []) ∷ [];
-  schedule = Stints (stint 1 31 ∷ []);
-}
-
-get_beside_fuse_27 : shown of_get_beside_fuse_27 (fuse 27 ∷ up ∷ []) ≡ record {
+get_beside_fuse_27 : shown two_puts_and_gets (fuse 27 ∷ up ∷ []) ≡ record {
   logs =
     record {
       events = tried 1 1 0 0 2 0 Cut ∷ [];
@@ -843,19 +609,10 @@ get_beside_fuse_27 : shown of_get_beside_fuse_27 (fuse 27 ∷ up ∷ []) ≡ rec
     [];
   audit = row 0 0 (Some (0 ∷ [])) false ∷ row 0 1 (Some (0 ∷ [])) true ∷ [];
 }
-unfolding of_get_beside_fuse_27 stint_workers picked after_workers until_ended settle copies load_from
+unfolding two_puts_and_gets stint_workers picked after_workers until_ended settle copies load_from
 get_beside_fuse_27 = refl
 
-unfoldable of_get_beside_fuse_28 : Scenario
-of_get_beside_fuse_28 = record {
-  shape = shape Narrow 2 (table 1 2 2 ∷ []) 1 1 0;
-  rows = loaded 0 0 (0 ∷ []) ∷ loaded 0 1 (0 ∷ []) ∷ [];
-  policy = record { tries = 1; tidy = false };
-  txns = txn 1 (Put 0 0 (1 ∷ []) ∷ Put 0 1 (1 ∷ []) ∷ []) ∷ txn 2 (Get 0 0 ∷ Get 0 1 ∷ []) ∷ [];
-  schedule = Stints (stint 1 31 ∷ []);
-}
-
-get_beside_fuse_28 : shown of_get_beside_fuse_28 (fuse 28 ∷ up ∷ []) ≡ record {
+get_beside_fuse_28 : shown two_puts_and_gets (fuse 28 ∷ up ∷ []) ≡ record {
   logs =
     record {
       events = tried 1 1 0 0 2 0 Cut ∷ [];
@@ -874,19 +631,10 @@ get_beside_fuse_28 : shown of_get_beside_fuse_28 (fuse 28 ∷ up ∷ []) ≡ rec
     [];
   audit = row 0 0 (Some (0 ∷ [])) false ∷ row 0 1 (Some (0 ∷ [])) true ∷ [];
 }
-unfolding of_get_beside_fuse_28 stint_workers picked after_workers until_ended settle copies load_from
+unfolding two_puts_and_gets stint_workers picked after_workers until_ended settle copies load_from
 get_beside_fuse_28 = refl
 
-unfoldable of_get_beside_fuse_29 : Scenario
-of_get_beside_fuse_29 = record {
-  shape = shape Narrow 2 (table 1 2 2 ∷ []) 1 1 0;
-  rows = loaded 0 0 (0 ∷ []) ∷ loaded 0 1 (0 ∷ []) ∷ [];
-  policy = record { tries = 1; tidy = false };
-  txns = txn 1 (Put 0 0 (1 ∷ []) ∷ Put 0 1 (1 ∷ []) ∷ []) ∷ txn 2 (Get 0 0 ∷ Get 0 1 ∷ []) ∷ [];
-  schedule = Stints (stint 1 31 ∷ []);
-}
-
-get_beside_fuse_29 : shown of_get_beside_fuse_29 (fuse 29 ∷ up ∷ []) ≡ record {
+get_beside_fuse_29 : shown two_puts_and_gets (fuse 29 ∷ up ∷ []) ≡ record {
   logs =
     record {
       events = tried 1 1 0 0 2 0 Cut ∷ [];
@@ -905,19 +653,10 @@ get_beside_fuse_29 : shown of_get_beside_fuse_29 (fuse 29 ∷ up ∷ []) ≡ rec
     [];
   audit = row 0 0 (Some (0 ∷ [])) false ∷ row 0 1 (Some (0 ∷ [])) true ∷ [];
 }
-unfolding of_get_beside_fuse_29 stint_workers picked after_workers until_ended settle copies load_from
+unfolding two_puts_and_gets stint_workers picked after_workers until_ended settle copies load_from
 get_beside_fuse_29 = refl
 
-unfoldable of_get_beside_fuse_30 : Scenario
-of_get_beside_fuse_30 = record {
-  shape = shape Narrow 2 (table 1 2 2 ∷ []) 1 1 0;
-  rows = loaded 0 0 (0 ∷ []) ∷ loaded 0 1 (0 ∷ []) ∷ [];
-  policy = record { tries = 1; tidy = false };
-  txns = txn 1 (Put 0 0 (1 ∷ []) ∷ Put 0 1 (1 ∷ []) ∷ []) ∷ txn 2 (Get 0 0 ∷ Get 0 1 ∷ []) ∷ [];
-  schedule = Stints (stint 1 31 ∷ []);
-}
-
-get_beside_fuse_30 : shown of_get_beside_fuse_30 (fuse 30 ∷ up ∷ []) ≡ record {
+get_beside_fuse_30 : shown two_puts_and_gets (fuse 30 ∷ up ∷ []) ≡ record {
   logs =
     record {
       events = tried 1 1 0 0 2 0 Cut ∷ [];
@@ -936,19 +675,10 @@ get_beside_fuse_30 : shown of_get_beside_fuse_30 (fuse 30 ∷ up ∷ []) ≡ rec
     [];
   audit = row 0 0 (Some (0 ∷ [])) false ∷ row 0 1 (Some (0 ∷ [])) true ∷ [];
 }
-unfolding of_get_beside_fuse_30 stint_workers picked after_workers until_ended settle copies load_from
+unfolding two_puts_and_gets stint_workers picked after_workers until_ended settle copies load_from
 get_beside_fuse_30 = refl
 
-unfoldable of_get_beside_fuse_31 : Scenario
-of_get_beside_fuse_31 = record {
-  shape = shape Narrow 2 (table 1 2 2 ∷ []) 1 1 0;
-  rows = loaded 0 0 (0 ∷ []) ∷ loaded 0 1 (0 ∷ []) ∷ [];
-  policy = record { tries = 1; tidy = false };
-  txns = txn 1 (Put 0 0 (1 ∷ []) ∷ Put 0 1 (1 ∷ []) ∷ []) ∷ txn 2 (Get 0 0 ∷ Get 0 1 ∷ []) ∷ [];
-  schedule = Stints (stint 1 31 ∷ []);
-}
-
-get_beside_fuse_31 : shown of_get_beside_fuse_31 (fuse 31 ∷ up ∷ []) ≡ record {
+get_beside_fuse_31 : shown two_puts_and_gets (fuse 31 ∷ up ∷ []) ≡ record {
   logs =
     record {
       events = tried 1 1 0 0 2 0 Cut ∷ [];
@@ -967,19 +697,10 @@ get_beside_fuse_31 : shown of_get_beside_fuse_31 (fuse 31 ∷ up ∷ []) ≡ rec
     [];
   audit = row 0 0 (Some (0 ∷ [])) false ∷ row 0 1 (Some (0 ∷ [])) false ∷ [];
 }
-unfolding of_get_beside_fuse_31 stint_workers picked after_workers until_ended settle copies load_from
+unfolding two_puts_and_gets stint_workers picked after_workers until_ended settle copies load_from
 get_beside_fuse_31 = refl
 
-unfoldable of_get_beside_fuse_32 : Scenario
-of_get_beside_fuse_32 = record {
-  shape = shape Narrow 2 (table 1 2 2 ∷ []) 1 1 0;
-  rows = loaded 0 0 (0 ∷ []) ∷ loaded 0 1 (0 ∷ []) ∷ [];
-  policy = record { tries = 1; tidy = false };
-  txns = txn 1 (Put 0 0 (1 ∷ []) ∷ Put 0 1 (1 ∷ []) ∷ []) ∷ txn 2 (Get 0 0 ∷ Get 0 1 ∷ []) ∷ [];
-  schedule = Stints (stint 1 31 ∷ []);
-}
-
-get_beside_fuse_32 : shown of_get_beside_fuse_32 (fuse 32 ∷ up ∷ []) ≡ record {
+get_beside_fuse_32 : shown two_puts_and_gets (fuse 32 ∷ up ∷ []) ≡ record {
   logs =
     record {
       events = tried 1 1 0 0 2 2 (Commit 1) ∷ [];
@@ -998,5 +719,5 @@ get_beside_fuse_32 : shown of_get_beside_fuse_32 (fuse 32 ∷ up ∷ []) ≡ rec
     [];
   audit = row 0 0 (Some (1 ∷ [])) false ∷ row 0 1 (Some (1 ∷ [])) false ∷ [];
 }
-unfolding of_get_beside_fuse_32 stint_workers picked after_workers until_ended settle copies load_from
+unfolding two_puts_and_gets stint_workers picked after_workers until_ended settle copies load_from
 get_beside_fuse_32 = refl

@@ -2,3 +2,5 @@ mod FuseGetExample
 mod FusePutExample
 mod RandomExample
 mod RandomMoreExample
+mod RandomScansExample
+mod RandomPicksExample

@@ -79,7 +79,8 @@ of_reader_too_old = record {
 reader_too_old : shown of_reader_too_old [] ≡ record {
   logs =
     record {
-      events = tried 1 1 0 1 1 1 (Commit 1) ∷ move 0 0 0 0 0 move_done ∷ tried 2 1 1 1 1 1 (Commit 2) ∷ NoRoom 0 ∷ Collected 0 2 (2 ∷ 0 ∷ []) false ∷ move 0 0 0 1 1 move_done ∷ [];
+      events = tried 1 1 0 1 1 1 (Commit 1) ∷ move 0 0 0 0 0 move_done ∷ tried 2 1 1 1 1 1 (Commit 2) ∷ NoRoom 0 ∷ Collected 0 2 (2 ∷ 0 ∷
+        []) false ∷ move 0 0 0 1 1 move_done ∷ [];
       reads = item 0 0 (Some (5 ∷ [])) ∷ item 0 0 (Some (6 ∷ [])) ∷ [];
       locks = lock 0 0 0 0 ∷ lock 0 0 1 1 ∷ [];
       writes = item 0 0 (Some (6 ∷ [])) ∷ item 0 0 (Some (7 ∷ [])) ∷ [];

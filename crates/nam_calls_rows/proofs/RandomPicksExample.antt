@@ -14,7 +14,9 @@ of_picks_1 = record {
   shape = shape Wide 1 (table 1 3 1 ∷ []) 1 1 0;
   rows = loaded 0 5 (0 ∷ []) ∷ loaded 0 4 (0 ∷ []) ∷ [];
   policy = record { tries = 2; tidy = true };
-  txns = txn 1 (Put 0 8 (3 ∷ []) ∷ Put 0 4 (2 ∷ []) ∷ Del 0 4 ∷ Add 0 8 1 true 1 ∷ []) ∷ txn 1 (Put 0 8 (6 ∷ []) ∷ Need 0 4 1 5 ∷ []) ∷ txn 1 (Need 0 4 1 5 ∷ Del 0 3 ∷ Need 0 4 1 1 ∷ []) ∷ txn 1 (Add 0 4 1 false 3 ∷ Add 0 8 1 false 0 ∷ Need 0 4 1 0 ∷ Get 0 5 ∷ []) ∷ txn 1 (Get 0 3 ∷ Guard 0 8 ∷ []) ∷ [];
+  txns = txn 1 (Put 0 8 (3 ∷ []) ∷ Put 0 4 (2 ∷ []) ∷ Del 0 4 ∷ Add 0 8 1 true 1 ∷ []) ∷ txn 1 (Put 0 8 (6 ∷ []) ∷ Need 0 4 1 5 ∷ []) ∷
+    txn 1 (Need 0 4 1 5 ∷ Del 0 3 ∷ Need 0 4 1 1 ∷ []) ∷ txn 1 (Add 0 4 1 false 3 ∷ Add 0 8 1 false 0 ∷ Need 0 4 1 0 ∷ Get 0 5 ∷ []) ∷
+    txn 1 (Get 0 3 ∷ Guard 0 8 ∷ []) ∷ [];
   schedule = Picks 14008624825028494130 34;
 }
 
@@ -38,15 +40,19 @@ of_picks_2 = record {
   shape = shape Narrow 1 (table 1 1 1 ∷ []) 2 1 0;
   rows = [];
   policy = record { tries = 3; tidy = true };
-  txns = txn 1 (Put 0 5 (0 ∷ []) ∷ []) ∷ txn 1 (Add 0 2 1 true 1 ∷ Add 0 5 1 false 1 ∷ []) ∷ txn 1 (Guard 0 5 ∷ []) ∷ txn 1 (Del 0 5 ∷ []) ∷ txn 1 (Guard 0 5 ∷ Add 0 5 1 true 1 ∷ Get 0 5 ∷ []) ∷ txn 1 (Need 0 5 1 0 ∷ []) ∷ [];
+  txns = txn 1 (Put 0 5 (0 ∷ []) ∷ []) ∷ txn 1 (Add 0 2 1 true 1 ∷ Add 0 5 1 false 1 ∷ []) ∷ txn 1 (Guard 0 5 ∷ []) ∷ txn 1 (Del 0 5 ∷
+    []) ∷ txn 1 (Guard 0 5 ∷ Add 0 5 1 true 1 ∷ Get 0 5 ∷ []) ∷ txn 1 (Need 0 5 1 0 ∷ []) ∷ [];
   schedule = Picks 1356714917278232910 40;
 }
 
 picks_2 : shown of_picks_2 [] ≡ record {
   logs =
     record {
-      events = tried 1 1 0 0 1 1 (Commit 1) ∷ move 0 0 5 0 0 move_done ∷ tried 2 1 1 1 0 0 (NoSpace 0) ∷ tried 3 1 1 1 0 0 ReadOnly ∷ tried 4 1 1 0 1 1 (Commit 2) ∷ NoRoom 0 ∷ Collected 0 2 (2 ∷ []) false ∷ move 0 0 5 1 1 move_done ∷ tried 5 1 2 3 1 1 (Commit 3) ∷ NoRoom 0 ∷ Collected 0 3 (3 ∷ []) false ∷ move 0 0 5 1 2 move_done ∷ tried 6 1 3 1 0 0 ReadOnly ∷ [];
-      reads = item 0 2 None ∷ item 0 5 (Some (0 ∷ [])) ∷ item 0 5 None ∷ item 0 5 None ∷ item 0 5 (Some (1 ∷ [])) ∷ item 0 5 (Some (1 ∷ [])) ∷ [];
+      events = tried 1 1 0 0 1 1 (Commit 1) ∷ move 0 0 5 0 0 move_done ∷ tried 2 1 1 1 0 0 (NoSpace 0) ∷ tried 3 1 1 1 0 0 ReadOnly ∷
+        tried 4 1 1 0 1 1 (Commit 2) ∷ NoRoom 0 ∷ Collected 0 2 (2 ∷ []) false ∷ move 0 0 5 1 1 move_done ∷
+        tried 5 1 2 3 1 1 (Commit 3) ∷ NoRoom 0 ∷ Collected 0 3 (3 ∷ []) false ∷ move 0 0 5 1 2 move_done ∷ tried 6 1 3 1 0 0 ReadOnly ∷ [];
+      reads = item 0 2 None ∷ item 0 5 (Some (0 ∷ [])) ∷ item 0 5 None ∷ item 0 5 None ∷ item 0 5 (Some (1 ∷ [])) ∷ item 0 5 (Some (1 ∷
+        [])) ∷ [];
       locks = lock 0 5 0 0 ∷ lock 0 5 1 1 ∷ lock 0 5 1 2 ∷ [];
       writes = item 0 5 (Some (0 ∷ [])) ∷ item 0 5 None ∷ item 0 5 (Some (1 ∷ [])) ∷ [];
       snaps = [];
@@ -62,14 +68,16 @@ of_picks_3 = record {
   shape = shape Narrow 3 (table 2 3 2 ∷ table 2 4 2 ∷ []) 1 1 7;
   rows = [];
   policy = record { tries = 4; tidy = true };
-  txns = txn 3 (Need 1 2 2 5 ∷ []) ∷ txn 2 (Add 1 0 1 false 3 ∷ []) ∷ txn 2 (Del 1 0 ∷ []) ∷ txn 1 (Add 1 5 1 false 3 ∷ Put 1 5 (0 ∷ 7 ∷ []) ∷ []) ∷ txn 1 (Put 1 8 (9 ∷ 9 ∷ []) ∷ Get 1 5 ∷ Put 1 0 (7 ∷ 3 ∷ []) ∷ []) ∷ [];
+  txns = txn 3 (Need 1 2 2 5 ∷ []) ∷ txn 2 (Add 1 0 1 false 3 ∷ []) ∷ txn 2 (Del 1 0 ∷ []) ∷ txn 1 (Add 1 5 1 false 3 ∷ Put 1 5 (0 ∷ 7 ∷
+    []) ∷ []) ∷ txn 1 (Put 1 8 (9 ∷ 9 ∷ []) ∷ Get 1 5 ∷ Put 1 0 (7 ∷ 3 ∷ []) ∷ []) ∷ [];
   schedule = Picks 13206479233734132210 55;
 }
 
 picks_3 : shown of_picks_3 [] ≡ record {
   logs =
     record {
-      events = tried 4 1 0 1 0 0 (Declined 1) ∷ tried 5 1 0 1 1 0 (Locked (lock 1 0 0 0)) ∷ unbegun 5 2 (Again 2 7 8) ∷ tried 5 3 1 1 2 2 (Commit 8) ∷ move 0 1 0 0 0 move_done ∷ [];
+      events = tried 4 1 0 1 0 0 (Declined 1) ∷ tried 5 1 0 1 1 0 (Locked (lock 1 0 0 0)) ∷ unbegun 5 2 (Again 2 7 8) ∷
+        tried 5 3 1 1 2 2 (Commit 8) ∷ move 0 1 0 0 0 move_done ∷ [];
       reads = item 1 5 None ∷ item 1 5 None ∷ item 1 5 None ∷ [];
       locks = lock 1 8 0 0 ∷ lock 1 8 0 0 ∷ lock 1 0 2 8 ∷ [];
       writes = item 1 8 (Some (9 ∷ 9 ∷ [])) ∷ item 1 0 (Some (7 ∷ 3 ∷ [])) ∷ [];
@@ -100,7 +108,8 @@ of_picks_4 = record {
   shape = shape Narrow 3 (table 1 1 1 ∷ []) 2 2 7;
   rows = [];
   policy = record { tries = 2; tidy = false };
-  txns = txn 2 (Add 0 18446744073709551614 1 true 3 ∷ []) ∷ txn 2 (Add 0 8 1 true 0 ∷ Get 0 8 ∷ []) ∷ txn 2 (Guard 0 18446744073709551614 ∷ []) ∷ txn 2 (Put 0 8 (4 ∷ []) ∷ []) ∷ txn 1 (Add 0 18446744073709551614 1 true 0 ∷ []) ∷ [];
+  txns = txn 2 (Add 0 18446744073709551614 1 true 3 ∷ []) ∷ txn 2 (Add 0 8 1 true 0 ∷ Get 0 8 ∷ []) ∷
+    txn 2 (Guard 0 18446744073709551614 ∷ []) ∷ txn 2 (Put 0 8 (4 ∷ []) ∷ []) ∷ txn 1 (Add 0 18446744073709551614 1 true 0 ∷ []) ∷ [];
   schedule = Picks 1773736802607710297 152;
 }
 
@@ -114,8 +123,11 @@ picks_4 : shown of_picks_4 (up ∷ fuse 66 ∷ up ∷ []) ≡ record {
       snaps = [];
     } ∷
     record {
-      events = tried 1 1 0 1 0 0 (Locked (lock 0 18446744073709551614 0 0)) ∷ tried 1 2 0 1 0 0 (Locked (lock 0 18446744073709551614 0 0)) ∷ tried 2 1 0 1 0 0 (NoSpace 0) ∷ tried 3 1 1 1 0 0 ReadOnly ∷ tried 4 1 1 0 0 0 (NoSpace 0) ∷ [];
-      reads = item 0 18446744073709551614 None ∷ item 0 18446744073709551614 None ∷ item 0 8 None ∷ item 0 18446744073709551614 (Some (0 ∷ [])) ∷ [];
+      events = tried 1 1 0 1 0 0 (Locked (lock 0 18446744073709551614 0 0)) ∷
+        tried 1 2 0 1 0 0 (Locked (lock 0 18446744073709551614 0 0)) ∷ tried 2 1 0 1 0 0 (NoSpace 0) ∷ tried 3 1 1 1 0 0 ReadOnly ∷
+        tried 4 1 1 0 0 0 (NoSpace 0) ∷ [];
+      reads = item 0 18446744073709551614 None ∷ item 0 18446744073709551614 None ∷ item 0 8 None ∷
+        item 0 18446744073709551614 (Some (0 ∷ [])) ∷ [];
       locks = [];
       writes = [];
       snaps = [];
@@ -138,7 +150,8 @@ of_picks_5 = record {
   shape = shape Wide 2 (table 1 2 3 ∷ []) 2 1 35184372088830;
   rows = loaded 0 8 (18446744073709551614 ∷ []) ∷ [];
   policy = record { tries = 4; tidy = false };
-  txns = txn 2 (Need 0 5 1 1 ∷ Need 0 5 1 0 ∷ Add 0 5 1 false 0 ∷ []) ∷ txn 2 (Need 0 5 1 0 ∷ Need 0 5 1 0 ∷ Add 0 8 1 true 1 ∷ []) ∷ txn 1 (Add 0 5 1 true 1 ∷ Guard 0 5 ∷ Add 0 5 1 true 3 ∷ Add 0 5 1 false 3 ∷ []) ∷ txn 2 (Put 0 5 (6 ∷ []) ∷ []) ∷ [];
+  txns = txn 2 (Need 0 5 1 1 ∷ Need 0 5 1 0 ∷ Add 0 5 1 false 0 ∷ []) ∷ txn 2 (Need 0 5 1 0 ∷ Need 0 5 1 0 ∷ Add 0 8 1 true 1 ∷ []) ∷
+    txn 1 (Add 0 5 1 true 1 ∷ Guard 0 5 ∷ Add 0 5 1 true 3 ∷ Add 0 5 1 false 3 ∷ []) ∷ txn 2 (Put 0 5 (6 ∷ []) ∷ []) ∷ [];
   schedule = Stints (stint 1 3 ∷ stint 2 20 ∷ stint 2 8 ∷ stint 1 1 ∷ []);
 }
 
@@ -169,7 +182,8 @@ of_picks_6 = record {
   shape = shape Narrow 2 (table 2 4 3 ∷ []) 2 2 7;
   rows = loaded 0 4 (5 ∷ 40 ∷ []) ∷ loaded 0 0 (18446744073709551614 ∷ 0 ∷ []) ∷ [];
   policy = record { tries = 2; tidy = true };
-  txns = txn 1 (Add 0 5 1 true 0 ∷ []) ∷ txn 2 (Guard 0 0 ∷ []) ∷ txn 2 (Add 0 5 2 true 3 ∷ []) ∷ txn 2 (Need 0 5 2 0 ∷ Put 0 2 (1 ∷ 3 ∷ []) ∷ []) ∷ txn 1 (Put 0 0 (5 ∷ 2 ∷ []) ∷ []) ∷ txn 2 (Add 0 0 2 true 1 ∷ []) ∷ [];
+  txns = txn 1 (Add 0 5 1 true 0 ∷ []) ∷ txn 2 (Guard 0 0 ∷ []) ∷ txn 2 (Add 0 5 2 true 3 ∷ []) ∷ txn 2 (Need 0 5 2 0 ∷ Put 0 2 (1 ∷ 3 ∷
+    []) ∷ []) ∷ txn 1 (Put 0 0 (5 ∷ 2 ∷ []) ∷ []) ∷ txn 2 (Add 0 0 2 true 1 ∷ []) ∷ [];
   schedule = Stints (stint 1 13 ∷ stint 2 20 ∷ stint 2 3 ∷ stint 2 13 ∷ stint 2 40 ∷ stint 1 3 ∷ []);
 }
 
@@ -183,14 +197,17 @@ picks_6 : shown of_picks_6 (fuse 49 ∷ up ∷ []) ≡ record {
       snaps = [];
     } ∷
     record {
-      events = tried 2 1 0 1 0 0 ReadOnly ∷ tried 3 1 0 1 0 0 (Locked (lock 0 5 0 0)) ∷ tried 3 2 0 1 0 0 (Locked (lock 0 5 0 0)) ∷ tried 4 1 0 1 1 1 (Commit 8) ∷ tried 6 1 1 1 1 1 (Commit 9) ∷ [];
-      reads = item 0 0 (Some (18446744073709551614 ∷ 0 ∷ [])) ∷ item 0 5 None ∷ item 0 5 None ∷ item 0 5 None ∷ item 0 0 (Some (18446744073709551614 ∷ 0 ∷ [])) ∷ [];
+      events = tried 2 1 0 1 0 0 ReadOnly ∷ tried 3 1 0 1 0 0 (Locked (lock 0 5 0 0)) ∷ tried 3 2 0 1 0 0 (Locked (lock 0 5 0 0)) ∷
+        tried 4 1 0 1 1 1 (Commit 8) ∷ tried 6 1 1 1 1 1 (Commit 9) ∷ [];
+      reads = item 0 0 (Some (18446744073709551614 ∷ 0 ∷ [])) ∷ item 0 5 None ∷ item 0 5 None ∷ item 0 5 None ∷
+        item 0 0 (Some (18446744073709551614 ∷ 0 ∷ [])) ∷ [];
       locks = lock 0 2 0 0 ∷ lock 0 0 0 0 ∷ [];
       writes = item 0 2 (Some (1 ∷ 3 ∷ [])) ∷ item 0 0 (Some (18446744073709551614 ∷ 1 ∷ [])) ∷ [];
       snaps = [];
     } ∷
     [];
-  audit = row 0 0 (Some (18446744073709551614 ∷ 1 ∷ [])) true ∷ row 0 2 (Some (1 ∷ 3 ∷ [])) false ∷ row 0 4 (Some (5 ∷ 40 ∷ [])) false ∷ row 0 5 (Some (0 ∷ 0 ∷ [])) false ∷ [];
+  audit = row 0 0 (Some (18446744073709551614 ∷ 1 ∷ [])) true ∷ row 0 2 (Some (1 ∷ 3 ∷ [])) false ∷ row 0 4 (Some (5 ∷ 40 ∷ [])) false ∷
+    row 0 5 (Some (0 ∷ 0 ∷ [])) false ∷ [];
 }
 unfolding of_picks_6 stint_workers picked after_workers until_ended settle copies load_from
 picks_6 = refl
@@ -200,14 +217,16 @@ of_picks_7 = record {
   shape = shape Held 3 (table 1 2 1 ∷ table 1 2 1 ∷ []) 1 2 0;
   rows = loaded 1 1 (18446744073709551614 ∷ []) ∷ [];
   policy = record { tries = 4; tidy = true };
-  txns = txn 1 (Del 0 18446744073709551614 ∷ Put 0 2 (3 ∷ []) ∷ Need 0 18446744073709551614 1 0 ∷ Del 1 2 ∷ []) ∷ txn 3 (Get 1 1 ∷ []) ∷ txn 3 (Need 0 2 1 0 ∷ []) ∷ [];
+  txns = txn 1 (Del 0 18446744073709551614 ∷ Put 0 2 (3 ∷ []) ∷ Need 0 18446744073709551614 1 0 ∷ Del 1 2 ∷ []) ∷ txn 3 (Get 1 1 ∷ []) ∷
+    txn 3 (Need 0 2 1 0 ∷ []) ∷ [];
   schedule = Stints (stint 3 8 ∷ stint 1 3 ∷ stint 2 8 ∷ stint 3 2 ∷ stint 2 20 ∷ stint 3 1 ∷ stint 2 8 ∷ stint 3 2 ∷ stint 3 8 ∷ []);
 }
 
 picks_7 : shown of_picks_7 [] ≡ record {
   logs =
     record {
-      events = tried 1 1 0 1 3 3 (Commit 1) ∷ move 0 0 18446744073709551614 0 0 move_done ∷ move 0 0 2 0 0 move_done ∷ NoRoom 0 ∷ Collected 0 1 (1 ∷ 0 ∷ 0 ∷ []) false ∷ move 0 1 2 0 0 move_done ∷ [];
+      events = tried 1 1 0 1 3 3 (Commit 1) ∷ move 0 0 18446744073709551614 0 0 move_done ∷ move 0 0 2 0 0 move_done ∷ NoRoom 0 ∷
+        Collected 0 1 (1 ∷ 0 ∷ 0 ∷ []) false ∷ move 0 1 2 0 0 move_done ∷ [];
       reads = item 0 18446744073709551614 None ∷ [];
       locks = lock 0 18446744073709551614 0 0 ∷ lock 0 2 0 0 ∷ lock 1 2 0 0 ∷ [];
       writes = item 0 18446744073709551614 None ∷ item 0 2 (Some (3 ∷ [])) ∷ item 1 2 None ∷ [];
@@ -238,7 +257,8 @@ of_picks_8 = record {
   shape = shape Held 1 (table 1 3 2 ∷ []) 2 1 7;
   rows = loaded 0 18446744073709551614 (40 ∷ []) ∷ loaded 0 8 (18446744073709551614 ∷ []) ∷ loaded 0 3 (5 ∷ []) ∷ [];
   policy = record { tries = 2; tidy = false };
-  txns = txn 1 (Add 0 3 1 true 3 ∷ Need 0 2 1 0 ∷ Get 0 8 ∷ []) ∷ txn 1 (Get 0 8 ∷ []) ∷ txn 1 (Guard 0 8 ∷ Add 0 8 1 true 1 ∷ Del 0 2 ∷ Need 0 2 1 1 ∷ []) ∷ [];
+  txns = txn 1 (Add 0 3 1 true 3 ∷ Need 0 2 1 0 ∷ Get 0 8 ∷ []) ∷ txn 1 (Get 0 8 ∷ []) ∷ txn 1 (Guard 0 8 ∷ Add 0 8 1 true 1 ∷ Del 0 2 ∷
+    Need 0 2 1 1 ∷ []) ∷ [];
   schedule = Picks 17080989166393808406 71;
 }
 
@@ -246,13 +266,16 @@ picks_8 : shown of_picks_8 [] ≡ record {
   logs =
     record {
       events = tried 1 1 0 3 1 1 (Commit 8) ∷ tried 2 1 1 1 0 0 ReadOnly ∷ tried 3 1 1 2 0 0 (NoSpace 0) ∷ [];
-      reads = item 0 3 (Some (5 ∷ [])) ∷ item 0 2 None ∷ item 0 8 (Some (18446744073709551614 ∷ [])) ∷ item 0 8 (Some (18446744073709551614 ∷ [])) ∷ item 0 8 (Some (18446744073709551614 ∷ [])) ∷ item 0 8 (Some (18446744073709551614 ∷ [])) ∷ [];
+      reads = item 0 3 (Some (5 ∷ [])) ∷ item 0 2 None ∷ item 0 8 (Some (18446744073709551614 ∷ [])) ∷
+        item 0 8 (Some (18446744073709551614 ∷ [])) ∷ item 0 8 (Some (18446744073709551614 ∷ [])) ∷
+        item 0 8 (Some (18446744073709551614 ∷ [])) ∷ [];
       locks = lock 0 3 0 0 ∷ [];
       writes = item 0 3 (Some (8 ∷ [])) ∷ [];
       snaps = [];
     } ∷
     [];
-  audit = row 0 3 (Some (8 ∷ [])) false ∷ row 0 8 (Some (18446744073709551614 ∷ [])) false ∷ row 0 18446744073709551614 (Some (40 ∷ [])) false ∷ [];
+  audit = row 0 3 (Some (8 ∷ [])) false ∷ row 0 8 (Some (18446744073709551614 ∷ [])) false ∷ row 0 18446744073709551614 (Some (40 ∷
+    [])) false ∷ [];
 }
 unfolding of_picks_8 stint_workers picked after_workers until_ended settle copies load_from
 picks_8 = refl
@@ -262,7 +285,8 @@ of_picks_9 = record {
   shape = shape Wide 2 (table 2 4 3 ∷ table 1 2 1 ∷ []) 2 1 0;
   rows = loaded 0 18446744073709551614 (1 ∷ 1 ∷ []) ∷ loaded 0 3 (1 ∷ 0 ∷ []) ∷ loaded 1 1 (0 ∷ []) ∷ loaded 1 4 (0 ∷ []) ∷ [];
   policy = record { tries = 4; tidy = true };
-  txns = txn 2 (Del 0 3 ∷ []) ∷ txn 1 (Need 0 4 1 1 ∷ Get 0 4 ∷ Put 0 5 (5 ∷ 3 ∷ []) ∷ Need 0 5 2 0 ∷ []) ∷ txn 2 (Get 0 5 ∷ []) ∷ txn 1 (Get 0 4 ∷ Guard 1 1 ∷ Del 1 4 ∷ Add 0 3 2 false 1 ∷ []) ∷ [];
+  txns = txn 2 (Del 0 3 ∷ []) ∷ txn 1 (Need 0 4 1 1 ∷ Get 0 4 ∷ Put 0 5 (5 ∷ 3 ∷ []) ∷ Need 0 5 2 0 ∷ []) ∷ txn 2 (Get 0 5 ∷ []) ∷
+    txn 1 (Get 0 4 ∷ Guard 1 1 ∷ Del 1 4 ∷ Add 0 3 2 false 1 ∷ []) ∷ [];
   schedule = Picks 151598393919737879 192;
 }
 
@@ -293,7 +317,8 @@ of_picks_10 = record {
   shape = shape Narrow 3 (table 1 1 3 ∷ table 1 4 1 ∷ []) 1 1 0;
   rows = loaded 1 3 (0 ∷ []) ∷ loaded 1 4 (18446744073709551614 ∷ []) ∷ [];
   policy = record { tries = 3; tidy = false };
-  txns = txn 2 (Need 0 8 1 0 ∷ Del 0 8 ∷ Del 0 8 ∷ Add 0 8 1 true 1 ∷ []) ∷ txn 3 (Del 0 8 ∷ Del 0 8 ∷ []) ∷ txn 2 (Guard 0 8 ∷ Add 0 8 1 false 3 ∷ Add 0 8 1 true 3 ∷ []) ∷ [];
+  txns = txn 2 (Need 0 8 1 0 ∷ Del 0 8 ∷ Del 0 8 ∷ Add 0 8 1 true 1 ∷ []) ∷ txn 3 (Del 0 8 ∷ Del 0 8 ∷ []) ∷ txn 2 (Guard 0 8 ∷
+    Add 0 8 1 false 3 ∷ Add 0 8 1 true 3 ∷ []) ∷ [];
   schedule = Picks 17569722857073220332 230;
 }
 
@@ -331,7 +356,8 @@ of_picks_11 = record {
   shape = shape Held 2 (table 1 4 2 ∷ []) 2 3 4294967294;
   rows = loaded 0 8 (5 ∷ []) ∷ loaded 0 4 (1 ∷ []) ∷ loaded 0 3 (1 ∷ []) ∷ loaded 0 0 (5 ∷ []) ∷ [];
   policy = record { tries = 1; tidy = false };
-  txns = txn 1 (Del 0 4 ∷ Guard 0 4 ∷ Put 0 4 (8 ∷ []) ∷ []) ∷ txn 1 (Guard 0 4 ∷ Del 0 4 ∷ []) ∷ txn 1 (Put 0 4 (2 ∷ []) ∷ Guard 0 4 ∷ Guard 0 5 ∷ []) ∷ [];
+  txns = txn 1 (Del 0 4 ∷ Guard 0 4 ∷ Put 0 4 (8 ∷ []) ∷ []) ∷ txn 1 (Guard 0 4 ∷ Del 0 4 ∷ []) ∷ txn 1 (Put 0 4 (2 ∷ []) ∷ Guard 0 4 ∷
+    Guard 0 5 ∷ []) ∷ [];
   schedule = Picks 10169697884678380961 175;
 }
 
@@ -352,7 +378,8 @@ picks_11 : shown of_picks_11 (up ∷ fuse 4 ∷ []) ≡ record {
       snaps = [];
     } ∷
     [];
-  audit = row 0 0 (Some (5 ∷ [])) false ∷ row 0 3 (Some (1 ∷ [])) false ∷ row 0 4 (Some (8 ∷ [])) false ∷ row 0 8 (Some (5 ∷ [])) false ∷ [];
+  audit = row 0 0 (Some (5 ∷ [])) false ∷ row 0 3 (Some (1 ∷ [])) false ∷ row 0 4 (Some (8 ∷ [])) false ∷ row 0 8 (Some (5 ∷ [])) false ∷
+    [];
 }
 unfolding of_picks_11 stint_workers picked after_workers until_ended settle copies load_from
 picks_11 = refl
@@ -362,15 +389,18 @@ of_picks_12 = record {
   shape = shape Wide 2 (table 1 1 1 ∷ table 1 2 1 ∷ []) 1 1 0;
   rows = loaded 0 3 (40 ∷ []) ∷ loaded 1 2 (5 ∷ []) ∷ [];
   policy = record { tries = 2; tidy = false };
-  txns = txn 1 (Add 0 3 1 false 0 ∷ Add 0 3 1 true 1 ∷ Del 0 3 ∷ Del 0 3 ∷ []) ∷ txn 2 (Get 0 3 ∷ Add 0 3 1 true 1 ∷ Add 0 3 1 true 1 ∷ Put 0 3 (9 ∷ []) ∷ []) ∷ txn 1 (Need 0 3 1 0 ∷ Get 0 3 ∷ Put 0 3 (3 ∷ []) ∷ []) ∷ [];
+  txns = txn 1 (Add 0 3 1 false 0 ∷ Add 0 3 1 true 1 ∷ Del 0 3 ∷ Del 0 3 ∷ []) ∷ txn 2 (Get 0 3 ∷ Add 0 3 1 true 1 ∷ Add 0 3 1 true 1 ∷
+    Put 0 3 (9 ∷ []) ∷ []) ∷ txn 1 (Need 0 3 1 0 ∷ Get 0 3 ∷ Put 0 3 (3 ∷ []) ∷ []) ∷ [];
   schedule = Picks 7134316810899027853 126;
 }
 
 picks_12 : shown of_picks_12 [] ≡ record {
   logs =
     record {
-      events = tried 1 1 0 2 0 0 (Locked (lock 0 3 0 0)) ∷ tried 1 2 0 2 0 0 (Newer (lock 0 3 2 1)) ∷ tried 3 1 1 2 1 0 (Full (lock 0 3 0 0)) ∷ tried 3 2 1 2 1 0 (Full (lock 0 3 0 0)) ∷ [];
-      reads = item 0 3 (Some (40 ∷ [])) ∷ item 0 3 (Some (40 ∷ [])) ∷ item 0 3 (Some (40 ∷ [])) ∷ item 0 3 (Some (40 ∷ [])) ∷ item 0 3 (Some (9 ∷ [])) ∷ item 0 3 (Some (9 ∷ [])) ∷ item 0 3 (Some (9 ∷ [])) ∷ item 0 3 (Some (9 ∷ [])) ∷ [];
+      events = tried 1 1 0 2 0 0 (Locked (lock 0 3 0 0)) ∷ tried 1 2 0 2 0 0 (Newer (lock 0 3 2 1)) ∷
+        tried 3 1 1 2 1 0 (Full (lock 0 3 0 0)) ∷ tried 3 2 1 2 1 0 (Full (lock 0 3 0 0)) ∷ [];
+      reads = item 0 3 (Some (40 ∷ [])) ∷ item 0 3 (Some (40 ∷ [])) ∷ item 0 3 (Some (40 ∷ [])) ∷ item 0 3 (Some (40 ∷ [])) ∷
+        item 0 3 (Some (9 ∷ [])) ∷ item 0 3 (Some (9 ∷ [])) ∷ item 0 3 (Some (9 ∷ [])) ∷ item 0 3 (Some (9 ∷ [])) ∷ [];
       locks = lock 0 3 2 1 ∷ lock 0 3 2 1 ∷ [];
       writes = [];
       snaps = [];
@@ -387,389 +417,3 @@ picks_12 : shown of_picks_12 [] ≡ record {
 }
 unfolding of_picks_12 stint_workers picked after_workers until_ended settle copies load_from
 picks_12 = refl
-
-unfoldable of_picks_13 : Scenario
-of_picks_13 = record {
-  shape = shape Held 3 (table 2 3 1 ∷ []) 1 3 7;
-  rows = loaded 0 0 (5 ∷ 0 ∷ []) ∷ loaded 0 8 (40 ∷ 5 ∷ []) ∷ loaded 0 5 (5 ∷ 40 ∷ []) ∷ [];
-  policy = record { tries = 2; tidy = false };
-  txns = txn 3 (Del 0 5 ∷ []) ∷ txn 3 (Del 0 5 ∷ []) ∷ txn 1 (Need 0 8 1 0 ∷ []) ∷ [];
-  schedule = Picks 3364872636783371243 147;
-}
-
-picks_13 : shown of_picks_13 [] ≡ record {
-  logs =
-    record {
-      events = tried 3 1 0 1 0 0 ReadOnly ∷ [];
-      reads = item 0 8 (Some (40 ∷ 5 ∷ [])) ∷ [];
-      locks = [];
-      writes = [];
-      snaps = [];
-    } ∷
-    record {
-      events = [];
-      reads = [];
-      locks = [];
-      writes = [];
-      snaps = [];
-    } ∷
-    record {
-      events = tried 1 1 0 0 1 1 (Commit 8) ∷ tried 2 1 1 0 1 0 (Full (lock 0 5 0 0)) ∷ tried 2 2 1 0 1 0 (Full (lock 0 5 0 0)) ∷ [];
-      reads = [];
-      locks = lock 0 5 0 0 ∷ lock 0 5 3 8 ∷ lock 0 5 3 8 ∷ [];
-      writes = item 0 5 None ∷ [];
-      snaps = [];
-    } ∷
-    [];
-  audit = row 0 0 (Some (5 ∷ 0 ∷ [])) false ∷ row 0 8 (Some (40 ∷ 5 ∷ [])) false ∷ [];
-}
-unfolding of_picks_13 stint_workers picked after_workers until_ended settle copies load_from
-picks_13 = refl
-
-unfoldable of_picks_14 : Scenario
-of_picks_14 = record {
-  shape = shape Narrow 1 (table 1 2 1 ∷ table 1 3 1 ∷ []) 2 1 0;
-  rows = loaded 0 3 (40 ∷ []) ∷ loaded 0 5 (40 ∷ []) ∷ loaded 1 0 (40 ∷ []) ∷ [];
-  policy = record { tries = 1; tidy = true };
-  txns = txn 1 (Del 1 0 ∷ Need 1 0 1 0 ∷ Del 1 0 ∷ Need 1 0 1 1 ∷ []) ∷ txn 1 (Del 1 0 ∷ []) ∷ txn 1 (Guard 1 0 ∷ Add 1 0 1 true 3 ∷ []) ∷ txn 1 (Del 1 0 ∷ Add 1 0 1 true 1 ∷ Add 1 0 1 true 1 ∷ Add 1 0 1 true 0 ∷ []) ∷ txn 1 (Del 1 0 ∷ Add 1 0 1 true 0 ∷ Need 1 18446744073709551614 1 0 ∷ []) ∷ [];
-  schedule = Stints (stint 1 8 ∷ stint 1 1 ∷ stint 1 13 ∷ []);
-}
-
-picks_14 : shown of_picks_14 [] ≡ record {
-  logs =
-    record {
-      events = tried 1 1 0 2 0 0 (Declined 4) ∷ tried 2 1 0 0 1 1 (Commit 1) ∷ move 0 1 0 0 0 move_done ∷ tried 3 1 1 2 1 1 (Commit 2) ∷ NoRoom 0 ∷ Collected 0 2 (2 ∷ []) false ∷ move 0 1 0 1 1 move_done ∷ tried 4 1 2 3 1 1 (Commit 3) ∷ NoRoom 0 ∷ Collected 0 3 (3 ∷ []) false ∷ move 0 1 0 1 2 move_done ∷ tried 5 1 3 2 1 1 (Commit 4) ∷ NoRoom 0 ∷ Collected 0 4 (4 ∷ []) false ∷ move 0 1 0 1 3 move_done ∷ [];
-      reads = item 1 0 None ∷ item 1 0 None ∷ item 1 0 None ∷ item 1 0 None ∷ item 1 0 None ∷ item 1 0 (Some (1 ∷ [])) ∷ item 1 0 (Some (2 ∷ [])) ∷ item 1 0 None ∷ item 1 18446744073709551614 None ∷ [];
-      locks = lock 1 0 0 0 ∷ lock 1 0 1 1 ∷ lock 1 0 1 2 ∷ lock 1 0 1 3 ∷ [];
-      writes = item 1 0 None ∷ item 1 0 (Some (3 ∷ [])) ∷ item 1 0 (Some (2 ∷ [])) ∷ item 1 0 (Some (0 ∷ [])) ∷ [];
-      snaps = [];
-    } ∷
-    [];
-  audit = row 0 3 (Some (40 ∷ [])) false ∷ row 0 5 (Some (40 ∷ [])) false ∷ row 1 0 (Some (0 ∷ [])) false ∷ [];
-}
-unfolding of_picks_14 stint_workers picked after_workers until_ended settle copies load_from
-picks_14 = refl
-
-unfoldable of_picks_15 : Scenario
-of_picks_15 = record {
-  shape = shape Held 2 (table 1 4 3 ∷ table 1 2 2 ∷ []) 1 1 0;
-  rows = loaded 0 5 (1 ∷ []) ∷ loaded 0 0 (5 ∷ []) ∷ loaded 0 2 (5 ∷ []) ∷ loaded 0 8 (1 ∷ []) ∷ [];
-  policy = record { tries = 1; tidy = true };
-  txns = txn 1 (Del 0 2 ∷ []) ∷ txn 1 (Add 0 2 1 true 1 ∷ []) ∷ txn 2 (Need 0 2 1 0 ∷ []) ∷ txn 2 (Guard 0 2 ∷ Add 0 2 1 true 1 ∷ []) ∷ txn 2 (Del 0 2 ∷ Need 0 2 1 1 ∷ []) ∷ txn 2 (Guard 0 2 ∷ Add 0 2 1 false 1 ∷ []) ∷ [];
-  schedule = Picks 4687965066958306882 146;
-}
-
-picks_15 : shown of_picks_15 (up ∷ fuse 51 ∷ []) ≡ record {
-  logs =
-    record {
-      events = tried 1 1 0 0 1 1 (Commit 1) ∷ tried 2 1 1 1 1 1 (Commit 2) ∷ [];
-      reads = item 0 2 None ∷ [];
-      locks = lock 0 2 0 0 ∷ lock 0 2 1 1 ∷ [];
-      writes = item 0 2 None ∷ item 0 2 (Some (1 ∷ [])) ∷ [];
-      snaps = [];
-    } ∷
-    record {
-      events = tried 3 1 0 1 0 0 ReadOnly ∷ unbegun 4 1 (Again 1 0 1) ∷ tried 5 1 1 1 0 0 (Declined 2) ∷ tried 6 1 1 2 0 0 (Declined 2) ∷ [];
-      reads = item 0 2 (Some (5 ∷ [])) ∷ item 0 2 None ∷ item 0 2 None ∷ item 0 2 None ∷ [];
-      locks = [];
-      writes = [];
-      snaps = [];
-    } ∷
-    [];
-  audit = row 0 0 (Some (5 ∷ [])) false ∷ row 0 2 (Some (1 ∷ [])) false ∷ row 0 5 (Some (1 ∷ [])) false ∷ row 0 8 (Some (1 ∷ [])) false ∷ [];
-}
-unfolding of_picks_15 stint_workers picked after_workers until_ended settle copies load_from
-picks_15 = refl
-
-unfoldable of_picks_16 : Scenario
-of_picks_16 = record {
-  shape = shape Narrow 3 (table 1 2 3 ∷ table 1 2 2 ∷ []) 1 3 7;
-  rows = loaded 0 8 (1 ∷ []) ∷ [];
-  policy = record { tries = 4; tidy = true };
-  txns = txn 1 (Get 0 8 ∷ Put 1 8 (3 ∷ []) ∷ Need 1 5 1 1 ∷ []) ∷ txn 1 (Put 0 18446744073709551614 (4 ∷ []) ∷ Add 0 8 1 true 3 ∷ Need 1 5 1 0 ∷ Add 1 5 1 true 1 ∷ []) ∷ txn 2 (Guard 1 5 ∷ Guard 0 8 ∷ Guard 1 8 ∷ Put 0 3 (8 ∷ []) ∷ []) ∷ txn 3 (Get 0 8 ∷ Guard 1 5 ∷ Add 0 8 1 true 3 ∷ []) ∷ txn 3 (Get 0 3 ∷ Need 1 5 1 0 ∷ Add 1 5 1 true 1 ∷ Get 1 5 ∷ []) ∷ [];
-  schedule = Stints (stint 1 2 ∷ stint 3 20 ∷ stint 2 2 ∷ stint 2 13 ∷ stint 3 2 ∷ stint 2 8 ∷ stint 1 3 ∷ stint 1 2 ∷ []);
-}
-
-picks_16 : shown of_picks_16 (fuse 20 ∷ up ∷ up ∷ []) ≡ record {
-  logs =
-    record {
-      events = tried 1 1 0 2 0 0 (Declined 3) ∷ unbegun 2 1 Cut ∷ [];
-      reads = item 0 8 (Some (1 ∷ [])) ∷ item 1 5 None ∷ [];
-      locks = [];
-      writes = [];
-      snaps = [];
-    } ∷
-    record {
-      events = tried 3 1 0 3 1 0 (Locked (lock 1 5 0 0)) ∷ tried 3 2 0 3 2 0 (Newer (lock 0 8 3 8)) ∷ tried 3 3 1 3 1 0 (Locked (lock 1 5 0 0)) ∷ tried 3 4 2 3 4 1 (Commit 8) ∷ [];
-      reads = item 1 5 None ∷ item 0 8 (Some (1 ∷ [])) ∷ item 1 8 None ∷ item 1 5 None ∷ item 0 8 (Some (1 ∷ [])) ∷ item 1 8 None ∷ item 1 5 None ∷ item 0 8 (Some (4 ∷ [])) ∷ item 1 8 None ∷ item 1 5 (Some (1 ∷ [])) ∷ item 0 8 (Some (4 ∷ [])) ∷ item 1 8 None ∷ [];
-      locks = lock 0 3 0 0 ∷ lock 0 3 0 0 ∷ lock 1 5 0 0 ∷ lock 0 3 0 0 ∷ lock 0 3 0 0 ∷ lock 1 5 3 9 ∷ lock 0 8 3 8 ∷ lock 1 8 0 0 ∷ [];
-      writes = item 0 3 (Some (8 ∷ [])) ∷ [];
-      snaps = [];
-    } ∷
-    record {
-      events = tried 4 1 0 3 2 1 (Commit 8) ∷ tried 5 1 1 4 0 0 (Locked (lock 1 5 0 0)) ∷ tried 5 2 1 4 1 1 (Commit 9) ∷ [];
-      reads = item 0 8 (Some (1 ∷ [])) ∷ item 1 5 None ∷ item 0 8 (Some (1 ∷ [])) ∷ item 0 3 None ∷ item 1 5 None ∷ item 1 5 None ∷ item 1 5 (Some (1 ∷ [])) ∷ item 0 3 None ∷ item 1 5 None ∷ item 1 5 None ∷ item 1 5 (Some (1 ∷ [])) ∷ [];
-      locks = lock 0 8 0 0 ∷ lock 1 5 0 0 ∷ lock 1 5 0 0 ∷ [];
-      writes = item 0 8 (Some (4 ∷ [])) ∷ item 1 5 (Some (1 ∷ [])) ∷ [];
-      snaps = [];
-    } ∷
-    [];
-  audit = row 0 3 (Some (8 ∷ [])) false ∷ row 0 8 (Some (4 ∷ [])) false ∷ row 1 5 (Some (1 ∷ [])) false ∷ [];
-}
-unfolding of_picks_16 stint_workers picked after_workers until_ended settle copies load_from
-picks_16 = refl
-
-unfoldable of_picks_17 : Scenario
-of_picks_17 = record {
-  shape = shape Narrow 2 (table 1 1 1 ∷ []) 1 1 0;
-  rows = [];
-  policy = record { tries = 4; tidy = true };
-  txns = txn 1 (Need 0 18446744073709551614 1 1 ∷ []) ∷ txn 1 (Put 0 18446744073709551614 (0 ∷ []) ∷ Del 0 5 ∷ Add 0 18446744073709551614 1 true 0 ∷ Del 0 5 ∷ []) ∷ [];
-  schedule = Stints (stint 1 3 ∷ stint 2 20 ∷ stint 1 3 ∷ stint 1 8 ∷ stint 1 40 ∷ stint 2 8 ∷ stint 1 20 ∷ stint 2 5 ∷ stint 2 2 ∷ []);
-}
-
-picks_17 : shown of_picks_17 (fuse 16 ∷ up ∷ []) ≡ record {
-  logs =
-    record {
-      events = tried 1 1 0 1 0 0 (Declined 1) ∷ tried 2 1 0 0 0 0 (NoSpace 0) ∷ [];
-      reads = item 0 18446744073709551614 None ∷ [];
-      locks = [];
-      writes = [];
-      snaps = [];
-    } ∷
-    record {
-      events = [];
-      reads = [];
-      locks = [];
-      writes = [];
-      snaps = [];
-    } ∷
-    [];
-  audit = [];
-}
-unfolding of_picks_17 stint_workers picked after_workers until_ended settle copies load_from
-picks_17 = refl
-
-unfoldable of_picks_18 : Scenario
-of_picks_18 = record {
-  shape = shape Narrow 2 (table 2 2 2 ∷ []) 1 3 0;
-  rows = loaded 0 1 (1 ∷ 1 ∷ []) ∷ loaded 0 18446744073709551614 (0 ∷ 1 ∷ []) ∷ [];
-  policy = record { tries = 4; tidy = true };
-  txns = txn 1 (Get 0 1 ∷ Add 0 1 2 true 1 ∷ []) ∷ txn 2 (Guard 0 1 ∷ Guard 0 1 ∷ Add 0 1 2 true 1 ∷ []) ∷ [];
-  schedule = Picks 13091941451042652507 93;
-}
-
-picks_18 : shown of_picks_18 [] ≡ record {
-  logs =
-    record {
-      events = tried 1 1 0 2 1 1 (Commit 1) ∷ [];
-      reads = item 0 1 (Some (1 ∷ 1 ∷ [])) ∷ item 0 1 (Some (1 ∷ 1 ∷ [])) ∷ [];
-      locks = lock 0 1 0 0 ∷ [];
-      writes = item 0 1 (Some (1 ∷ 2 ∷ [])) ∷ [];
-      snaps = [];
-    } ∷
-    record {
-      events = tried 2 1 0 3 0 0 (Newer (lock 0 1 1 1)) ∷ tried 2 2 1 3 1 1 (Commit 1) ∷ move 0 0 1 0 0 move_done ∷ [];
-      reads = item 0 1 (Some (1 ∷ 1 ∷ [])) ∷ item 0 1 (Some (1 ∷ 1 ∷ [])) ∷ item 0 1 (Some (1 ∷ 1 ∷ [])) ∷ item 0 1 (Some (1 ∷ 2 ∷ [])) ∷ item 0 1 (Some (1 ∷ 2 ∷ [])) ∷ item 0 1 (Some (1 ∷ 2 ∷ [])) ∷ [];
-      locks = lock 0 1 1 1 ∷ [];
-      writes = item 0 1 (Some (1 ∷ 3 ∷ [])) ∷ [];
-      snaps = [];
-    } ∷
-    [];
-  audit = row 0 1 (Some (1 ∷ 3 ∷ [])) false ∷ row 0 18446744073709551614 (Some (0 ∷ 1 ∷ [])) false ∷ [];
-}
-unfolding of_picks_18 stint_workers picked after_workers until_ended settle copies load_from
-picks_18 = refl
-
-unfoldable of_picks_19 : Scenario
-of_picks_19 = record {
-  shape = shape Held 3 (table 1 1 3 ∷ table 1 2 3 ∷ []) 2 3 4294967294;
-  rows = loaded 1 4 (1 ∷ []) ∷ [];
-  policy = record { tries = 2; tidy = false };
-  txns = txn 1 (Put 0 18446744073709551614 (1 ∷ []) ∷ Guard 1 4 ∷ Add 1 3 1 false 0 ∷ Del 0 18446744073709551614 ∷ []) ∷ txn 1 (Put 1 4 (2 ∷ []) ∷ Guard 1 3 ∷ Del 1 18446744073709551614 ∷ []) ∷ txn 1 (Add 0 18446744073709551614 1 true 1 ∷ []) ∷ txn 3 (Put 1 3 (9 ∷ []) ∷ []) ∷ txn 1 (Need 0 8 1 0 ∷ []) ∷ txn 2 (Guard 1 4 ∷ []) ∷ [];
-  schedule = Picks 4677542457645337929 103;
-}
-
-picks_19 : shown of_picks_19 (up ∷ fuse 64 ∷ up ∷ []) ≡ record {
-  logs =
-    record {
-      events = tried 1 1 0 2 1 0 (Newer (lock 1 3 3 4294967295)) ∷ tried 1 2 1 2 3 2 (Commit 4294967295) ∷ tried 2 1 2 1 0 0 (NoSpace 1) ∷ tried 3 1 2 1 0 0 Spent ∷ tried 5 1 2 1 0 0 ReadOnly ∷ [];
-      reads = item 1 4 (Some (1 ∷ [])) ∷ item 1 3 None ∷ item 1 4 (Some (1 ∷ [])) ∷ item 1 3 (Some (9 ∷ [])) ∷ item 1 3 (Some (9 ∷ [])) ∷ item 0 18446744073709551614 None ∷ item 0 8 None ∷ [];
-      locks = lock 0 18446744073709551614 0 0 ∷ lock 0 18446744073709551614 0 0 ∷ lock 1 3 3 4294967295 ∷ lock 1 4 0 0 ∷ [];
-      writes = item 0 18446744073709551614 None ∷ item 1 3 (Some (9 ∷ [])) ∷ [];
-      snaps = [];
-    } ∷
-    record {
-      events = tried 6 1 0 1 0 0 ReadOnly ∷ [];
-      reads = item 1 4 (Some (1 ∷ [])) ∷ [];
-      locks = [];
-      writes = [];
-      snaps = [];
-    } ∷
-    record {
-      events = tried 4 1 0 0 1 1 (Commit 4294967295) ∷ [];
-      reads = [];
-      locks = lock 1 3 0 0 ∷ [];
-      writes = item 1 3 (Some (9 ∷ [])) ∷ [];
-      snaps = [];
-    } ∷
-    [];
-  audit = row 1 3 (Some (9 ∷ [])) false ∷ row 1 4 (Some (1 ∷ [])) false ∷ [];
-}
-unfolding of_picks_19 stint_workers picked after_workers until_ended settle copies load_from
-picks_19 = refl
-
-unfoldable of_picks_20 : Scenario
-of_picks_20 = record {
-  shape = shape Wide 1 (table 2 3 3 ∷ []) 1 2 0;
-  rows = loaded 0 1 (18446744073709551614 ∷ 5 ∷ []) ∷ loaded 0 18446744073709551614 (40 ∷ 40 ∷ []) ∷ [];
-  policy = record { tries = 2; tidy = true };
-  txns = txn 1 (Del 0 1 ∷ Del 0 1 ∷ Put 0 1 (2 ∷ 2 ∷ []) ∷ []) ∷ txn 1 (Add 0 1 1 true 1 ∷ []) ∷ txn 1 (Add 0 8 1 true 0 ∷ Guard 0 1 ∷ Add 0 1 2 true 0 ∷ []) ∷ txn 1 (Del 0 8 ∷ Add 0 1 1 true 0 ∷ []) ∷ txn 1 (Guard 0 1 ∷ []) ∷ txn 1 (Add 0 1 2 true 3 ∷ Need 0 1 1 0 ∷ Need 0 1 2 0 ∷ []) ∷ [];
-  schedule = Picks 5218364750795122838 117;
-}
-
-picks_20 : shown of_picks_20 [] ≡ record {
-  logs =
-    record {
-      events = tried 1 1 0 0 1 1 (Commit 1) ∷ tried 2 1 1 1 1 1 (Commit 2) ∷ tried 3 1 2 3 2 2 (Commit 3) ∷ move 0 0 1 0 0 move_done ∷ tried 4 1 3 1 2 2 (Commit 4) ∷ move 0 0 1 1 1 move_done ∷ tried 5 1 4 1 0 0 ReadOnly ∷ tried 6 1 4 3 1 1 (Commit 5) ∷ NoRoom 0 ∷ Collected 0 5 (5 ∷ []) false ∷ move 0 0 1 1 2 move_done ∷ [];
-      reads = item 0 1 (Some (2 ∷ 2 ∷ [])) ∷ item 0 8 None ∷ item 0 1 (Some (3 ∷ 2 ∷ [])) ∷ item 0 1 (Some (3 ∷ 2 ∷ [])) ∷ item 0 1 (Some (3 ∷ 2 ∷ [])) ∷ item 0 1 (Some (3 ∷ 2 ∷ [])) ∷ item 0 1 (Some (3 ∷ 2 ∷ [])) ∷ item 0 1 (Some (3 ∷ 5 ∷ [])) ∷ item 0 1 (Some (3 ∷ 5 ∷ [])) ∷ [];
-      locks = lock 0 1 0 0 ∷ lock 0 1 1 1 ∷ lock 0 8 0 0 ∷ lock 0 1 1 2 ∷ lock 0 8 1 3 ∷ lock 0 1 1 3 ∷ lock 0 1 1 4 ∷ [];
-      writes = item 0 1 (Some (2 ∷ 2 ∷ [])) ∷ item 0 1 (Some (3 ∷ 2 ∷ [])) ∷ item 0 8 (Some (0 ∷ 0 ∷ [])) ∷ item 0 1 (Some (3 ∷ 2 ∷ [])) ∷ item 0 8 None ∷ item 0 1 (Some (3 ∷ 2 ∷ [])) ∷ item 0 1 (Some (3 ∷ 5 ∷ [])) ∷ [];
-      snaps = [];
-    } ∷
-    [];
-  audit = row 0 1 (Some (3 ∷ 5 ∷ [])) false ∷ row 0 18446744073709551614 (Some (40 ∷ 40 ∷ [])) false ∷ [];
-}
-unfolding of_picks_20 stint_workers picked after_workers until_ended settle copies load_from
-picks_20 = refl
-
-unfoldable of_picks_21 : Scenario
-of_picks_21 = record {
-  shape = shape Wide 3 (table 1 4 3 ∷ []) 1 1 0;
-  rows = [];
-  policy = record { tries = 2; tidy = true };
-  txns = txn 2 (Guard 0 5 ∷ []) ∷ txn 1 (Del 0 3 ∷ Add 0 1 1 true 3 ∷ Add 0 3 1 true 0 ∷ Add 0 1 1 true 3 ∷ []) ∷ txn 2 (Need 0 1 1 0 ∷ Guard 0 3 ∷ []) ∷ txn 3 (Del 0 3 ∷ []) ∷ txn 1 (Guard 0 5 ∷ Add 0 1 1 true 3 ∷ Guard 0 3 ∷ Get 0 3 ∷ []) ∷ [];
-  schedule = Picks 18063753202503494582 82;
-}
-
-picks_21 : shown of_picks_21 [] ≡ record {
-  logs =
-    record {
-      events = tried 2 1 0 3 0 0 (Locked (lock 0 3 0 0)) ∷ tried 2 2 1 3 2 2 (Commit 1) ∷ tried 5 1 2 4 3 1 (Commit 2) ∷ [];
-      reads = item 0 1 None ∷ item 0 3 None ∷ item 0 1 (Some (3 ∷ [])) ∷ item 0 1 None ∷ item 0 3 None ∷ item 0 1 (Some (3 ∷ [])) ∷ item 0 5 None ∷ item 0 1 (Some (6 ∷ [])) ∷ item 0 3 (Some (0 ∷ [])) ∷ item 0 3 (Some (0 ∷ [])) ∷ [];
-      locks = lock 0 3 3 1 ∷ lock 0 1 0 0 ∷ lock 0 1 1 1 ∷ lock 0 5 0 0 ∷ lock 0 3 1 1 ∷ [];
-      writes = item 0 3 (Some (0 ∷ [])) ∷ item 0 1 (Some (6 ∷ [])) ∷ item 0 1 (Some (9 ∷ [])) ∷ [];
-      snaps = [];
-    } ∷
-    record {
-      events = tried 1 1 0 1 0 0 ReadOnly ∷ unbegun 3 1 (Again 3 0 1) ∷ tried 3 2 1 2 0 0 ReadOnly ∷ [];
-      reads = item 0 5 None ∷ item 0 1 None ∷ item 0 3 None ∷ [];
-      locks = [];
-      writes = [];
-      snaps = [];
-    } ∷
-    record {
-      events = tried 4 1 0 0 1 1 (Commit 1) ∷ [];
-      reads = [];
-      locks = lock 0 3 0 0 ∷ [];
-      writes = item 0 3 None ∷ [];
-      snaps = [];
-    } ∷
-    [];
-  audit = row 0 1 (Some (9 ∷ [])) false ∷ row 0 3 (Some (0 ∷ [])) false ∷ [];
-}
-unfolding of_picks_21 stint_workers picked after_workers until_ended settle copies load_from
-picks_21 = refl
-
-unfoldable of_picks_22 : Scenario
-of_picks_22 = record {
-  shape = shape Narrow 2 (table 1 3 1 ∷ table 1 4 1 ∷ []) 2 1 0;
-  rows = loaded 0 0 (0 ∷ []) ∷ loaded 0 1 (0 ∷ []) ∷ loaded 1 5 (1 ∷ []) ∷ loaded 1 3 (5 ∷ []) ∷ loaded 1 18446744073709551614 (0 ∷ []) ∷ [];
-  policy = record { tries = 2; tidy = false };
-  txns = txn 2 (Del 1 5 ∷ []) ∷ txn 1 (Guard 1 1 ∷ Del 1 18446744073709551614 ∷ []) ∷ txn 1 (Need 1 1 1 0 ∷ []) ∷ [];
-  schedule = Picks 14822707567188197029 239;
-}
-
-picks_22 : shown of_picks_22 [] ≡ record {
-  logs =
-    record {
-      events = tried 2 1 0 1 2 1 (Commit 1) ∷ tried 3 1 2 1 0 0 ReadOnly ∷ [];
-      reads = item 1 1 None ∷ item 1 1 None ∷ [];
-      locks = lock 1 18446744073709551614 0 0 ∷ lock 1 1 0 0 ∷ [];
-      writes = item 1 18446744073709551614 None ∷ [];
-      snaps = [];
-    } ∷
-    record {
-      events = tried 1 1 0 0 1 1 (Commit 1) ∷ [];
-      reads = [];
-      locks = lock 1 5 0 0 ∷ [];
-      writes = item 1 5 None ∷ [];
-      snaps = [];
-    } ∷
-    [];
-  audit = row 0 0 (Some (0 ∷ [])) false ∷ row 0 1 (Some (0 ∷ [])) false ∷ row 1 3 (Some (5 ∷ [])) false ∷ [];
-}
-unfolding of_picks_22 stint_workers picked after_workers until_ended settle copies load_from
-picks_22 = refl
-
-unfoldable of_picks_23 : Scenario
-of_picks_23 = record {
-  shape = shape Narrow 3 (table 1 4 1 ∷ table 1 2 1 ∷ []) 1 1 0;
-  rows = loaded 0 0 (18446744073709551614 ∷ []) ∷ [];
-  policy = record { tries = 4; tidy = true };
-  txns = txn 2 (Get 0 5 ∷ Guard 1 5 ∷ Del 1 3 ∷ []) ∷ txn 3 (Guard 1 18446744073709551614 ∷ []) ∷ txn 1 (Del 1 3 ∷ []) ∷ txn 2 (Need 1 5 1 5 ∷ Del 1 18446744073709551614 ∷ Guard 1 5 ∷ Get 1 18446744073709551614 ∷ []) ∷ txn 1 (Add 1 5 1 false 3 ∷ []) ∷ txn 2 (Add 1 3 1 true 0 ∷ []) ∷ [];
-  schedule = Stints (stint 3 2 ∷ stint 2 3 ∷ stint 2 8 ∷ stint 2 20 ∷ []);
-}
-
-picks_23 : shown of_picks_23 [] ≡ record {
-  logs =
-    record {
-      events = tried 3 1 1 0 1 0 (Full (lock 1 3 0 0)) ∷ tried 3 2 1 0 1 1 (Commit 1) ∷ NoRoom 0 ∷ Collected 0 2 (1 ∷ 1 ∷ 0 ∷ []) false ∷ move 0 1 3 2 1 move_done ∷ tried 5 1 2 1 0 0 (Declined 1) ∷ [];
-      reads = item 1 5 None ∷ [];
-      locks = lock 1 3 2 1 ∷ lock 1 3 2 1 ∷ [];
-      writes = item 1 3 None ∷ [];
-      snaps = [];
-    } ∷
-    record {
-      events = tried 1 1 0 2 2 1 (Commit 1) ∷ move 0 1 3 0 0 move_done ∷ tried 4 1 1 1 0 0 (Declined 1) ∷ tried 6 1 1 1 0 0 (Locked (lock 1 3 2 1)) ∷ tried 6 2 1 1 0 0 (Newer (lock 1 3 1 1)) ∷ tried 6 3 2 1 1 0 (Full (lock 1 3 2 1)) ∷ NoRoom 0 ∷ Collected 0 2 (1 ∷ 1 ∷ 0 ∷ []) false ∷ tried 6 4 2 1 1 1 (Commit 2) ∷ move 0 1 3 1 1 move_done ∷ [];
-      reads = item 0 5 None ∷ item 1 5 None ∷ item 1 5 None ∷ item 1 3 None ∷ item 1 3 None ∷ item 1 3 None ∷ item 1 3 None ∷ [];
-      locks = lock 1 3 0 0 ∷ lock 1 5 0 0 ∷ lock 1 3 1 1 ∷ lock 1 3 1 1 ∷ [];
-      writes = item 1 3 None ∷ item 1 3 (Some (0 ∷ [])) ∷ [];
-      snaps = [];
-    } ∷
-    record {
-      events = unbegun 2 1 (Again 2 0 1) ∷ tried 2 2 1 1 0 0 (NoSpace 1) ∷ [];
-      reads = item 1 18446744073709551614 None ∷ [];
-      locks = [];
-      writes = [];
-      snaps = [];
-    } ∷
-    [];
-  audit = row 0 0 (Some (18446744073709551614 ∷ [])) false ∷ row 1 3 (Some (0 ∷ [])) false ∷ [];
-}
-unfolding of_picks_23 stint_workers picked after_workers until_ended settle copies load_from
-picks_23 = refl
-
-unfoldable of_picks_24 : Scenario
-of_picks_24 = record {
-  shape = shape Narrow 1 (table 1 2 1 ∷ []) 2 1 0;
-  rows = [];
-  policy = record { tries = 2; tidy = true };
-  txns = txn 1 (Del 0 0 ∷ []) ∷ txn 1 (Guard 0 8 ∷ []) ∷ txn 1 (Add 0 8 1 true 1 ∷ []) ∷ txn 1 (Del 0 18446744073709551614 ∷ Get 0 0 ∷ Put 0 0 (4 ∷ []) ∷ []) ∷ txn 1 (Add 0 0 1 true 1 ∷ Add 0 0 1 true 1 ∷ []) ∷ txn 1 (Put 0 0 (5 ∷ []) ∷ Get 0 8 ∷ []) ∷ [];
-  schedule = Picks 5280753469972433404 182;
-}
-
-picks_24 : shown of_picks_24 (fuse 29 ∷ []) ≡ record {
-  logs =
-    record {
-      events = tried 1 1 0 0 1 1 (Commit 1) ∷ move 0 0 0 0 0 move_cut ∷ [];
-      reads = [];
-      locks = lock 0 0 0 0 ∷ [];
-      writes = item 0 0 None ∷ [];
-      snaps = [];
-    } ∷
-    [];
-  audit = [];
-}
-unfolding of_picks_24 stint_workers picked after_workers until_ended settle copies load_from
-picks_24 = refl

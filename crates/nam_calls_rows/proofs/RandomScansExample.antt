@@ -12,9 +12,11 @@ use Rattle.nam_calls.proofs.Shown.{shape, table, loaded, txn, stint, up, fuse, i
 unfoldable of_scans_1 : Scenario
 of_scans_1 = record {
   shape = shape Held 2 (table 1 3 1 ∷ table 1 4 3 ∷ []) 1 1 7;
-  rows = loaded 0 0 (18446744073709551614 ∷ []) ∷ loaded 1 1 (0 ∷ []) ∷ loaded 1 2 (40 ∷ []) ∷ loaded 1 0 (1 ∷ []) ∷ loaded 1 5 (40 ∷ []) ∷ [];
+  rows = loaded 0 0 (18446744073709551614 ∷ []) ∷ loaded 1 1 (0 ∷ []) ∷ loaded 1 2 (40 ∷ []) ∷ loaded 1 0 (1 ∷ []) ∷ loaded 1 5 (40 ∷
+    []) ∷ [];
   policy = record { tries = 1; tidy = true };
-  txns = txn 2 (Add 1 4 1 true 1 ∷ Get 1 4 ∷ Add 1 4 1 true 1 ∷ []) ∷ txn 2 (Del 1 4 ∷ Scan 1 1 3 ∷ Guard 1 4 ∷ Scan 1 0 3 ∷ []) ∷ txn 2 (Scan 1 1 18446744073709551614 ∷ Scan 1 0 18446744073709551614 ∷ Scan 1 0 5 ∷ Add 1 4 1 true 1 ∷ []) ∷ [];
+  txns = txn 2 (Add 1 4 1 true 1 ∷ Get 1 4 ∷ Add 1 4 1 true 1 ∷ []) ∷ txn 2 (Del 1 4 ∷ Scan 1 1 3 ∷ Guard 1 4 ∷ Scan 1 0 3 ∷ []) ∷
+    txn 2 (Scan 1 1 18446744073709551614 ∷ Scan 1 0 18446744073709551614 ∷ Scan 1 0 5 ∷ Add 1 4 1 true 1 ∷ []) ∷ [];
   schedule = Picks 14925996690018349592 152;
 }
 
@@ -29,13 +31,16 @@ scans_1 : shown of_scans_1 [] ≡ record {
     } ∷
     record {
       events = tried 1 1 0 1 0 0 (NoSpace 1) ∷ tried 2 1 0 0 0 0 (NoSpace 1) ∷ tried 3 1 0 12 0 0 (NoSpace 1) ∷ [];
-      reads = item 1 4 None ∷ item 1 1 (Some (0 ∷ [])) ∷ item 1 2 (Some (40 ∷ [])) ∷ item 1 5 (Some (40 ∷ [])) ∷ item 1 0 (Some (1 ∷ [])) ∷ item 1 1 (Some (0 ∷ [])) ∷ item 1 2 (Some (40 ∷ [])) ∷ item 1 5 (Some (40 ∷ [])) ∷ item 1 0 (Some (1 ∷ [])) ∷ item 1 1 (Some (0 ∷ [])) ∷ item 1 2 (Some (40 ∷ [])) ∷ item 1 5 (Some (40 ∷ [])) ∷ item 1 4 None ∷ [];
+      reads = item 1 4 None ∷ item 1 1 (Some (0 ∷ [])) ∷ item 1 2 (Some (40 ∷ [])) ∷ item 1 5 (Some (40 ∷ [])) ∷ item 1 0 (Some (1 ∷
+        [])) ∷ item 1 1 (Some (0 ∷ [])) ∷ item 1 2 (Some (40 ∷ [])) ∷ item 1 5 (Some (40 ∷ [])) ∷ item 1 0 (Some (1 ∷ [])) ∷
+        item 1 1 (Some (0 ∷ [])) ∷ item 1 2 (Some (40 ∷ [])) ∷ item 1 5 (Some (40 ∷ [])) ∷ item 1 4 None ∷ [];
       locks = [];
       writes = [];
       snaps = [];
     } ∷
     [];
-  audit = row 0 0 (Some (18446744073709551614 ∷ [])) false ∷ row 1 0 (Some (1 ∷ [])) false ∷ row 1 1 (Some (0 ∷ [])) false ∷ row 1 2 (Some (40 ∷ [])) false ∷ row 1 5 (Some (40 ∷ [])) false ∷ [];
+  audit = row 0 0 (Some (18446744073709551614 ∷ [])) false ∷ row 1 0 (Some (1 ∷ [])) false ∷ row 1 1 (Some (0 ∷ [])) false ∷
+    row 1 2 (Some (40 ∷ [])) false ∷ row 1 5 (Some (40 ∷ [])) false ∷ [];
 }
 unfolding of_scans_1 stint_workers picked after_workers until_ended settle copies load_from
 scans_1 = refl
@@ -45,22 +50,30 @@ of_scans_2 = record {
   shape = shape Held 2 (table 1 3 1 ∷ []) 1 1 4294967294;
   rows = loaded 0 2 (18446744073709551614 ∷ []) ∷ loaded 0 3 (1 ∷ []) ∷ loaded 0 5 (18446744073709551614 ∷ []) ∷ [];
   policy = record { tries = 4; tidy = true };
-  txns = txn 2 (Get 0 4 ∷ Add 0 5 1 true 0 ∷ []) ∷ txn 1 (Scan 0 0 5 ∷ Scan 0 0 18446744073709551614 ∷ []) ∷ txn 1 (Add 0 4 1 true 3 ∷ Put 0 4 (6 ∷ []) ∷ Get 0 4 ∷ Del 0 4 ∷ []) ∷ txn 2 (Scan 0 0 18446744073709551614 ∷ []) ∷ txn 2 (Guard 0 3 ∷ []) ∷ txn 1 (Put 0 5 (0 ∷ []) ∷ Add 0 5 1 true 1 ∷ Need 0 2 1 1 ∷ Scan 0 1 5 ∷ []) ∷ [];
+  txns = txn 2 (Get 0 4 ∷ Add 0 5 1 true 0 ∷ []) ∷ txn 1 (Scan 0 0 5 ∷ Scan 0 0 18446744073709551614 ∷ []) ∷ txn 1 (Add 0 4 1 true 3 ∷
+    Put 0 4 (6 ∷ []) ∷ Get 0 4 ∷ Del 0 4 ∷ []) ∷ txn 2 (Scan 0 0 18446744073709551614 ∷ []) ∷ txn 2 (Guard 0 3 ∷ []) ∷
+    txn 1 (Put 0 5 (0 ∷ []) ∷ Add 0 5 1 true 1 ∷ Need 0 2 1 1 ∷ Scan 0 1 5 ∷ []) ∷ [];
   schedule = Picks 1350180261812690438 241;
 }
 
 scans_2 : shown of_scans_2 [] ≡ record {
   logs =
     record {
-      events = tried 2 1 0 6 0 0 ReadOnly ∷ tried 3 1 0 1 0 0 (NoSpace 0) ∷ tried 6 1 1 5 1 1 (Commit 4294967295) ∷ NoRoom 0 ∷ Collected 0 2 (4294967295 ∷ 4294967295 ∷ []) false ∷ move 0 0 5 2 4294967295 move_done ∷ [];
-      reads = item 0 2 (Some (18446744073709551614 ∷ [])) ∷ item 0 3 (Some (1 ∷ [])) ∷ item 0 5 (Some (18446744073709551614 ∷ [])) ∷ item 0 2 (Some (18446744073709551614 ∷ [])) ∷ item 0 3 (Some (1 ∷ [])) ∷ item 0 5 (Some (18446744073709551614 ∷ [])) ∷ item 0 4 None ∷ item 0 5 (Some (0 ∷ [])) ∷ item 0 2 (Some (18446744073709551614 ∷ [])) ∷ item 0 2 (Some (18446744073709551614 ∷ [])) ∷ item 0 3 (Some (1 ∷ [])) ∷ item 0 5 (Some (1 ∷ [])) ∷ [];
+      events = tried 2 1 0 6 0 0 ReadOnly ∷ tried 3 1 0 1 0 0 (NoSpace 0) ∷ tried 6 1 1 5 1 1 (Commit 4294967295) ∷ NoRoom 0 ∷
+        Collected 0 2 (4294967295 ∷ 4294967295 ∷ []) false ∷ move 0 0 5 2 4294967295 move_done ∷ [];
+      reads = item 0 2 (Some (18446744073709551614 ∷ [])) ∷ item 0 3 (Some (1 ∷ [])) ∷ item 0 5 (Some (18446744073709551614 ∷ [])) ∷
+        item 0 2 (Some (18446744073709551614 ∷ [])) ∷ item 0 3 (Some (1 ∷ [])) ∷ item 0 5 (Some (18446744073709551614 ∷ [])) ∷
+        item 0 4 None ∷ item 0 5 (Some (0 ∷ [])) ∷ item 0 2 (Some (18446744073709551614 ∷ [])) ∷ item 0 2 (Some (18446744073709551614 ∷
+        [])) ∷ item 0 3 (Some (1 ∷ [])) ∷ item 0 5 (Some (1 ∷ [])) ∷ [];
       locks = lock 0 5 2 4294967295 ∷ [];
       writes = item 0 5 (Some (1 ∷ [])) ∷ [];
       snaps = [];
     } ∷
     record {
-      events = tried 1 1 0 2 1 1 (Commit 4294967295) ∷ move 0 0 5 0 0 move_done ∷ tried 4 1 1 3 0 0 ReadOnly ∷ tried 5 1 2 1 0 0 ReadOnly ∷ [];
-      reads = item 0 4 None ∷ item 0 5 (Some (18446744073709551614 ∷ [])) ∷ item 0 2 (Some (18446744073709551614 ∷ [])) ∷ item 0 3 (Some (1 ∷ [])) ∷ item 0 5 (Some (18446744073709551614 ∷ [])) ∷ item 0 3 (Some (1 ∷ [])) ∷ [];
+      events = tried 1 1 0 2 1 1 (Commit 4294967295) ∷ move 0 0 5 0 0 move_done ∷ tried 4 1 1 3 0 0 ReadOnly ∷
+        tried 5 1 2 1 0 0 ReadOnly ∷ [];
+      reads = item 0 4 None ∷ item 0 5 (Some (18446744073709551614 ∷ [])) ∷ item 0 2 (Some (18446744073709551614 ∷ [])) ∷
+        item 0 3 (Some (1 ∷ [])) ∷ item 0 5 (Some (18446744073709551614 ∷ [])) ∷ item 0 3 (Some (1 ∷ [])) ∷ [];
       locks = lock 0 5 0 0 ∷ [];
       writes = item 0 5 (Some (18446744073709551614 ∷ [])) ∷ [];
       snaps = [];
@@ -76,7 +89,8 @@ of_scans_3 = record {
   shape = shape Narrow 2 (table 1 1 3 ∷ []) 2 1 0;
   rows = loaded 0 1 (0 ∷ []) ∷ [];
   policy = record { tries = 3; tidy = true };
-  txns = txn 2 (Guard 0 3 ∷ Add 0 3 1 true 3 ∷ Add 0 3 1 true 0 ∷ Scan 0 0 18446744073709551614 ∷ []) ∷ txn 2 (Get 0 3 ∷ Scan 0 0 18446744073709551614 ∷ []) ∷ [];
+  txns = txn 2 (Guard 0 3 ∷ Add 0 3 1 true 3 ∷ Add 0 3 1 true 0 ∷ Scan 0 0 18446744073709551614 ∷ []) ∷ txn 2 (Get 0 3 ∷
+    Scan 0 0 18446744073709551614 ∷ []) ∷ [];
   schedule = Picks 8409095698246833504 84;
 }
 
@@ -107,7 +121,8 @@ of_scans_4 = record {
   shape = shape Narrow 3 (table 1 2 2 ∷ []) 1 2 0;
   rows = loaded 0 4 (1 ∷ []) ∷ [];
   policy = record { tries = 2; tidy = true };
-  txns = txn 3 (Del 0 4 ∷ Put 0 8 (9 ∷ []) ∷ Del 0 4 ∷ Scan 0 0 3 ∷ []) ∷ txn 1 (Guard 0 5 ∷ Scan 0 0 3 ∷ []) ∷ txn 1 (Del 0 5 ∷ Scan 0 2 18446744073709551614 ∷ Guard 0 5 ∷ []) ∷ [];
+  txns = txn 3 (Del 0 4 ∷ Put 0 8 (9 ∷ []) ∷ Del 0 4 ∷ Scan 0 0 3 ∷ []) ∷ txn 1 (Guard 0 5 ∷ Scan 0 0 3 ∷ []) ∷ txn 1 (Del 0 5 ∷
+    Scan 0 2 18446744073709551614 ∷ Guard 0 5 ∷ []) ∷ [];
   schedule = Picks 9535352030959758126 259;
 }
 
@@ -145,7 +160,9 @@ of_scans_5 = record {
   shape = shape Held 2 (table 1 4 1 ∷ table 1 1 3 ∷ []) 1 2 0;
   rows = loaded 0 4 (5 ∷ []) ∷ loaded 0 5 (1 ∷ []) ∷ loaded 0 0 (0 ∷ []) ∷ loaded 1 0 (40 ∷ []) ∷ [];
   policy = record { tries = 4; tidy = false };
-  txns = txn 1 (Del 0 5 ∷ []) ∷ txn 2 (Put 0 3 (7 ∷ []) ∷ Add 0 0 1 true 1 ∷ Scan 0 0 5 ∷ Put 0 0 (1 ∷ []) ∷ []) ∷ txn 2 (Get 0 0 ∷ Scan 0 0 18446744073709551614 ∷ Guard 0 5 ∷ []) ∷ txn 2 (Scan 0 0 5 ∷ []) ∷ txn 2 (Get 0 0 ∷ Scan 1 1 18446744073709551614 ∷ Add 1 2 1 true 1 ∷ Scan 0 2 5 ∷ []) ∷ [];
+  txns = txn 1 (Del 0 5 ∷ []) ∷ txn 2 (Put 0 3 (7 ∷ []) ∷ Add 0 0 1 true 1 ∷ Scan 0 0 5 ∷ Put 0 0 (1 ∷ []) ∷ []) ∷ txn 2 (Get 0 0 ∷
+    Scan 0 0 18446744073709551614 ∷ Guard 0 5 ∷ []) ∷ txn 2 (Scan 0 0 5 ∷ []) ∷ txn 2 (Get 0 0 ∷ Scan 1 1 18446744073709551614 ∷
+    Add 1 2 1 true 1 ∷ Scan 0 2 5 ∷ []) ∷ [];
   schedule = Picks 6660930529171373754 212;
 }
 
@@ -160,13 +177,17 @@ scans_5 : shown of_scans_5 (fuse 15 ∷ up ∷ []) ≡ record {
     } ∷
     record {
       events = tried 2 1 0 5 2 2 (Commit 1) ∷ tried 3 1 1 6 0 0 ReadOnly ∷ tried 4 1 1 4 0 0 ReadOnly ∷ tried 5 1 1 2 0 0 (NoSpace 1) ∷ [];
-      reads = item 0 0 (Some (0 ∷ [])) ∷ item 0 0 (Some (1 ∷ [])) ∷ item 0 3 (Some (7 ∷ [])) ∷ item 0 4 (Some (5 ∷ [])) ∷ item 0 5 (Some (1 ∷ [])) ∷ item 0 0 (Some (1 ∷ [])) ∷ item 0 0 (Some (1 ∷ [])) ∷ item 0 3 (Some (7 ∷ [])) ∷ item 0 4 (Some (5 ∷ [])) ∷ item 0 5 (Some (1 ∷ [])) ∷ item 0 5 (Some (1 ∷ [])) ∷ item 0 0 (Some (1 ∷ [])) ∷ item 0 3 (Some (7 ∷ [])) ∷ item 0 4 (Some (5 ∷ [])) ∷ item 0 5 (Some (1 ∷ [])) ∷ item 0 0 (Some (1 ∷ [])) ∷ item 1 2 None ∷ [];
+      reads = item 0 0 (Some (0 ∷ [])) ∷ item 0 0 (Some (1 ∷ [])) ∷ item 0 3 (Some (7 ∷ [])) ∷ item 0 4 (Some (5 ∷ [])) ∷
+        item 0 5 (Some (1 ∷ [])) ∷ item 0 0 (Some (1 ∷ [])) ∷ item 0 0 (Some (1 ∷ [])) ∷ item 0 3 (Some (7 ∷ [])) ∷ item 0 4 (Some (5 ∷
+        [])) ∷ item 0 5 (Some (1 ∷ [])) ∷ item 0 5 (Some (1 ∷ [])) ∷ item 0 0 (Some (1 ∷ [])) ∷ item 0 3 (Some (7 ∷ [])) ∷
+        item 0 4 (Some (5 ∷ [])) ∷ item 0 5 (Some (1 ∷ [])) ∷ item 0 0 (Some (1 ∷ [])) ∷ item 1 2 None ∷ [];
       locks = lock 0 3 0 0 ∷ lock 0 0 0 0 ∷ [];
       writes = item 0 3 (Some (7 ∷ [])) ∷ item 0 0 (Some (1 ∷ [])) ∷ [];
       snaps = [];
     } ∷
     [];
-  audit = row 0 0 (Some (1 ∷ [])) false ∷ row 0 3 (Some (7 ∷ [])) false ∷ row 0 4 (Some (5 ∷ [])) false ∷ row 0 5 (Some (1 ∷ [])) true ∷ row 1 0 (Some (40 ∷ [])) false ∷ [];
+  audit = row 0 0 (Some (1 ∷ [])) false ∷ row 0 3 (Some (7 ∷ [])) false ∷ row 0 4 (Some (5 ∷ [])) false ∷ row 0 5 (Some (1 ∷ [])) true ∷
+    row 1 0 (Some (40 ∷ [])) false ∷ [];
 }
 unfolding of_scans_5 stint_workers picked after_workers until_ended settle copies load_from
 scans_5 = refl
@@ -176,15 +197,19 @@ of_scans_6 = record {
   shape = shape Wide 2 (table 1 2 3 ∷ []) 1 1 0;
   rows = loaded 0 0 (0 ∷ []) ∷ loaded 0 8 (40 ∷ []) ∷ [];
   policy = record { tries = 1; tidy = true };
-  txns = txn 1 (Add 0 1 1 true 1 ∷ []) ∷ txn 1 (Scan 0 2 18446744073709551614 ∷ []) ∷ txn 2 (Scan 0 2 3 ∷ Get 0 0 ∷ Scan 0 0 18446744073709551614 ∷ []) ∷ txn 1 (Add 0 0 1 true 1 ∷ []) ∷ txn 1 (Put 0 8 (7 ∷ []) ∷ Get 0 1 ∷ Scan 0 0 3 ∷ Guard 0 0 ∷ []) ∷ txn 2 (Add 0 0 1 true 1 ∷ []) ∷ [];
+  txns = txn 1 (Add 0 1 1 true 1 ∷ []) ∷ txn 1 (Scan 0 2 18446744073709551614 ∷ []) ∷ txn 2 (Scan 0 2 3 ∷ Get 0 0 ∷
+    Scan 0 0 18446744073709551614 ∷ []) ∷ txn 1 (Add 0 0 1 true 1 ∷ []) ∷ txn 1 (Put 0 8 (7 ∷ []) ∷ Get 0 1 ∷ Scan 0 0 3 ∷ Guard 0 0 ∷
+    []) ∷ txn 2 (Add 0 0 1 true 1 ∷ []) ∷ [];
   schedule = Picks 4527308066931819152 170;
 }
 
 scans_6 : shown of_scans_6 [] ≡ record {
   logs =
     record {
-      events = tried 1 1 0 1 0 0 (NoSpace 0) ∷ tried 2 1 0 1 0 0 ReadOnly ∷ tried 4 1 0 1 1 1 (Commit 1) ∷ tried 5 1 1 3 2 1 (Commit 2) ∷ [];
-      reads = item 0 1 None ∷ item 0 8 (Some (40 ∷ [])) ∷ item 0 0 (Some (0 ∷ [])) ∷ item 0 1 None ∷ item 0 0 (Some (1 ∷ [])) ∷ item 0 0 (Some (1 ∷ [])) ∷ [];
+      events = tried 1 1 0 1 0 0 (NoSpace 0) ∷ tried 2 1 0 1 0 0 ReadOnly ∷ tried 4 1 0 1 1 1 (Commit 1) ∷ tried 5 1 1 3 2 1 (Commit 2) ∷
+        [];
+      reads = item 0 1 None ∷ item 0 8 (Some (40 ∷ [])) ∷ item 0 0 (Some (0 ∷ [])) ∷ item 0 1 None ∷ item 0 0 (Some (1 ∷ [])) ∷
+        item 0 0 (Some (1 ∷ [])) ∷ [];
       locks = lock 0 0 0 0 ∷ lock 0 8 0 0 ∷ lock 0 0 1 1 ∷ [];
       writes = item 0 0 (Some (1 ∷ [])) ∷ item 0 8 (Some (7 ∷ [])) ∷ [];
       snaps = [];
@@ -207,7 +232,9 @@ of_scans_7 = record {
   shape = shape Wide 3 (table 1 4 1 ∷ []) 2 3 35184372088830;
   rows = loaded 0 4 (0 ∷ []) ∷ [];
   policy = record { tries = 4; tidy = false };
-  txns = txn 1 (Scan 0 1 18446744073709551614 ∷ []) ∷ txn 3 (Scan 0 0 18446744073709551614 ∷ Get 0 5 ∷ []) ∷ txn 1 (Need 0 5 1 1 ∷ Get 0 5 ∷ Add 0 5 1 true 0 ∷ Put 0 18446744073709551614 (6 ∷ []) ∷ []) ∷ txn 2 (Need 0 5 1 5 ∷ Scan 0 2 3 ∷ Add 0 18446744073709551614 1 true 1 ∷ Add 0 5 1 true 1 ∷ []) ∷ txn 2 (Need 0 5 1 0 ∷ Need 0 5 1 5 ∷ []) ∷ [];
+  txns = txn 1 (Scan 0 1 18446744073709551614 ∷ []) ∷ txn 3 (Scan 0 0 18446744073709551614 ∷ Get 0 5 ∷ []) ∷ txn 1 (Need 0 5 1 1 ∷
+    Get 0 5 ∷ Add 0 5 1 true 0 ∷ Put 0 18446744073709551614 (6 ∷ []) ∷ []) ∷ txn 2 (Need 0 5 1 5 ∷ Scan 0 2 3 ∷
+    Add 0 18446744073709551614 1 true 1 ∷ Add 0 5 1 true 1 ∷ []) ∷ txn 2 (Need 0 5 1 0 ∷ Need 0 5 1 5 ∷ []) ∷ [];
   schedule = Picks 17888769576797991114 228;
 }
 
@@ -245,7 +272,9 @@ of_scans_8 = record {
   shape = shape Wide 2 (table 1 1 3 ∷ []) 1 3 0;
   rows = [];
   policy = record { tries = 1; tidy = true };
-  txns = txn 2 (Guard 0 5 ∷ Add 0 5 1 false 3 ∷ []) ∷ txn 2 (Add 0 8 1 true 0 ∷ []) ∷ txn 1 (Guard 0 8 ∷ []) ∷ txn 2 (Scan 0 0 18446744073709551614 ∷ []) ∷ txn 2 (Scan 0 1 3 ∷ []) ∷ txn 2 (Add 0 8 1 false 0 ∷ Scan 0 2 18446744073709551614 ∷ []) ∷ [];
+  txns = txn 2 (Guard 0 5 ∷ Add 0 5 1 false 3 ∷ []) ∷ txn 2 (Add 0 8 1 true 0 ∷ []) ∷ txn 1 (Guard 0 8 ∷ []) ∷
+    txn 2 (Scan 0 0 18446744073709551614 ∷ []) ∷ txn 2 (Scan 0 1 3 ∷ []) ∷ txn 2 (Add 0 8 1 false 0 ∷ Scan 0 2 18446744073709551614 ∷
+    []) ∷ [];
   schedule = Picks 8839510137306065175 58;
 }
 
@@ -259,7 +288,8 @@ scans_8 : shown of_scans_8 (fuse 26 ∷ up ∷ []) ≡ record {
       snaps = [];
     } ∷
     record {
-      events = tried 1 1 0 2 0 0 (Declined 2) ∷ tried 2 1 0 1 0 0 (NoSpace 0) ∷ tried 4 1 0 0 0 0 ReadOnly ∷ tried 5 1 0 0 0 0 ReadOnly ∷ tried 6 1 0 1 0 0 (NoSpace 0) ∷ [];
+      events = tried 1 1 0 2 0 0 (Declined 2) ∷ tried 2 1 0 1 0 0 (NoSpace 0) ∷ tried 4 1 0 0 0 0 ReadOnly ∷ tried 5 1 0 0 0 0 ReadOnly ∷
+        tried 6 1 0 1 0 0 (NoSpace 0) ∷ [];
       reads = item 0 5 None ∷ item 0 5 None ∷ item 0 8 None ∷ item 0 8 None ∷ [];
       locks = [];
       writes = [];
@@ -276,7 +306,8 @@ of_scans_9 = record {
   shape = shape Narrow 3 (table 1 3 3 ∷ []) 2 2 7;
   rows = loaded 0 5 (5 ∷ []) ∷ loaded 0 18446744073709551614 (0 ∷ []) ∷ loaded 0 2 (1 ∷ []) ∷ [];
   policy = record { tries = 1; tidy = true };
-  txns = txn 3 (Guard 0 2 ∷ []) ∷ txn 2 (Scan 0 2 5 ∷ Del 0 2 ∷ Del 0 0 ∷ Need 0 0 1 0 ∷ []) ∷ txn 1 (Scan 0 1 5 ∷ []) ∷ txn 3 (Add 0 5 1 true 3 ∷ Add 0 2 1 true 1 ∷ Get 0 5 ∷ Put 0 5 (3 ∷ []) ∷ []) ∷ txn 2 (Del 0 5 ∷ []) ∷ [];
+  txns = txn 3 (Guard 0 2 ∷ []) ∷ txn 2 (Scan 0 2 5 ∷ Del 0 2 ∷ Del 0 0 ∷ Need 0 0 1 0 ∷ []) ∷ txn 1 (Scan 0 1 5 ∷ []) ∷
+    txn 3 (Add 0 5 1 true 3 ∷ Add 0 2 1 true 1 ∷ Get 0 5 ∷ Put 0 5 (3 ∷ []) ∷ []) ∷ txn 2 (Del 0 5 ∷ []) ∷ [];
   schedule = Picks 9563342525603840202 25;
 }
 
@@ -314,7 +345,9 @@ of_scans_10 = record {
   shape = shape Narrow 1 (table 1 1 2 ∷ []) 1 1 0;
   rows = [];
   policy = record { tries = 3; tidy = true };
-  txns = txn 1 (Put 0 0 (5 ∷ []) ∷ Put 0 0 (5 ∷ []) ∷ []) ∷ txn 1 (Guard 0 2 ∷ Scan 0 1 18446744073709551614 ∷ Scan 0 0 5 ∷ Add 0 0 1 true 3 ∷ []) ∷ txn 1 (Scan 0 0 18446744073709551614 ∷ Need 0 0 1 1 ∷ Scan 0 0 18446744073709551614 ∷ Put 0 0 (9 ∷ []) ∷ []) ∷ txn 1 (Need 0 0 1 0 ∷ []) ∷ txn 1 (Put 0 0 (9 ∷ []) ∷ Scan 0 2 3 ∷ Scan 0 0 18446744073709551614 ∷ []) ∷ [];
+  txns = txn 1 (Put 0 0 (5 ∷ []) ∷ Put 0 0 (5 ∷ []) ∷ []) ∷ txn 1 (Guard 0 2 ∷ Scan 0 1 18446744073709551614 ∷ Scan 0 0 5 ∷
+    Add 0 0 1 true 3 ∷ []) ∷ txn 1 (Scan 0 0 18446744073709551614 ∷ Need 0 0 1 1 ∷ Scan 0 0 18446744073709551614 ∷ Put 0 0 (9 ∷ []) ∷
+    []) ∷ txn 1 (Need 0 0 1 0 ∷ []) ∷ txn 1 (Put 0 0 (9 ∷ []) ∷ Scan 0 2 3 ∷ Scan 0 0 18446744073709551614 ∷ []) ∷ [];
   schedule = Picks 7789676892254324829 258;
 }
 
@@ -338,7 +371,8 @@ of_scans_11 = record {
   shape = shape Held 2 (table 2 2 3 ∷ []) 1 3 0;
   rows = loaded 0 1 (1 ∷ 1 ∷ []) ∷ [];
   policy = record { tries = 4; tidy = true };
-  txns = txn 1 (Add 0 4 2 true 1 ∷ []) ∷ txn 1 (Del 0 1 ∷ []) ∷ txn 1 (Scan 0 1 3 ∷ Guard 0 4 ∷ Add 0 3 2 true 0 ∷ []) ∷ txn 1 (Scan 0 0 18446744073709551614 ∷ []) ∷ txn 1 (Add 0 3 1 true 3 ∷ []) ∷ [];
+  txns = txn 1 (Add 0 4 2 true 1 ∷ []) ∷ txn 1 (Del 0 1 ∷ []) ∷ txn 1 (Scan 0 1 3 ∷ Guard 0 4 ∷ Add 0 3 2 true 0 ∷ []) ∷
+    txn 1 (Scan 0 0 18446744073709551614 ∷ []) ∷ txn 1 (Add 0 3 1 true 3 ∷ []) ∷ [];
   schedule = Picks 7138656046148517865 163;
 }
 
@@ -369,7 +403,9 @@ of_scans_12 = record {
   shape = shape Held 3 (table 1 1 2 ∷ []) 1 3 0;
   rows = loaded 0 5 (18446744073709551614 ∷ []) ∷ [];
   policy = record { tries = 2; tidy = false };
-  txns = txn 3 (Need 0 8 1 1 ∷ []) ∷ txn 3 (Need 0 5 1 0 ∷ Need 0 8 1 1 ∷ []) ∷ txn 2 (Del 0 5 ∷ Scan 0 2 5 ∷ Scan 0 0 18446744073709551614 ∷ []) ∷ txn 2 (Add 0 5 1 true 3 ∷ []) ∷ txn 2 (Scan 0 2 3 ∷ Add 0 8 1 true 3 ∷ Add 0 5 1 true 1 ∷ []) ∷ [];
+  txns = txn 3 (Need 0 8 1 1 ∷ []) ∷ txn 3 (Need 0 5 1 0 ∷ Need 0 8 1 1 ∷ []) ∷ txn 2 (Del 0 5 ∷ Scan 0 2 5 ∷
+    Scan 0 0 18446744073709551614 ∷ []) ∷ txn 2 (Add 0 5 1 true 3 ∷ []) ∷ txn 2 (Scan 0 2 3 ∷ Add 0 8 1 true 3 ∷ Add 0 5 1 true 1 ∷ []) ∷
+    [];
   schedule = Picks 404018259741169381 224;
 }
 
@@ -407,7 +443,8 @@ of_scans_13 = record {
   shape = shape Narrow 1 (table 1 2 2 ∷ table 1 3 1 ∷ []) 2 1 0;
   rows = loaded 1 4 (1 ∷ []) ∷ loaded 1 5 (18446744073709551614 ∷ []) ∷ [];
   policy = record { tries = 4; tidy = true };
-  txns = txn 1 (Scan 1 0 3 ∷ Get 1 5 ∷ []) ∷ txn 1 (Scan 1 0 18446744073709551614 ∷ Add 1 5 1 true 0 ∷ []) ∷ txn 1 (Need 1 5 1 1 ∷ Need 1 5 1 0 ∷ Get 1 5 ∷ []) ∷ txn 1 (Get 0 4 ∷ Scan 1 0 3 ∷ []) ∷ [];
+  txns = txn 1 (Scan 1 0 3 ∷ Get 1 5 ∷ []) ∷ txn 1 (Scan 1 0 18446744073709551614 ∷ Add 1 5 1 true 0 ∷ []) ∷ txn 1 (Need 1 5 1 1 ∷
+    Need 1 5 1 0 ∷ Get 1 5 ∷ []) ∷ txn 1 (Get 0 4 ∷ Scan 1 0 3 ∷ []) ∷ [];
   schedule = Picks 4482936283251634493 149;
 }
 
@@ -415,7 +452,8 @@ scans_13 : shown of_scans_13 (fuse 51 ∷ []) ≡ record {
   logs =
     record {
       events = tried 1 1 0 1 0 0 ReadOnly ∷ tried 2 1 0 3 1 1 (Commit 1) ∷ move 0 1 5 0 0 move_cut ∷ [];
-      reads = item 1 5 (Some (18446744073709551614 ∷ [])) ∷ item 1 4 (Some (1 ∷ [])) ∷ item 1 5 (Some (18446744073709551614 ∷ [])) ∷ item 1 5 (Some (18446744073709551614 ∷ [])) ∷ [];
+      reads = item 1 5 (Some (18446744073709551614 ∷ [])) ∷ item 1 4 (Some (1 ∷ [])) ∷ item 1 5 (Some (18446744073709551614 ∷ [])) ∷
+        item 1 5 (Some (18446744073709551614 ∷ [])) ∷ [];
       locks = lock 1 5 0 0 ∷ [];
       writes = item 1 5 (Some (18446744073709551614 ∷ [])) ∷ [];
       snaps = [];
@@ -431,17 +469,22 @@ of_scans_14 = record {
   shape = shape Narrow 2 (table 2 4 3 ∷ []) 2 1 0;
   rows = [];
   policy = record { tries = 3; tidy = true };
-  txns = txn 1 (Scan 0 0 18446744073709551614 ∷ Put 0 8 (7 ∷ 1 ∷ []) ∷ []) ∷ txn 1 (Del 0 18446744073709551614 ∷ Get 0 1 ∷ Scan 0 2 5 ∷ Put 0 1 (3 ∷ 0 ∷ []) ∷ []) ∷ txn 1 (Put 0 1 (0 ∷ 0 ∷ []) ∷ Need 0 8 1 0 ∷ Add 0 8 2 true 1 ∷ []) ∷ txn 2 (Add 0 1 2 true 1 ∷ []) ∷ txn 1 (Scan 0 0 5 ∷ []) ∷ [];
+  txns = txn 1 (Scan 0 0 18446744073709551614 ∷ Put 0 8 (7 ∷ 1 ∷ []) ∷ []) ∷ txn 1 (Del 0 18446744073709551614 ∷ Get 0 1 ∷ Scan 0 2 5 ∷
+    Put 0 1 (3 ∷ 0 ∷ []) ∷ []) ∷ txn 1 (Put 0 1 (0 ∷ 0 ∷ []) ∷ Need 0 8 1 0 ∷ Add 0 8 2 true 1 ∷ []) ∷ txn 2 (Add 0 1 2 true 1 ∷ []) ∷
+    txn 1 (Scan 0 0 5 ∷ []) ∷ [];
   schedule = Picks 2768057371353935172 31;
 }
 
 scans_14 : shown of_scans_14 [] ≡ record {
   logs =
     record {
-      events = tried 1 1 0 0 1 1 (Commit 1) ∷ tried 2 1 2 1 2 2 (Commit 2) ∷ tried 3 1 3 2 2 2 (Commit 3) ∷ move 1 0 1 0 0 move_done ∷ tried 5 1 4 1 0 0 ReadOnly ∷ [];
-      reads = item 0 1 (Some (0 ∷ 1 ∷ [])) ∷ item 0 8 (Some (7 ∷ 1 ∷ [])) ∷ item 0 8 (Some (7 ∷ 1 ∷ [])) ∷ item 0 1 (Some (0 ∷ 0 ∷ [])) ∷ [];
+      events = tried 1 1 0 0 1 1 (Commit 1) ∷ tried 2 1 2 1 2 2 (Commit 2) ∷ tried 3 1 3 2 2 2 (Commit 3) ∷ move 1 0 1 0 0 move_done ∷
+        tried 5 1 4 1 0 0 ReadOnly ∷ [];
+      reads = item 0 1 (Some (0 ∷ 1 ∷ [])) ∷ item 0 8 (Some (7 ∷ 1 ∷ [])) ∷ item 0 8 (Some (7 ∷ 1 ∷ [])) ∷ item 0 1 (Some (0 ∷ 0 ∷ [])) ∷
+        [];
       locks = lock 0 8 0 0 ∷ lock 0 18446744073709551614 0 0 ∷ lock 0 1 2 1 ∷ lock 0 1 1 2 ∷ lock 0 8 1 1 ∷ [];
-      writes = item 0 8 (Some (7 ∷ 1 ∷ [])) ∷ item 0 18446744073709551614 None ∷ item 0 1 (Some (3 ∷ 0 ∷ [])) ∷ item 0 1 (Some (0 ∷ 0 ∷ [])) ∷ item 0 8 (Some (7 ∷ 2 ∷ [])) ∷ [];
+      writes = item 0 8 (Some (7 ∷ 1 ∷ [])) ∷ item 0 18446744073709551614 None ∷ item 0 1 (Some (3 ∷ 0 ∷ [])) ∷ item 0 1 (Some (0 ∷ 0 ∷
+        [])) ∷ item 0 8 (Some (7 ∷ 2 ∷ [])) ∷ [];
       snaps = [];
     } ∷
     record {
@@ -462,7 +505,9 @@ of_scans_15 = record {
   shape = shape Wide 3 (table 1 1 1 ∷ []) 2 1 0;
   rows = [];
   policy = record { tries = 1; tidy = true };
-  txns = txn 3 (Scan 0 2 18446744073709551614 ∷ Add 0 1 1 false 1 ∷ Add 0 4 1 true 3 ∷ Need 0 4 1 0 ∷ []) ∷ txn 3 (Scan 0 0 5 ∷ []) ∷ txn 2 (Scan 0 0 3 ∷ []) ∷ txn 1 (Scan 0 0 18446744073709551614 ∷ Scan 0 0 3 ∷ Put 0 1 (4 ∷ []) ∷ []) ∷ txn 2 (Need 0 4 1 1 ∷ Del 0 1 ∷ []) ∷ txn 3 (Add 0 1 1 true 3 ∷ Del 0 4 ∷ Scan 0 0 18446744073709551614 ∷ []) ∷ [];
+  txns = txn 3 (Scan 0 2 18446744073709551614 ∷ Add 0 1 1 false 1 ∷ Add 0 4 1 true 3 ∷ Need 0 4 1 0 ∷ []) ∷ txn 3 (Scan 0 0 5 ∷ []) ∷
+    txn 2 (Scan 0 0 3 ∷ []) ∷ txn 1 (Scan 0 0 18446744073709551614 ∷ Scan 0 0 3 ∷ Put 0 1 (4 ∷ []) ∷ []) ∷ txn 2 (Need 0 4 1 1 ∷
+    Del 0 1 ∷ []) ∷ txn 3 (Add 0 1 1 true 3 ∷ Del 0 4 ∷ Scan 0 0 18446744073709551614 ∷ []) ∷ [];
   schedule = Picks 6488018352895663419 121;
 }
 
@@ -494,468 +539,3 @@ scans_15 : shown of_scans_15 (up ∷ fuse 25 ∷ up ∷ []) ≡ record {
 }
 unfolding of_scans_15 stint_workers picked after_workers until_ended settle copies load_from
 scans_15 = refl
-
-unfoldable of_scans_16 : Scenario
-of_scans_16 = record {
-  shape = shape Held 1 (table 2 2 1 ∷ []) 2 1 0;
-  rows = [];
-  policy = record { tries = 4; tidy = true };
-  txns = txn 1 (Add 0 0 2 true 1 ∷ Guard 0 0 ∷ Del 0 0 ∷ Scan 0 1 5 ∷ []) ∷ txn 1 (Need 0 0 1 0 ∷ Guard 0 0 ∷ Scan 0 0 3 ∷ Scan 0 1 18446744073709551614 ∷ []) ∷ txn 1 (Del 0 0 ∷ []) ∷ txn 1 (Add 0 0 1 true 1 ∷ Del 0 0 ∷ Get 0 0 ∷ Scan 0 0 5 ∷ []) ∷ [];
-  schedule = Stints (stint 1 5 ∷ stint 1 3 ∷ stint 1 40 ∷ []);
-}
-
-scans_16 : shown of_scans_16 [] ≡ record {
-  logs =
-    record {
-      events = tried 1 1 0 2 1 1 (Commit 1) ∷ move 0 0 0 0 0 move_done ∷ tried 2 1 1 2 0 0 ReadOnly ∷ tried 3 1 1 0 1 1 (Commit 2) ∷ NoRoom 0 ∷ Collected 0 2 (2 ∷ []) false ∷ move 0 0 0 1 1 move_done ∷ tried 4 1 2 2 1 1 (Commit 3) ∷ NoRoom 0 ∷ Collected 0 3 (3 ∷ []) false ∷ move 0 0 0 1 2 move_done ∷ [];
-      reads = item 0 0 None ∷ item 0 0 (Some (0 ∷ 1 ∷ [])) ∷ item 0 0 None ∷ item 0 0 None ∷ item 0 0 None ∷ item 0 0 None ∷ [];
-      locks = lock 0 0 0 0 ∷ lock 0 0 1 1 ∷ lock 0 0 1 2 ∷ [];
-      writes = item 0 0 None ∷ item 0 0 None ∷ item 0 0 None ∷ [];
-      snaps = [];
-    } ∷
-    [];
-  audit = [];
-}
-unfolding of_scans_16 stint_workers picked after_workers until_ended settle copies load_from
-scans_16 = refl
-
-unfoldable of_scans_17 : Scenario
-of_scans_17 = record {
-  shape = shape Narrow 3 (table 1 2 3 ∷ table 1 3 3 ∷ []) 1 1 0;
-  rows = loaded 0 18446744073709551614 (0 ∷ []) ∷ loaded 0 0 (5 ∷ []) ∷ loaded 1 4 (40 ∷ []) ∷ loaded 1 18446744073709551614 (0 ∷ []) ∷ loaded 1 8 (1 ∷ []) ∷ [];
-  policy = record { tries = 1; tidy = false };
-  txns = txn 1 (Need 0 18446744073709551614 1 0 ∷ Scan 1 0 18446744073709551614 ∷ Add 1 2 1 false 1 ∷ Get 0 0 ∷ []) ∷ txn 3 (Guard 1 8 ∷ Scan 1 1 3 ∷ Del 0 0 ∷ []) ∷ txn 1 (Add 1 8 1 true 1 ∷ Scan 1 0 18446744073709551614 ∷ Scan 1 0 3 ∷ Guard 1 2 ∷ []) ∷ txn 1 (Scan 0 0 5 ∷ []) ∷ txn 1 (Need 0 0 1 1 ∷ Get 1 8 ∷ []) ∷ txn 1 (Scan 1 2 3 ∷ Add 1 8 1 true 1 ∷ []) ∷ [];
-  schedule = Picks 3496741257892969171 21;
-}
-
-scans_17 : shown of_scans_17 [] ≡ record {
-  logs =
-    record {
-      events = tried 1 1 0 5 0 0 (Declined 3) ∷ unbegun 3 1 (Again 3 0 1) ∷ tried 4 1 1 0 0 0 ReadOnly ∷ tried 5 1 1 1 0 0 (Declined 1) ∷ tried 6 1 1 1 1 1 (Commit 1) ∷ [];
-      reads = item 0 18446744073709551614 (Some (0 ∷ [])) ∷ item 1 4 (Some (40 ∷ [])) ∷ item 1 8 (Some (1 ∷ [])) ∷ item 1 18446744073709551614 (Some (0 ∷ [])) ∷ item 1 2 None ∷ item 0 0 None ∷ item 1 8 (Some (1 ∷ [])) ∷ [];
-      locks = lock 1 8 0 0 ∷ [];
-      writes = item 1 8 (Some (2 ∷ [])) ∷ [];
-      snaps = [];
-    } ∷
-    record {
-      events = [];
-      reads = [];
-      locks = [];
-      writes = [];
-      snaps = [];
-    } ∷
-    record {
-      events = tried 2 1 0 1 2 1 (Commit 1) ∷ [];
-      reads = item 1 8 (Some (1 ∷ [])) ∷ [];
-      locks = lock 0 0 0 0 ∷ lock 1 8 0 0 ∷ [];
-      writes = item 0 0 None ∷ [];
-      snaps = [];
-    } ∷
-    [];
-  audit = row 0 18446744073709551614 (Some (0 ∷ [])) false ∷ row 1 4 (Some (40 ∷ [])) false ∷ row 1 8 (Some (2 ∷ [])) false ∷ row 1 18446744073709551614 (Some (0 ∷ [])) false ∷ [];
-}
-unfolding of_scans_17 stint_workers picked after_workers until_ended settle copies load_from
-scans_17 = refl
-
-unfoldable of_scans_18 : Scenario
-of_scans_18 = record {
-  shape = shape Wide 2 (table 1 4 2 ∷ table 2 3 3 ∷ []) 1 1 7;
-  rows = loaded 0 5 (18446744073709551614 ∷ []) ∷ loaded 0 8 (0 ∷ []) ∷ loaded 0 2 (1 ∷ []) ∷ loaded 0 0 (18446744073709551614 ∷ []) ∷ loaded 1 3 (40 ∷ 40 ∷ []) ∷ loaded 1 8 (18446744073709551614 ∷ 0 ∷ []) ∷ [];
-  policy = record { tries = 2; tidy = false };
-  txns = txn 2 (Scan 1 1 18446744073709551614 ∷ Scan 1 1 5 ∷ Del 1 8 ∷ Del 1 8 ∷ []) ∷ txn 1 (Scan 1 0 5 ∷ Scan 1 2 18446744073709551614 ∷ Add 1 8 2 true 1 ∷ []) ∷ txn 1 (Scan 1 1 5 ∷ Get 1 8 ∷ []) ∷ [];
-  schedule = Picks 17166963687621528531 33;
-}
-
-scans_18 : shown of_scans_18 [] ≡ record {
-  logs =
-    record {
-      events = tried 2 1 0 4 0 0 (Locked (lock 1 8 0 0)) ∷ unbegun 2 2 (Again 2 7 8) ∷ tried 3 1 1 2 0 0 ReadOnly ∷ [];
-      reads = item 1 3 (Some (40 ∷ 40 ∷ [])) ∷ item 1 3 (Some (40 ∷ 40 ∷ [])) ∷ item 1 8 (Some (18446744073709551614 ∷ 0 ∷ [])) ∷ item 1 8 (Some (18446744073709551614 ∷ 0 ∷ [])) ∷ item 1 3 (Some (40 ∷ 40 ∷ [])) ∷ item 1 8 None ∷ [];
-      locks = [];
-      writes = [];
-      snaps = [];
-    } ∷
-    record {
-      events = tried 1 1 0 3 1 1 (Commit 8) ∷ [];
-      reads = item 1 3 (Some (40 ∷ 40 ∷ [])) ∷ item 1 8 (Some (18446744073709551614 ∷ 0 ∷ [])) ∷ item 1 3 (Some (40 ∷ 40 ∷ [])) ∷ [];
-      locks = lock 1 8 0 0 ∷ [];
-      writes = item 1 8 None ∷ [];
-      snaps = [];
-    } ∷
-    [];
-  audit = row 0 0 (Some (18446744073709551614 ∷ [])) false ∷ row 0 2 (Some (1 ∷ [])) false ∷ row 0 5 (Some (18446744073709551614 ∷ [])) false ∷ row 0 8 (Some (0 ∷ [])) false ∷ row 1 3 (Some (40 ∷ 40 ∷ [])) false ∷ [];
-}
-unfolding of_scans_18 stint_workers picked after_workers until_ended settle copies load_from
-scans_18 = refl
-
-unfoldable of_scans_19 : Scenario
-of_scans_19 = record {
-  shape = shape Narrow 3 (table 1 4 1 ∷ []) 1 1 0;
-  rows = [];
-  policy = record { tries = 1; tidy = false };
-  txns = txn 3 (Guard 0 8 ∷ []) ∷ txn 3 (Add 0 3 1 true 3 ∷ Add 0 8 1 true 3 ∷ Add 0 1 1 true 0 ∷ Scan 0 0 18446744073709551614 ∷ []) ∷ txn 1 (Add 0 8 1 true 1 ∷ Del 0 3 ∷ []) ∷ txn 2 (Scan 0 0 18446744073709551614 ∷ []) ∷ [];
-  schedule = Stints (stint 1 1 ∷ stint 2 8 ∷ stint 3 5 ∷ stint 2 1 ∷ stint 2 13 ∷ stint 2 5 ∷ stint 3 2 ∷ stint 1 1 ∷ []);
-}
-
-scans_19 : shown of_scans_19 [] ≡ record {
-  logs =
-    record {
-      events = tried 3 1 0 1 2 2 (Commit 1) ∷ [];
-      reads = item 0 8 None ∷ [];
-      locks = lock 0 8 0 0 ∷ lock 0 3 0 0 ∷ [];
-      writes = item 0 8 (Some (1 ∷ [])) ∷ item 0 3 None ∷ [];
-      snaps = [];
-    } ∷
-    record {
-      events = tried 4 1 0 0 0 0 ReadOnly ∷ [];
-      reads = [];
-      locks = [];
-      writes = [];
-      snaps = [];
-    } ∷
-    record {
-      events = tried 1 1 0 1 0 0 ReadOnly ∷ tried 2 1 0 6 0 0 (Locked (lock 0 3 0 0)) ∷ [];
-      reads = item 0 8 None ∷ item 0 3 None ∷ item 0 8 None ∷ item 0 1 None ∷ item 0 1 (Some (0 ∷ [])) ∷ item 0 3 (Some (3 ∷ [])) ∷ item 0 8 (Some (3 ∷ [])) ∷ [];
-      locks = [];
-      writes = [];
-      snaps = [];
-    } ∷
-    [];
-  audit = row 0 8 (Some (1 ∷ [])) false ∷ [];
-}
-unfolding of_scans_19 stint_workers picked after_workers until_ended settle copies load_from
-scans_19 = refl
-
-unfoldable of_scans_20 : Scenario
-of_scans_20 = record {
-  shape = shape Narrow 2 (table 1 2 3 ∷ []) 1 3 7;
-  rows = loaded 0 8 (40 ∷ []) ∷ loaded 0 4 (40 ∷ []) ∷ [];
-  policy = record { tries = 4; tidy = false };
-  txns = txn 1 (Scan 0 0 18446744073709551614 ∷ []) ∷ txn 1 (Scan 0 0 18446744073709551614 ∷ []) ∷ txn 1 (Scan 0 1 18446744073709551614 ∷ []) ∷ txn 1 (Put 0 5 (9 ∷ []) ∷ Put 0 5 (1 ∷ []) ∷ Scan 0 0 3 ∷ Scan 0 0 3 ∷ []) ∷ txn 2 (Scan 0 0 5 ∷ Guard 0 4 ∷ Guard 0 4 ∷ []) ∷ [];
-  schedule = Stints (stint 1 1 ∷ stint 1 20 ∷ stint 1 5 ∷ []);
-}
-
-scans_20 : shown of_scans_20 (up ∷ fuse 21 ∷ []) ≡ record {
-  logs =
-    record {
-      events = tried 1 1 0 2 0 0 ReadOnly ∷ tried 2 1 0 2 0 0 ReadOnly ∷ tried 3 1 0 2 0 0 ReadOnly ∷ tried 4 1 0 0 0 0 (NoSpace 0) ∷ [];
-      reads = item 0 4 (Some (40 ∷ [])) ∷ item 0 8 (Some (40 ∷ [])) ∷ item 0 4 (Some (40 ∷ [])) ∷ item 0 8 (Some (40 ∷ [])) ∷ item 0 4 (Some (40 ∷ [])) ∷ item 0 8 (Some (40 ∷ [])) ∷ [];
-      locks = [];
-      writes = [];
-      snaps = [];
-    } ∷
-    record {
-      events = tried 5 1 0 2 0 0 Cut ∷ [];
-      reads = item 0 4 (Some (40 ∷ [])) ∷ item 0 4 (Some (40 ∷ [])) ∷ [];
-      locks = [];
-      writes = [];
-      snaps = [];
-    } ∷
-    [];
-  audit = row 0 4 (Some (40 ∷ [])) false ∷ row 0 8 (Some (40 ∷ [])) false ∷ [];
-}
-unfolding of_scans_20 stint_workers picked after_workers until_ended settle copies load_from
-scans_20 = refl
-
-unfoldable of_scans_21 : Scenario
-of_scans_21 = record {
-  shape = shape Narrow 3 (table 1 4 1 ∷ table 1 1 1 ∷ []) 1 3 0;
-  rows = loaded 0 5 (1 ∷ []) ∷ loaded 0 1 (0 ∷ []) ∷ [];
-  policy = record { tries = 3; tidy = true };
-  txns = txn 2 (Add 1 2 1 true 1 ∷ Scan 0 0 3 ∷ Scan 0 0 18446744073709551614 ∷ Need 1 0 1 0 ∷ []) ∷ txn 3 (Scan 0 2 18446744073709551614 ∷ Need 0 5 1 5 ∷ []) ∷ txn 2 (Add 0 8 1 true 1 ∷ Scan 1 0 18446744073709551614 ∷ Scan 1 0 3 ∷ Scan 1 0 18446744073709551614 ∷ []) ∷ [];
-  schedule = Picks 9412559828521838271 56;
-}
-
-scans_21 : shown of_scans_21 (up ∷ up ∷ fuse 60 ∷ []) ≡ record {
-  logs =
-    record {
-      events = [];
-      reads = [];
-      locks = [];
-      writes = [];
-      snaps = [];
-    } ∷
-    record {
-      events = tried 1 1 0 5 1 1 (Commit 1) ∷ move 0 1 2 0 0 move_done ∷ tried 3 1 1 4 1 1 (Commit 2) ∷ move 0 0 8 0 0 move_done ∷ [];
-      reads = item 1 2 None ∷ item 0 1 (Some (0 ∷ [])) ∷ item 0 1 (Some (0 ∷ [])) ∷ item 0 5 (Some (1 ∷ [])) ∷ item 1 0 None ∷ item 0 8 None ∷ item 1 2 (Some (1 ∷ [])) ∷ item 1 2 (Some (1 ∷ [])) ∷ item 1 2 (Some (1 ∷ [])) ∷ [];
-      locks = lock 1 2 0 0 ∷ lock 0 8 0 0 ∷ [];
-      writes = item 1 2 (Some (1 ∷ [])) ∷ item 0 8 (Some (1 ∷ [])) ∷ [];
-      snaps = [];
-    } ∷
-    record {
-      events = tried 2 1 0 2 0 0 (Declined 2) ∷ [];
-      reads = item 0 5 (Some (1 ∷ [])) ∷ item 0 5 (Some (1 ∷ [])) ∷ [];
-      locks = [];
-      writes = [];
-      snaps = [];
-    } ∷
-    [];
-  audit = row 0 1 (Some (0 ∷ [])) false ∷ row 0 5 (Some (1 ∷ [])) false ∷ row 0 8 (Some (1 ∷ [])) false ∷ row 1 2 (Some (1 ∷ [])) false ∷ [];
-}
-unfolding of_scans_21 stint_workers picked after_workers until_ended settle copies load_from
-scans_21 = refl
-
-unfoldable of_scans_22 : Scenario
-of_scans_22 = record {
-  shape = shape Wide 2 (table 1 2 1 ∷ []) 1 1 7;
-  rows = loaded 0 3 (40 ∷ []) ∷ loaded 0 4 (5 ∷ []) ∷ [];
-  policy = record { tries = 2; tidy = true };
-  txns = txn 2 (Need 0 4 1 1 ∷ Scan 0 1 18446744073709551614 ∷ Put 0 4 (4 ∷ []) ∷ []) ∷ txn 1 (Scan 0 0 18446744073709551614 ∷ Scan 0 0 5 ∷ Add 0 3 1 true 1 ∷ []) ∷ txn 1 (Put 0 3 (1 ∷ []) ∷ []) ∷ txn 2 (Scan 0 0 18446744073709551614 ∷ Guard 0 4 ∷ []) ∷ txn 1 (Scan 0 1 5 ∷ Guard 0 0 ∷ []) ∷ [];
-  schedule = Picks 15322357558442694601 87;
-}
-
-scans_22 : shown of_scans_22 [] ≡ record {
-  logs =
-    record {
-      events = tried 2 1 0 5 1 1 (Commit 8) ∷ NoRoom 0 ∷ Collected 0 2 (8 ∷ 8 ∷ []) false ∷ move 0 0 3 0 0 move_done ∷ tried 3 1 2 0 1 1 (Commit 9) ∷ NoRoom 0 ∷ Collected 0 3 (9 ∷ 8 ∷ []) false ∷ move 0 0 3 1 8 move_done ∷ tried 5 1 3 3 0 0 (NoSpace 0) ∷ [];
-      reads = item 0 3 (Some (40 ∷ [])) ∷ item 0 4 (Some (5 ∷ [])) ∷ item 0 3 (Some (40 ∷ [])) ∷ item 0 4 (Some (5 ∷ [])) ∷ item 0 3 (Some (40 ∷ [])) ∷ item 0 3 (Some (1 ∷ [])) ∷ item 0 4 (Some (4 ∷ [])) ∷ item 0 0 None ∷ [];
-      locks = lock 0 3 0 0 ∷ lock 0 3 1 8 ∷ [];
-      writes = item 0 3 (Some (41 ∷ [])) ∷ item 0 3 (Some (1 ∷ [])) ∷ [];
-      snaps = [];
-    } ∷
-    record {
-      events = tried 1 1 0 3 1 1 (Commit 8) ∷ move 0 0 4 0 0 move_done ∷ tried 4 1 2 3 0 0 ReadOnly ∷ [];
-      reads = item 0 4 (Some (5 ∷ [])) ∷ item 0 3 (Some (40 ∷ [])) ∷ item 0 4 (Some (5 ∷ [])) ∷ item 0 3 (Some (41 ∷ [])) ∷ item 0 4 (Some (4 ∷ [])) ∷ item 0 4 (Some (4 ∷ [])) ∷ [];
-      locks = lock 0 4 0 0 ∷ [];
-      writes = item 0 4 (Some (4 ∷ [])) ∷ [];
-      snaps = [];
-    } ∷
-    [];
-  audit = row 0 3 (Some (1 ∷ [])) false ∷ row 0 4 (Some (4 ∷ [])) false ∷ [];
-}
-unfolding of_scans_22 stint_workers picked after_workers until_ended settle copies load_from
-scans_22 = refl
-
-unfoldable of_scans_23 : Scenario
-of_scans_23 = record {
-  shape = shape Narrow 2 (table 1 3 1 ∷ []) 1 1 0;
-  rows = [];
-  policy = record { tries = 2; tidy = true };
-  txns = txn 2 (Scan 0 1 3 ∷ []) ∷ txn 1 (Put 0 8 (2 ∷ []) ∷ Scan 0 1 5 ∷ []) ∷ txn 1 (Scan 0 1 3 ∷ []) ∷ txn 2 (Del 0 0 ∷ Scan 0 0 18446744073709551614 ∷ Scan 0 0 18446744073709551614 ∷ Scan 0 0 18446744073709551614 ∷ []) ∷ txn 2 (Get 0 8 ∷ []) ∷ [];
-  schedule = Stints (stint 2 8 ∷ stint 1 8 ∷ stint 2 5 ∷ stint 1 20 ∷ stint 1 20 ∷ stint 1 8 ∷ stint 1 8 ∷ stint 1 13 ∷ stint 1 8 ∷ []);
-}
-
-scans_23 : shown of_scans_23 (fuse 17 ∷ up ∷ []) ≡ record {
-  logs =
-    record {
-      events = tried 2 1 0 0 1 0 Cut ∷ [];
-      reads = [];
-      locks = lock 0 8 0 0 ∷ [];
-      writes = [];
-      snaps = [];
-    } ∷
-    record {
-      events = tried 1 1 0 0 0 0 ReadOnly ∷ tried 4 1 0 0 1 1 (Commit 1) ∷ move 0 0 0 0 0 move_done ∷ tried 5 1 1 1 0 0 ReadOnly ∷ [];
-      reads = item 0 8 None ∷ [];
-      locks = lock 0 0 0 0 ∷ [];
-      writes = item 0 0 None ∷ [];
-      snaps = [];
-    } ∷
-    [];
-  audit = row 0 8 None true ∷ [];
-}
-unfolding of_scans_23 stint_workers picked after_workers until_ended settle copies load_from
-scans_23 = refl
-
-unfoldable of_scans_24 : Scenario
-of_scans_24 = record {
-  shape = shape Narrow 2 (table 1 1 3 ∷ []) 1 1 7;
-  rows = loaded 0 2 (0 ∷ []) ∷ [];
-  policy = record { tries = 3; tidy = false };
-  txns = txn 2 (Need 0 2 1 0 ∷ []) ∷ txn 1 (Guard 0 2 ∷ Del 0 2 ∷ Scan 0 0 3 ∷ Scan 0 2 5 ∷ []) ∷ txn 2 (Put 0 2 (5 ∷ []) ∷ Scan 0 0 3 ∷ Put 0 2 (1 ∷ []) ∷ []) ∷ txn 1 (Get 0 2 ∷ Add 0 2 1 true 3 ∷ []) ∷ txn 2 (Scan 0 2 3 ∷ Put 0 2 (4 ∷ []) ∷ Put 0 2 (8 ∷ []) ∷ []) ∷ [];
-  schedule = Picks 12448774025145999576 259;
-}
-
-scans_24 : shown of_scans_24 [] ≡ record {
-  logs =
-    record {
-      events = tried 2 1 0 1 0 0 (Newer (lock 0 2 2 8)) ∷ tried 2 2 1 1 0 0 (Newer (lock 0 2 2 9)) ∷ tried 2 3 2 1 1 1 (Commit 8) ∷ tried 4 1 3 2 1 0 (Full (lock 0 2 0 0)) ∷ tried 4 2 3 2 1 0 (Full (lock 0 2 0 0)) ∷ tried 4 3 3 2 1 0 (Full (lock 0 2 0 0)) ∷ [];
-      reads = item 0 2 (Some (0 ∷ [])) ∷ item 0 2 (Some (1 ∷ [])) ∷ item 0 2 (Some (8 ∷ [])) ∷ item 0 2 None ∷ item 0 2 None ∷ item 0 2 None ∷ item 0 2 None ∷ item 0 2 None ∷ item 0 2 None ∷ [];
-      locks = lock 0 2 2 9 ∷ lock 0 2 1 8 ∷ lock 0 2 1 8 ∷ lock 0 2 1 8 ∷ [];
-      writes = item 0 2 None ∷ [];
-      snaps = [];
-    } ∷
-    record {
-      events = tried 1 1 0 1 0 0 ReadOnly ∷ tried 3 1 0 1 1 1 (Commit 8) ∷ tried 5 1 1 1 1 1 (Commit 9) ∷ [];
-      reads = item 0 2 (Some (0 ∷ [])) ∷ item 0 2 (Some (5 ∷ [])) ∷ item 0 2 (Some (1 ∷ [])) ∷ [];
-      locks = lock 0 2 0 0 ∷ lock 0 2 2 8 ∷ [];
-      writes = item 0 2 (Some (1 ∷ [])) ∷ item 0 2 (Some (8 ∷ [])) ∷ [];
-      snaps = [];
-    } ∷
-    [];
-  audit = [];
-}
-unfolding of_scans_24 stint_workers picked after_workers until_ended settle copies load_from
-scans_24 = refl
-
-unfoldable of_scans_25 : Scenario
-of_scans_25 = record {
-  shape = shape Narrow 1 (table 2 4 1 ∷ []) 2 2 7;
-  rows = loaded 0 3 (0 ∷ 5 ∷ []) ∷ loaded 0 1 (1 ∷ 5 ∷ []) ∷ loaded 0 18446744073709551614 (40 ∷ 40 ∷ []) ∷ loaded 0 8 (18446744073709551614 ∷ 1 ∷ []) ∷ [];
-  policy = record { tries = 4; tidy = false };
-  txns = txn 1 (Scan 0 0 18446744073709551614 ∷ Scan 0 0 3 ∷ []) ∷ txn 1 (Add 0 3 2 true 3 ∷ Get 0 3 ∷ []) ∷ txn 1 (Scan 0 1 18446744073709551614 ∷ Need 0 1 2 0 ∷ Add 0 18446744073709551614 2 true 1 ∷ Need 0 1 2 0 ∷ []) ∷ txn 1 (Put 0 3 (0 ∷ 0 ∷ []) ∷ Put 0 18446744073709551614 (3 ∷ 5 ∷ []) ∷ Guard 0 1 ∷ Put 0 3 (8 ∷ 4 ∷ []) ∷ []) ∷ txn 1 (Put 0 1 (2 ∷ 1 ∷ []) ∷ []) ∷ txn 1 (Put 0 18446744073709551614 (0 ∷ 9 ∷ []) ∷ []) ∷ [];
-  schedule = Picks 3970870166342838651 227;
-}
-
-scans_25 : shown of_scans_25 [] ≡ record {
-  logs =
-    record {
-      events = tried 1 1 0 6 0 0 ReadOnly ∷ tried 2 1 0 2 1 1 (Commit 8) ∷ tried 3 1 1 7 1 1 (Commit 9) ∷ tried 4 1 2 1 3 0 (Full (lock 0 3 0 0)) ∷ tried 4 2 2 1 3 0 (Full (lock 0 3 0 0)) ∷ tried 4 3 2 1 3 0 (Full (lock 0 3 0 0)) ∷ tried 4 4 2 1 3 0 (Full (lock 0 3 0 0)) ∷ tried 5 1 2 0 1 1 (Commit 10) ∷ tried 6 1 3 0 1 0 (Full (lock 0 18446744073709551614 0 0)) ∷ tried 6 2 3 0 1 0 (Full (lock 0 18446744073709551614 0 0)) ∷ tried 6 3 3 0 1 0 (Full (lock 0 18446744073709551614 0 0)) ∷ tried 6 4 3 0 1 0 (Full (lock 0 18446744073709551614 0 0)) ∷ [];
-      reads = item 0 1 (Some (1 ∷ 5 ∷ [])) ∷ item 0 3 (Some (0 ∷ 5 ∷ [])) ∷ item 0 8 (Some (18446744073709551614 ∷ 1 ∷ [])) ∷ item 0 18446744073709551614 (Some (40 ∷ 40 ∷ [])) ∷ item 0 1 (Some (1 ∷ 5 ∷ [])) ∷ item 0 3 (Some (0 ∷ 5 ∷ [])) ∷ item 0 3 (Some (0 ∷ 5 ∷ [])) ∷ item 0 3 (Some (0 ∷ 8 ∷ [])) ∷ item 0 1 (Some (1 ∷ 5 ∷ [])) ∷ item 0 3 (Some (0 ∷ 8 ∷ [])) ∷ item 0 8 (Some (18446744073709551614 ∷ 1 ∷ [])) ∷ item 0 18446744073709551614 (Some (40 ∷ 40 ∷ [])) ∷ item 0 1 (Some (1 ∷ 5 ∷ [])) ∷ item 0 18446744073709551614 (Some (40 ∷ 40 ∷ [])) ∷ item 0 1 (Some (1 ∷ 5 ∷ [])) ∷ item 0 1 (Some (1 ∷ 5 ∷ [])) ∷ item 0 1 (Some (1 ∷ 5 ∷ [])) ∷ item 0 1 (Some (1 ∷ 5 ∷ [])) ∷ item 0 1 (Some (1 ∷ 5 ∷ [])) ∷ [];
-      locks = lock 0 3 0 0 ∷ lock 0 18446744073709551614 0 0 ∷ lock 0 3 1 8 ∷ lock 0 18446744073709551614 1 9 ∷ lock 0 1 0 0 ∷ lock 0 3 1 8 ∷ lock 0 18446744073709551614 1 9 ∷ lock 0 1 0 0 ∷ lock 0 3 1 8 ∷ lock 0 18446744073709551614 1 9 ∷ lock 0 1 0 0 ∷ lock 0 3 1 8 ∷ lock 0 18446744073709551614 1 9 ∷ lock 0 1 0 0 ∷ lock 0 1 0 0 ∷ lock 0 18446744073709551614 1 9 ∷ lock 0 18446744073709551614 1 9 ∷ lock 0 18446744073709551614 1 9 ∷ lock 0 18446744073709551614 1 9 ∷ [];
-      writes = item 0 3 (Some (0 ∷ 8 ∷ [])) ∷ item 0 18446744073709551614 (Some (40 ∷ 41 ∷ [])) ∷ item 0 1 (Some (2 ∷ 1 ∷ [])) ∷ [];
-      snaps = [];
-    } ∷
-    [];
-  audit = row 0 1 (Some (2 ∷ 1 ∷ [])) false ∷ row 0 3 (Some (0 ∷ 8 ∷ [])) false ∷ row 0 8 (Some (18446744073709551614 ∷ 1 ∷ [])) false ∷ row 0 18446744073709551614 (Some (40 ∷ 41 ∷ [])) false ∷ [];
-}
-unfolding of_scans_25 stint_workers picked after_workers until_ended settle copies load_from
-scans_25 = refl
-
-unfoldable of_scans_26 : Scenario
-of_scans_26 = record {
-  shape = shape Held 2 (table 2 3 3 ∷ []) 1 2 0;
-  rows = loaded 0 2 (0 ∷ 1 ∷ []) ∷ loaded 0 1 (18446744073709551614 ∷ 1 ∷ []) ∷ loaded 0 4 (1 ∷ 0 ∷ []) ∷ [];
-  policy = record { tries = 1; tidy = true };
-  txns = txn 1 (Add 0 18446744073709551614 1 true 1 ∷ []) ∷ txn 2 (Get 0 2 ∷ Guard 0 2 ∷ Scan 0 0 18446744073709551614 ∷ Del 0 18446744073709551614 ∷ []) ∷ txn 2 (Add 0 1 1 true 3 ∷ Need 0 18446744073709551614 2 0 ∷ Guard 0 2 ∷ Scan 0 0 18446744073709551614 ∷ []) ∷ [];
-  schedule = Picks 5952517850724646727 58;
-}
-
-scans_26 : shown of_scans_26 [] ≡ record {
-  logs =
-    record {
-      events = tried 1 1 0 1 0 0 (NoSpace 0) ∷ [];
-      reads = item 0 18446744073709551614 None ∷ [];
-      locks = [];
-      writes = [];
-      snaps = [];
-    } ∷
-    record {
-      events = tried 2 1 0 5 0 0 (NoSpace 0) ∷ tried 3 1 0 1 0 0 (Declined 1) ∷ [];
-      reads = item 0 2 (Some (0 ∷ 1 ∷ [])) ∷ item 0 2 (Some (0 ∷ 1 ∷ [])) ∷ item 0 1 (Some (18446744073709551614 ∷ 1 ∷ [])) ∷ item 0 2 (Some (0 ∷ 1 ∷ [])) ∷ item 0 4 (Some (1 ∷ 0 ∷ [])) ∷ item 0 1 (Some (18446744073709551614 ∷ 1 ∷ [])) ∷ [];
-      locks = [];
-      writes = [];
-      snaps = [];
-    } ∷
-    [];
-  audit = row 0 1 (Some (18446744073709551614 ∷ 1 ∷ [])) false ∷ row 0 2 (Some (0 ∷ 1 ∷ [])) false ∷ row 0 4 (Some (1 ∷ 0 ∷ [])) false ∷ [];
-}
-unfolding of_scans_26 stint_workers picked after_workers until_ended settle copies load_from
-scans_26 = refl
-
-unfoldable of_scans_27 : Scenario
-of_scans_27 = record {
-  shape = shape Narrow 1 (table 2 2 1 ∷ []) 1 2 0;
-  rows = loaded 0 3 (18446744073709551614 ∷ 18446744073709551614 ∷ []) ∷ [];
-  policy = record { tries = 2; tidy = true };
-  txns = txn 1 (Guard 0 0 ∷ []) ∷ txn 1 (Need 0 0 2 0 ∷ Del 0 0 ∷ Scan 0 2 18446744073709551614 ∷ Put 0 3 (4 ∷ 9 ∷ []) ∷ []) ∷ txn 1 (Add 0 3 2 true 1 ∷ Guard 0 0 ∷ Add 0 0 1 true 0 ∷ []) ∷ txn 1 (Del 0 0 ∷ []) ∷ [];
-  schedule = Stints (stint 1 3 ∷ stint 1 2 ∷ stint 1 13 ∷ stint 1 13 ∷ stint 1 2 ∷ stint 1 40 ∷ stint 1 40 ∷ stint 1 1 ∷ []);
-}
-
-scans_27 : shown of_scans_27 (fuse 8 ∷ []) ≡ record {
-  logs =
-    record {
-      events = tried 1 1 0 1 0 0 ReadOnly ∷ tried 2 1 0 0 0 0 Cut ∷ [];
-      reads = item 0 0 None ∷ [];
-      locks = [];
-      writes = [];
-      snaps = [];
-    } ∷
-    [];
-  audit = row 0 3 (Some (18446744073709551614 ∷ 18446744073709551614 ∷ [])) false ∷ [];
-}
-unfolding of_scans_27 stint_workers picked after_workers until_ended settle copies load_from
-scans_27 = refl
-
-unfoldable of_scans_28 : Scenario
-of_scans_28 = record {
-  shape = shape Wide 3 (table 1 2 3 ∷ table 2 1 1 ∷ []) 2 1 0;
-  rows = loaded 1 1 (5 ∷ 1 ∷ []) ∷ [];
-  policy = record { tries = 4; tidy = true };
-  txns = txn 3 (Scan 0 2 5 ∷ Del 0 18446744073709551614 ∷ Scan 0 0 18446744073709551614 ∷ []) ∷ txn 1 (Guard 0 18446744073709551614 ∷ []) ∷ txn 3 (Del 0 18446744073709551614 ∷ []) ∷ txn 1 (Put 0 18446744073709551614 (7 ∷ []) ∷ []) ∷ txn 2 (Scan 0 2 18446744073709551614 ∷ Scan 0 2 18446744073709551614 ∷ []) ∷ txn 1 (Guard 0 18446744073709551614 ∷ Scan 0 0 3 ∷ Guard 0 18446744073709551614 ∷ []) ∷ [];
-  schedule = Picks 6090917524182943165 237;
-}
-
-scans_28 : shown of_scans_28 [] ≡ record {
-  logs =
-    record {
-      events = tried 2 1 0 1 0 0 ReadOnly ∷ tried 4 1 0 0 1 1 (Commit 1) ∷ tried 6 1 1 2 0 0 ReadOnly ∷ [];
-      reads = item 0 18446744073709551614 None ∷ item 0 18446744073709551614 (Some (7 ∷ [])) ∷ item 0 18446744073709551614 (Some (7 ∷ [])) ∷ [];
-      locks = lock 0 18446744073709551614 0 0 ∷ [];
-      writes = item 0 18446744073709551614 (Some (7 ∷ [])) ∷ [];
-      snaps = [];
-    } ∷
-    record {
-      events = tried 5 1 0 0 0 0 ReadOnly ∷ [];
-      reads = [];
-      locks = [];
-      writes = [];
-      snaps = [];
-    } ∷
-    record {
-      events = tried 1 1 0 0 0 0 (Locked (lock 0 18446744073709551614 0 0)) ∷ tried 1 2 0 0 0 0 (Newer (lock 0 18446744073709551614 1 1)) ∷ tried 1 3 1 0 1 1 (Commit 1) ∷ tried 3 1 2 0 1 1 (Commit 2) ∷ move 0 0 18446744073709551614 0 0 move_done ∷ [];
-      reads = [];
-      locks = lock 0 18446744073709551614 1 1 ∷ lock 0 18446744073709551614 3 1 ∷ [];
-      writes = item 0 18446744073709551614 None ∷ item 0 18446744073709551614 None ∷ [];
-      snaps = [];
-    } ∷
-    [];
-  audit = row 1 1 (Some (5 ∷ 1 ∷ [])) false ∷ [];
-}
-unfolding of_scans_28 stint_workers picked after_workers until_ended settle copies load_from
-scans_28 = refl
-
-unfoldable of_scans_29 : Scenario
-of_scans_29 = record {
-  shape = shape Narrow 2 (table 1 2 3 ∷ table 1 4 1 ∷ []) 2 1 0;
-  rows = loaded 0 18446744073709551614 (0 ∷ []) ∷ loaded 0 8 (40 ∷ []) ∷ [];
-  policy = record { tries = 1; tidy = false };
-  txns = txn 1 (Scan 1 0 3 ∷ Add 1 2 1 true 1 ∷ Need 1 2 1 0 ∷ []) ∷ txn 2 (Get 1 2 ∷ []) ∷ txn 2 (Add 1 3 1 false 0 ∷ Need 1 2 1 1 ∷ Scan 1 0 5 ∷ Add 1 2 1 true 3 ∷ []) ∷ txn 1 (Scan 1 2 3 ∷ []) ∷ txn 2 (Add 1 2 1 false 1 ∷ []) ∷ [];
-  schedule = Picks 2024128470744701166 251;
-}
-
-scans_29 : shown of_scans_29 (fuse 49 ∷ up ∷ []) ≡ record {
-  logs =
-    record {
-      events = tried 1 1 0 2 1 1 (Commit 1) ∷ tried 4 1 1 1 0 0 ReadOnly ∷ [];
-      reads = item 1 2 None ∷ item 1 2 (Some (1 ∷ [])) ∷ item 1 2 (Some (1 ∷ [])) ∷ [];
-      locks = lock 1 2 0 0 ∷ [];
-      writes = item 1 2 (Some (1 ∷ [])) ∷ [];
-      snaps = [];
-    } ∷
-    record {
-      events = tried 2 1 0 1 0 0 ReadOnly ∷ tried 3 1 0 2 0 0 (Declined 2) ∷ unbegun 5 1 (Again 1 0 1) ∷ [];
-      reads = item 1 2 None ∷ item 1 3 None ∷ item 1 2 None ∷ [];
-      locks = [];
-      writes = [];
-      snaps = [];
-    } ∷
-    [];
-  audit = row 0 8 (Some (40 ∷ [])) false ∷ row 0 18446744073709551614 (Some (0 ∷ [])) false ∷ row 1 2 (Some (1 ∷ [])) false ∷ [];
-}
-unfolding of_scans_29 stint_workers picked after_workers until_ended settle copies load_from
-scans_29 = refl
-
-unfoldable of_scans_30 : Scenario
-of_scans_30 = record {
-  shape = shape Narrow 1 (table 2 3 3 ∷ []) 1 3 0;
-  rows = loaded 0 18446744073709551614 (1 ∷ 40 ∷ []) ∷ loaded 0 2 (40 ∷ 1 ∷ []) ∷ [];
-  policy = record { tries = 1; tidy = true };
-  txns = txn 1 (Add 0 4 2 true 1 ∷ Need 0 4 2 0 ∷ Need 0 18446744073709551614 1 0 ∷ []) ∷ txn 1 (Get 0 2 ∷ []) ∷ txn 1 (Scan 0 0 3 ∷ []) ∷ txn 1 (Scan 0 0 3 ∷ []) ∷ [];
-  schedule = Picks 10668774763142200315 41;
-}
-
-scans_30 : shown of_scans_30 [] ≡ record {
-  logs =
-    record {
-      events = tried 1 1 0 3 1 1 (Commit 1) ∷ tried 2 1 1 1 0 0 ReadOnly ∷ tried 3 1 1 1 0 0 ReadOnly ∷ tried 4 1 1 1 0 0 ReadOnly ∷ [];
-      reads = item 0 4 None ∷ item 0 4 (Some (0 ∷ 1 ∷ [])) ∷ item 0 18446744073709551614 (Some (1 ∷ 40 ∷ [])) ∷ item 0 2 (Some (40 ∷ 1 ∷ [])) ∷ item 0 2 (Some (40 ∷ 1 ∷ [])) ∷ item 0 2 (Some (40 ∷ 1 ∷ [])) ∷ [];
-      locks = lock 0 4 0 0 ∷ [];
-      writes = item 0 4 (Some (0 ∷ 1 ∷ [])) ∷ [];
-      snaps = [];
-    } ∷
-    [];
-  audit = row 0 2 (Some (40 ∷ 1 ∷ [])) false ∷ row 0 4 (Some (0 ∷ 1 ∷ [])) false ∷ row 0 18446744073709551614 (Some (1 ∷ 40 ∷ [])) false ∷ [];
-}
-unfolding of_scans_30 stint_workers picked after_workers until_ended settle copies load_from
-scans_30 = refl

@@ -14,6 +14,8 @@ pub mod Commit
 pub mod TxnCalls
 pub mod Scan
 pub mod Log
+pub mod Telling
+pub mod ScanCall
 pub mod Client
 pub mod CutClient
 pub mod Driver

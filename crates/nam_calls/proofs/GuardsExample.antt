@@ -1,13 +1,12 @@
 -- Guards and held headers, simulated.
-use Rattle.std.proofs.Common.{◌≡◌, true, false, [], ◌∷◌, Some, None, refl}
-use Rattle.nam_catalog.specs.declared.form.Form.TheVariants.{Narrow, Wide, Held}
-use Rattle.si_model.specs.declared.op.Op.TheVariants.{Get, Put, Add, Del, Need, Guard, Scan}
-use Rattle.si_model.specs.declared.log.Outcome.TheVariants.{Commit, ReadOnly, Declined, NoSpace, Spent, Again, Locked, Newer, TooOld, Full, Cut, Left}
-use Rattle.si_model.specs.declared.log.Event.TheVariants.{NoRoom, Collected, CollectAgain, CollectCut, TidyCut, TailCut}
-use Rattle.nam_calls.specs.Schedule.{Scenario, Stints, Picks, stint_workers, picked, after_workers, until_ended}
+use Rattle.std.proofs.Common.{◌≡◌, true, false, [], ◌∷◌, Some, refl}
+use Rattle.nam_catalog.specs.declared.form.Form.TheVariants.{Narrow, Held}
+use Rattle.si_model.specs.declared.op.Op.TheVariants.{Put, Add, Need, Guard}
+use Rattle.si_model.specs.declared.log.Outcome.TheVariants.{Commit, Newer}
+use Rattle.nam_calls.specs.Schedule.{Scenario, Stints, stint_workers, picked, after_workers, until_ended}
 use Rattle.nam_calls.specs.Session.{settle}
 use Rattle.nam_calls.specs.Opening.{copies, load_from}
-use Rattle.nam_calls.proofs.Shown.{shape, table, loaded, txn, stint, up, fuse, item, row, lock, tried, unbegun, move, move_done, move_back, move_cut, shown}
+use Rattle.nam_calls.proofs.Shown.{shape, table, loaded, txn, stint, item, row, lock, tried, shown}
 
 unfoldable of_held_headers : Scenario
 of_held_headers = record {
@@ -21,21 +20,21 @@ of_held_headers = record {
 -- headers that name who holds a lock
 held_headers : shown of_held_headers [] ≡ record {
   logs =
-    record {
-      events = tried 1 1 0 1 1 1 (Commit 1) ∷ [];
-      reads = item 0 0 (Some (100 ∷ [])) ∷ [];
-      locks = lock 0 0 0 0 ∷ [];
-      writes = item 0 0 (Some (105 ∷ [])) ∷ [];
-      snaps = [];
-    } ∷
-    record {
-      events = tried 2 1 0 1 0 0 (Newer (lock 0 0 1 1)) ∷ tried 2 2 1 1 1 1 (Commit 1) ∷ [];
-      reads = item 0 0 (Some (100 ∷ [])) ∷ item 0 0 (Some (105 ∷ [])) ∷ [];
-      locks = lock 0 0 1 1 ∷ [];
-      writes = item 0 0 (Some (112 ∷ [])) ∷ [];
-      snaps = [];
-    } ∷
-    [];
+      record {
+        events = tried 1 1 0 1 1 1 (Commit 1) ∷ [];
+        reads = item 0 0 (Some (100 ∷ [])) ∷ [];
+        locks = lock 0 0 0 0 ∷ [];
+        writes = item 0 0 (Some (105 ∷ [])) ∷ [];
+        snaps = [];
+      } ∷
+      record {
+        events = tried 2 1 0 1 0 0 (Newer (lock 0 0 1 1)) ∷ tried 2 2 1 1 1 1 (Commit 1) ∷ [];
+        reads = item 0 0 (Some (100 ∷ [])) ∷ item 0 0 (Some (105 ∷ [])) ∷ [];
+        locks = lock 0 0 1 1 ∷ [];
+        writes = item 0 0 (Some (112 ∷ [])) ∷ [];
+        snaps = [];
+      } ∷
+      [];
   audit = row 0 0 (Some (112 ∷ [])) false ∷ [];
 }
 unfolding of_held_headers stint_workers picked after_workers until_ended settle copies load_from
@@ -47,28 +46,28 @@ of_guards_forbid_skew = record {
   rows = loaded 0 0 (60 ∷ []) ∷ loaded 0 1 (60 ∷ []) ∷ [];
   policy = record { tries = 1; tidy = false };
   txns = txn 1 (Need 0 0 1 60 ∷ Need 0 1 1 60 ∷ Guard 0 1 ∷ Add 0 0 1 false 60 ∷ []) ∷ txn 2 (Need 0 0 1 60 ∷ Need 0 1 1 60 ∷ Guard 0 0 ∷
-    Add 0 1 1 false 60 ∷ []) ∷ [];
+      Add 0 1 1 false 60 ∷ []) ∷ [];
   schedule = Stints (stint 1 4 ∷ stint 2 4 ∷ stint 1 34 ∷ []);
 }
 
 -- each guards what the other writes
 guards_forbid_skew : shown of_guards_forbid_skew [] ≡ record {
   logs =
-    record {
-      events = tried 1 1 0 4 2 1 (Commit 1) ∷ [];
-      reads = item 0 0 (Some (60 ∷ [])) ∷ item 0 1 (Some (60 ∷ [])) ∷ item 0 1 (Some (60 ∷ [])) ∷ item 0 0 (Some (60 ∷ [])) ∷ [];
-      locks = lock 0 0 0 0 ∷ lock 0 1 0 0 ∷ [];
-      writes = item 0 0 (Some (0 ∷ [])) ∷ [];
-      snaps = [];
-    } ∷
-    record {
-      events = tried 2 1 0 4 1 0 (Newer (lock 0 0 1 1)) ∷ [];
-      reads = item 0 0 (Some (60 ∷ [])) ∷ item 0 1 (Some (60 ∷ [])) ∷ item 0 0 (Some (60 ∷ [])) ∷ item 0 1 (Some (60 ∷ [])) ∷ [];
-      locks = lock 0 1 0 0 ∷ [];
-      writes = [];
-      snaps = [];
-    } ∷
-    [];
+      record {
+        events = tried 1 1 0 4 2 1 (Commit 1) ∷ [];
+        reads = item 0 0 (Some (60 ∷ [])) ∷ item 0 1 (Some (60 ∷ [])) ∷ item 0 1 (Some (60 ∷ [])) ∷ item 0 0 (Some (60 ∷ [])) ∷ [];
+        locks = lock 0 0 0 0 ∷ lock 0 1 0 0 ∷ [];
+        writes = item 0 0 (Some (0 ∷ [])) ∷ [];
+        snaps = [];
+      } ∷
+      record {
+        events = tried 2 1 0 4 1 0 (Newer (lock 0 0 1 1)) ∷ [];
+        reads = item 0 0 (Some (60 ∷ [])) ∷ item 0 1 (Some (60 ∷ [])) ∷ item 0 0 (Some (60 ∷ [])) ∷ item 0 1 (Some (60 ∷ [])) ∷ [];
+        locks = lock 0 1 0 0 ∷ [];
+        writes = [];
+        snaps = [];
+      } ∷
+      [];
   audit = row 0 0 (Some (0 ∷ [])) false ∷ row 0 1 (Some (60 ∷ [])) false ∷ [];
 }
 unfolding of_guards_forbid_skew stint_workers picked after_workers until_ended settle copies load_from
@@ -86,21 +85,21 @@ of_order_under_guards = record {
 -- a guard of a key that the other then writes
 order_under_guards : shown of_order_under_guards [] ≡ record {
   logs =
-    record {
-      events = tried 2 1 0 0 1 1 (Commit 1) ∷ [];
-      reads = [];
-      locks = lock 0 0 0 0 ∷ [];
-      writes = item 0 0 (Some (9 ∷ [])) ∷ [];
-      snaps = [];
-    } ∷
-    record {
-      events = tried 1 1 0 1 2 1 (Commit 1) ∷ [];
-      reads = item 0 0 (Some (60 ∷ [])) ∷ [];
-      locks = lock 0 1 0 0 ∷ lock 0 0 0 0 ∷ [];
-      writes = item 0 1 (Some (1 ∷ [])) ∷ [];
-      snaps = [];
-    } ∷
-    [];
+      record {
+        events = tried 2 1 0 0 1 1 (Commit 1) ∷ [];
+        reads = [];
+        locks = lock 0 0 0 0 ∷ [];
+        writes = item 0 0 (Some (9 ∷ [])) ∷ [];
+        snaps = [];
+      } ∷
+      record {
+        events = tried 1 1 0 1 2 1 (Commit 1) ∷ [];
+        reads = item 0 0 (Some (60 ∷ [])) ∷ [];
+        locks = lock 0 1 0 0 ∷ lock 0 0 0 0 ∷ [];
+        writes = item 0 1 (Some (1 ∷ [])) ∷ [];
+        snaps = [];
+      } ∷
+      [];
   audit = row 0 0 (Some (9 ∷ [])) false ∷ row 0 1 (Some (1 ∷ [])) false ∷ [];
 }
 unfolding of_order_under_guards stint_workers picked after_workers until_ended settle copies load_from

@@ -1,13 +1,13 @@
 -- Old versions in rings and cells, simulated.
-use Rattle.std.proofs.Common.{◌≡◌, true, false, [], ◌∷◌, Some, None, refl}
-use Rattle.nam_catalog.specs.declared.form.Form.TheVariants.{Narrow, Wide, Held}
-use Rattle.si_model.specs.declared.op.Op.TheVariants.{Get, Put, Add, Del, Need, Guard, Scan}
-use Rattle.si_model.specs.declared.log.Outcome.TheVariants.{Commit, ReadOnly, Declined, NoSpace, Spent, Again, Locked, Newer, TooOld, Full, Cut, Left}
-use Rattle.si_model.specs.declared.log.Event.TheVariants.{NoRoom, Collected, CollectAgain, CollectCut, TidyCut, TailCut}
-use Rattle.nam_calls.specs.Schedule.{Scenario, Stints, Picks, stint_workers, picked, after_workers, until_ended}
+use Rattle.std.proofs.Common.{◌≡◌, true, false, [], ◌∷◌, Some, refl}
+use Rattle.nam_catalog.specs.declared.form.Form.TheVariants.{Narrow}
+use Rattle.si_model.specs.declared.op.Op.TheVariants.{Get, Add}
+use Rattle.si_model.specs.declared.log.Outcome.TheVariants.{Commit, ReadOnly, TooOld, Full}
+use Rattle.si_model.specs.declared.log.Event.TheVariants.{NoRoom, Collected}
+use Rattle.nam_calls.specs.Schedule.{Scenario, Stints, stint_workers, picked, after_workers, until_ended}
 use Rattle.nam_calls.specs.Session.{settle}
 use Rattle.nam_calls.specs.Opening.{copies, load_from}
-use Rattle.nam_calls.proofs.Shown.{shape, table, loaded, txn, stint, up, fuse, item, row, lock, tried, unbegun, move, move_done, move_back, move_cut, shown}
+use Rattle.nam_calls.proofs.Shown.{shape, table, loaded, txn, stint, item, row, lock, tried, move, move_done, shown}
 
 unfoldable of_ring_is_full : Scenario
 of_ring_is_full = record {
@@ -21,14 +21,14 @@ of_ring_is_full = record {
 -- a ring of one slot is full after one commit that is not tidied
 ring_is_full : shown of_ring_is_full [] ≡ record {
   logs =
-    record {
-      events = tried 1 1 0 1 1 1 (Commit 1) ∷ tried 2 1 1 1 1 0 (Full (lock 0 0 0 0)) ∷ tried 3 1 1 1 1 0 (Full (lock 0 0 0 0)) ∷ [];
-      reads = item 0 0 (Some (0 ∷ [])) ∷ item 0 0 (Some (1 ∷ [])) ∷ item 0 0 (Some (1 ∷ [])) ∷ [];
-      locks = lock 0 0 0 0 ∷ lock 0 0 1 1 ∷ lock 0 0 1 1 ∷ [];
-      writes = item 0 0 (Some (1 ∷ [])) ∷ [];
-      snaps = [];
-    } ∷
-    [];
+      record {
+        events = tried 1 1 0 1 1 1 (Commit 1) ∷ tried 2 1 1 1 1 0 (Full (lock 0 0 0 0)) ∷ tried 3 1 1 1 1 0 (Full (lock 0 0 0 0)) ∷ [];
+        reads = item 0 0 (Some (0 ∷ [])) ∷ item 0 0 (Some (1 ∷ [])) ∷ item 0 0 (Some (1 ∷ [])) ∷ [];
+        locks = lock 0 0 0 0 ∷ lock 0 0 1 1 ∷ lock 0 0 1 1 ∷ [];
+        writes = item 0 0 (Some (1 ∷ [])) ∷ [];
+        snaps = [];
+      } ∷
+      [];
   audit = row 0 0 (Some (1 ∷ [])) false ∷ [];
 }
 unfolding of_ring_is_full stint_workers picked after_workers until_ended settle copies load_from
@@ -46,21 +46,21 @@ of_reader_finds_cell = record {
 -- a get on an old snapshot finds its version in a cell
 reader_finds_cell : shown of_reader_finds_cell [] ≡ record {
   logs =
-    record {
-      events = tried 1 1 0 1 1 1 (Commit 1) ∷ move 0 0 0 0 0 move_done ∷ tried 2 1 1 1 1 1 (Commit 2) ∷ move 0 0 0 1 1 move_done ∷ [];
-      reads = item 0 0 (Some (5 ∷ [])) ∷ item 0 0 (Some (6 ∷ [])) ∷ [];
-      locks = lock 0 0 0 0 ∷ lock 0 0 1 1 ∷ [];
-      writes = item 0 0 (Some (6 ∷ [])) ∷ item 0 0 (Some (7 ∷ [])) ∷ [];
-      snaps = [];
-    } ∷
-    record {
-      events = tried 3 1 0 1 0 0 ReadOnly ∷ [];
-      reads = item 0 0 (Some (5 ∷ [])) ∷ [];
-      locks = [];
-      writes = [];
-      snaps = [];
-    } ∷
-    [];
+      record {
+        events = tried 1 1 0 1 1 1 (Commit 1) ∷ move 0 0 0 0 0 move_done ∷ tried 2 1 1 1 1 1 (Commit 2) ∷ move 0 0 0 1 1 move_done ∷ [];
+        reads = item 0 0 (Some (5 ∷ [])) ∷ item 0 0 (Some (6 ∷ [])) ∷ [];
+        locks = lock 0 0 0 0 ∷ lock 0 0 1 1 ∷ [];
+        writes = item 0 0 (Some (6 ∷ [])) ∷ item 0 0 (Some (7 ∷ [])) ∷ [];
+        snaps = [];
+      } ∷
+      record {
+        events = tried 3 1 0 1 0 0 ReadOnly ∷ [];
+        reads = item 0 0 (Some (5 ∷ [])) ∷ [];
+        locks = [];
+        writes = [];
+        snaps = [];
+      } ∷
+      [];
   audit = row 0 0 (Some (7 ∷ [])) false ∷ [];
 }
 unfolding of_reader_finds_cell stint_workers picked after_workers until_ended settle copies load_from
@@ -78,22 +78,22 @@ of_reader_too_old = record {
 -- a collection gives up the version that a get looks for
 reader_too_old : shown of_reader_too_old [] ≡ record {
   logs =
-    record {
-      events = tried 1 1 0 1 1 1 (Commit 1) ∷ move 0 0 0 0 0 move_done ∷ tried 2 1 1 1 1 1 (Commit 2) ∷ NoRoom 0 ∷ Collected 0 2 (2 ∷ 0 ∷
-        []) false ∷ move 0 0 0 1 1 move_done ∷ [];
-      reads = item 0 0 (Some (5 ∷ [])) ∷ item 0 0 (Some (6 ∷ [])) ∷ [];
-      locks = lock 0 0 0 0 ∷ lock 0 0 1 1 ∷ [];
-      writes = item 0 0 (Some (6 ∷ [])) ∷ item 0 0 (Some (7 ∷ [])) ∷ [];
-      snaps = [];
-    } ∷
-    record {
-      events = tried 3 1 0 0 0 0 (TooOld 1 0 2) ∷ [];
-      reads = [];
-      locks = [];
-      writes = [];
-      snaps = [];
-    } ∷
-    [];
+      record {
+        events = tried 1 1 0 1 1 1 (Commit 1) ∷ move 0 0 0 0 0 move_done ∷ tried 2 1 1 1 1 1 (Commit 2) ∷ NoRoom 0 ∷ Collected 0 2 (2 ∷ 0 ∷
+            []) false ∷ move 0 0 0 1 1 move_done ∷ [];
+        reads = item 0 0 (Some (5 ∷ [])) ∷ item 0 0 (Some (6 ∷ [])) ∷ [];
+        locks = lock 0 0 0 0 ∷ lock 0 0 1 1 ∷ [];
+        writes = item 0 0 (Some (6 ∷ [])) ∷ item 0 0 (Some (7 ∷ [])) ∷ [];
+        snaps = [];
+      } ∷
+      record {
+        events = tried 3 1 0 0 0 0 (TooOld 1 0 2) ∷ [];
+        reads = [];
+        locks = [];
+        writes = [];
+        snaps = [];
+      } ∷
+      [];
   audit = row 0 0 (Some (7 ∷ [])) false ∷ [];
 }
 unfolding of_reader_too_old stint_workers picked after_workers until_ended settle copies load_from

@@ -1,11 +1,11 @@
 -- A simulated run is the only one: once all sessions have ended, a further round changes nothing.
-use Rattle.std.proofs.Common.{◌≡◌, ℕ, zero, suc, ◌+◌, ◌-◌, List, [], ◌∷◌, Option, Some, None, refl, sym, ap, ◌∙◌, arith}
+use Rattle.std.proofs.Common.{◌≡◌, ℕ, zero, suc, ◌+◌, ◌-◌, List, [], ◌∷◌, None, refl, sym, ap, ◌∙◌, arith}
 use Rattle.std.proofs.Math.Nat.{add_comm}
-use Rattle.std.specs.Prelude.{slice_get, is_some, IsNone}
+use Rattle.std.specs.Prelude.{slice_get}
 use Rattle.std.specs.List.{AllByRecursion}
 use Rattle.nam_catalog.specs.declared.shape.Shape.{Shape}
 use Rattle.nam_calls.specs.declared.session.SessionState.{SessionState}
-use Rattle.nam_calls.specs.World.{World, HasNoVerb, HasEnded, verb_in, world_verb, session_of}
+use Rattle.nam_calls.specs.World.{HasNoVerb, HasEnded, verb_in}
 use Rattle.nam_calls.specs.Schedule.{Run, Line, Scenario, Simulated, turn_on, turn_of, after_workers, after_round, after_rounds, numbers_from, simulated}
 
 module _ (shape : Shape) where

@@ -1,13 +1,13 @@
 -- Scans, simulated.
 use Rattle.std.proofs.Common.{◌≡◌, true, false, [], ◌∷◌, Some, None, refl}
-use Rattle.nam_catalog.specs.declared.form.Form.TheVariants.{Narrow, Wide, Held}
-use Rattle.si_model.specs.declared.op.Op.TheVariants.{Get, Put, Add, Del, Need, Guard, Scan}
-use Rattle.si_model.specs.declared.log.Outcome.TheVariants.{Commit, ReadOnly, Declined, NoSpace, Spent, Again, Locked, Newer, TooOld, Full, Cut, Left}
-use Rattle.si_model.specs.declared.log.Event.TheVariants.{NoRoom, Collected, CollectAgain, CollectCut, TidyCut, TailCut}
-use Rattle.nam_calls.specs.Schedule.{Scenario, Stints, Picks, stint_workers, picked, after_workers, until_ended}
+use Rattle.nam_catalog.specs.declared.form.Form.TheVariants.{Narrow}
+use Rattle.si_model.specs.declared.op.Op.TheVariants.{Put, Add, Del, Scan}
+use Rattle.si_model.specs.declared.log.Outcome.TheVariants.{Commit, ReadOnly, TooOld}
+use Rattle.si_model.specs.declared.log.Event.TheVariants.{NoRoom, Collected}
+use Rattle.nam_calls.specs.Schedule.{Scenario, Stints, stint_workers, picked, after_workers, until_ended}
 use Rattle.nam_calls.specs.Session.{settle}
 use Rattle.nam_calls.specs.Opening.{copies, load_from}
-use Rattle.nam_calls.proofs.Shown.{shape, table, loaded, txn, stint, up, fuse, item, row, lock, tried, unbegun, move, move_done, move_back, move_cut, shown}
+use Rattle.nam_calls.proofs.Shown.{shape, table, loaded, txn, stint, item, row, lock, tried, move, move_done, shown}
 
 unfoldable of_scan_with_own_writes : Scenario
 of_scan_with_own_writes = record {
@@ -21,15 +21,15 @@ of_scan_with_own_writes = record {
 -- the items are in order of keys, with the own writes among them
 scan_with_own_writes : shown of_scan_with_own_writes [] ≡ record {
   logs =
-    record {
-      events = tried 1 1 0 2 2 2 (Commit 1) ∷ tried 2 1 1 3 0 0 ReadOnly ∷ [];
-      reads = item 0 2 (Some (20 ∷ [])) ∷ item 0 3 (Some (30 ∷ [])) ∷ item 0 2 (Some (20 ∷ [])) ∷ item 0 3 (Some (30 ∷ [])) ∷
-        item 0 7 (Some (70 ∷ [])) ∷ [];
-      locks = lock 0 2 0 0 ∷ lock 0 1 0 0 ∷ [];
-      writes = item 0 2 (Some (20 ∷ [])) ∷ item 0 1 None ∷ [];
-      snaps = [];
-    } ∷
-    [];
+      record {
+        events = tried 1 1 0 2 2 2 (Commit 1) ∷ tried 2 1 1 3 0 0 ReadOnly ∷ [];
+        reads = item 0 2 (Some (20 ∷ [])) ∷ item 0 3 (Some (30 ∷ [])) ∷ item 0 2 (Some (20 ∷ [])) ∷ item 0 3 (Some (30 ∷ [])) ∷
+            item 0 7 (Some (70 ∷ [])) ∷ [];
+        locks = lock 0 2 0 0 ∷ lock 0 1 0 0 ∷ [];
+        writes = item 0 2 (Some (20 ∷ [])) ∷ item 0 1 None ∷ [];
+        snaps = [];
+      } ∷
+      [];
   audit = row 0 2 (Some (20 ∷ [])) false ∷ row 0 3 (Some (30 ∷ [])) false ∷ row 0 7 (Some (70 ∷ [])) false ∷ [];
 }
 unfolding of_scan_with_own_writes stint_workers picked after_workers until_ended settle copies load_from
@@ -47,15 +47,15 @@ of_scan_before_own_writes = record {
 -- the same before the writes
 scan_before_own_writes : shown of_scan_before_own_writes [] ≡ record {
   logs =
-    record {
-      events = tried 1 1 0 2 2 2 (Commit 1) ∷ tried 2 1 1 3 0 0 ReadOnly ∷ [];
-      reads = item 0 1 (Some (10 ∷ [])) ∷ item 0 3 (Some (30 ∷ [])) ∷ item 0 2 (Some (20 ∷ [])) ∷ item 0 3 (Some (30 ∷ [])) ∷
-        item 0 7 (Some (70 ∷ [])) ∷ [];
-      locks = lock 0 2 0 0 ∷ lock 0 1 0 0 ∷ [];
-      writes = item 0 2 (Some (20 ∷ [])) ∷ item 0 1 None ∷ [];
-      snaps = [];
-    } ∷
-    [];
+      record {
+        events = tried 1 1 0 2 2 2 (Commit 1) ∷ tried 2 1 1 3 0 0 ReadOnly ∷ [];
+        reads = item 0 1 (Some (10 ∷ [])) ∷ item 0 3 (Some (30 ∷ [])) ∷ item 0 2 (Some (20 ∷ [])) ∷ item 0 3 (Some (30 ∷ [])) ∷
+            item 0 7 (Some (70 ∷ [])) ∷ [];
+        locks = lock 0 2 0 0 ∷ lock 0 1 0 0 ∷ [];
+        writes = item 0 2 (Some (20 ∷ [])) ∷ item 0 1 None ∷ [];
+        snaps = [];
+      } ∷
+      [];
   audit = row 0 2 (Some (20 ∷ [])) false ∷ row 0 3 (Some (30 ∷ [])) false ∷ row 0 7 (Some (70 ∷ [])) false ∷ [];
 }
 unfolding of_scan_before_own_writes stint_workers picked after_workers until_ended settle copies load_from
@@ -73,21 +73,21 @@ of_scan_sees_its_prefix = record {
 -- a row that is put beside the scan
 scan_sees_its_prefix : shown of_scan_sees_its_prefix [] ≡ record {
   logs =
-    record {
-      events = tried 1 1 0 0 1 1 (Commit 1) ∷ [];
-      reads = [];
-      locks = lock 0 1 0 0 ∷ [];
-      writes = item 0 1 (Some (6 ∷ [])) ∷ [];
-      snaps = [];
-    } ∷
-    record {
-      events = tried 2 1 0 1 0 0 ReadOnly ∷ [];
-      reads = item 0 0 (Some (5 ∷ [])) ∷ [];
-      locks = [];
-      writes = [];
-      snaps = [];
-    } ∷
-    [];
+      record {
+        events = tried 1 1 0 0 1 1 (Commit 1) ∷ [];
+        reads = [];
+        locks = lock 0 1 0 0 ∷ [];
+        writes = item 0 1 (Some (6 ∷ [])) ∷ [];
+        snaps = [];
+      } ∷
+      record {
+        events = tried 2 1 0 1 0 0 ReadOnly ∷ [];
+        reads = item 0 0 (Some (5 ∷ [])) ∷ [];
+        locks = [];
+        writes = [];
+        snaps = [];
+      } ∷
+      [];
   audit = row 0 0 (Some (5 ∷ [])) false ∷ row 0 1 (Some (6 ∷ [])) false ∷ [];
 }
 unfolding of_scan_sees_its_prefix stint_workers picked after_workers until_ended settle copies load_from
@@ -105,21 +105,21 @@ of_scan_passes_lock = record {
 -- a scan reads on under the lock of a commit
 scan_passes_lock : shown of_scan_passes_lock [] ≡ record {
   logs =
-    record {
-      events = tried 1 1 0 1 1 1 (Commit 1) ∷ [];
-      reads = item 0 0 (Some (100 ∷ [])) ∷ [];
-      locks = lock 0 0 0 0 ∷ [];
-      writes = item 0 0 (Some (105 ∷ [])) ∷ [];
-      snaps = [];
-    } ∷
-    record {
-      events = tried 2 1 0 1 0 0 ReadOnly ∷ [];
-      reads = item 0 0 (Some (100 ∷ [])) ∷ [];
-      locks = [];
-      writes = [];
-      snaps = [];
-    } ∷
-    [];
+      record {
+        events = tried 1 1 0 1 1 1 (Commit 1) ∷ [];
+        reads = item 0 0 (Some (100 ∷ [])) ∷ [];
+        locks = lock 0 0 0 0 ∷ [];
+        writes = item 0 0 (Some (105 ∷ [])) ∷ [];
+        snaps = [];
+      } ∷
+      record {
+        events = tried 2 1 0 1 0 0 ReadOnly ∷ [];
+        reads = item 0 0 (Some (100 ∷ [])) ∷ [];
+        locks = [];
+        writes = [];
+        snaps = [];
+      } ∷
+      [];
   audit = row 0 0 (Some (105 ∷ [])) false ∷ [];
 }
 unfolding of_scan_passes_lock stint_workers picked after_workers until_ended settle copies load_from
@@ -137,21 +137,21 @@ of_scan_finds_cell = record {
 -- a scan on an old snapshot finds its version in a cell
 scan_finds_cell : shown of_scan_finds_cell [] ≡ record {
   logs =
-    record {
-      events = tried 1 1 0 1 1 1 (Commit 1) ∷ move 0 0 0 0 0 move_done ∷ tried 2 1 1 1 1 1 (Commit 2) ∷ move 0 0 0 1 1 move_done ∷ [];
-      reads = item 0 0 (Some (5 ∷ [])) ∷ item 0 0 (Some (6 ∷ [])) ∷ [];
-      locks = lock 0 0 0 0 ∷ lock 0 0 1 1 ∷ [];
-      writes = item 0 0 (Some (6 ∷ [])) ∷ item 0 0 (Some (7 ∷ [])) ∷ [];
-      snaps = [];
-    } ∷
-    record {
-      events = tried 3 1 0 1 0 0 ReadOnly ∷ [];
-      reads = item 0 0 (Some (5 ∷ [])) ∷ [];
-      locks = [];
-      writes = [];
-      snaps = [];
-    } ∷
-    [];
+      record {
+        events = tried 1 1 0 1 1 1 (Commit 1) ∷ move 0 0 0 0 0 move_done ∷ tried 2 1 1 1 1 1 (Commit 2) ∷ move 0 0 0 1 1 move_done ∷ [];
+        reads = item 0 0 (Some (5 ∷ [])) ∷ item 0 0 (Some (6 ∷ [])) ∷ [];
+        locks = lock 0 0 0 0 ∷ lock 0 0 1 1 ∷ [];
+        writes = item 0 0 (Some (6 ∷ [])) ∷ item 0 0 (Some (7 ∷ [])) ∷ [];
+        snaps = [];
+      } ∷
+      record {
+        events = tried 3 1 0 1 0 0 ReadOnly ∷ [];
+        reads = item 0 0 (Some (5 ∷ [])) ∷ [];
+        locks = [];
+        writes = [];
+        snaps = [];
+      } ∷
+      [];
   audit = row 0 0 (Some (7 ∷ [])) false ∷ [];
 }
 unfolding of_scan_finds_cell stint_workers picked after_workers until_ended settle copies load_from
@@ -169,22 +169,22 @@ of_scan_is_too_old = record {
 -- a scan that ends by the horizon lists no read
 scan_is_too_old : shown of_scan_is_too_old [] ≡ record {
   logs =
-    record {
-      events = tried 1 1 0 1 1 1 (Commit 1) ∷ move 0 0 0 0 0 move_done ∷ tried 2 1 1 1 1 1 (Commit 2) ∷ NoRoom 0 ∷ Collected 0 2 (2 ∷ 0 ∷
-        []) false ∷ move 0 0 0 1 1 move_done ∷ [];
-      reads = item 0 0 (Some (5 ∷ [])) ∷ item 0 0 (Some (6 ∷ [])) ∷ [];
-      locks = lock 0 0 0 0 ∷ lock 0 0 1 1 ∷ [];
-      writes = item 0 0 (Some (6 ∷ [])) ∷ item 0 0 (Some (7 ∷ [])) ∷ [];
-      snaps = [];
-    } ∷
-    record {
-      events = tried 3 1 0 0 0 0 (TooOld 1 0 2) ∷ [];
-      reads = [];
-      locks = [];
-      writes = [];
-      snaps = [];
-    } ∷
-    [];
+      record {
+        events = tried 1 1 0 1 1 1 (Commit 1) ∷ move 0 0 0 0 0 move_done ∷ tried 2 1 1 1 1 1 (Commit 2) ∷ NoRoom 0 ∷ Collected 0 2 (2 ∷ 0 ∷
+            []) false ∷ move 0 0 0 1 1 move_done ∷ [];
+        reads = item 0 0 (Some (5 ∷ [])) ∷ item 0 0 (Some (6 ∷ [])) ∷ [];
+        locks = lock 0 0 0 0 ∷ lock 0 0 1 1 ∷ [];
+        writes = item 0 0 (Some (6 ∷ [])) ∷ item 0 0 (Some (7 ∷ [])) ∷ [];
+        snaps = [];
+      } ∷
+      record {
+        events = tried 3 1 0 0 0 0 (TooOld 1 0 2) ∷ [];
+        reads = [];
+        locks = [];
+        writes = [];
+        snaps = [];
+      } ∷
+      [];
   audit = row 0 0 (Some (7 ∷ [])) false ∷ [];
 }
 unfolding of_scan_is_too_old stint_workers picked after_workers until_ended settle copies load_from

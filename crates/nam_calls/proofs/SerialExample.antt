@@ -1,13 +1,12 @@
 -- One worker alone, simulated.
 use Rattle.std.proofs.Common.{◌≡◌, true, false, [], ◌∷◌, Some, None, refl}
-use Rattle.nam_catalog.specs.declared.form.Form.TheVariants.{Narrow, Wide, Held}
-use Rattle.si_model.specs.declared.op.Op.TheVariants.{Get, Put, Add, Del, Need, Guard, Scan}
-use Rattle.si_model.specs.declared.log.Outcome.TheVariants.{Commit, ReadOnly, Declined, NoSpace, Spent, Again, Locked, Newer, TooOld, Full, Cut, Left}
-use Rattle.si_model.specs.declared.log.Event.TheVariants.{NoRoom, Collected, CollectAgain, CollectCut, TidyCut, TailCut}
-use Rattle.nam_calls.specs.Schedule.{Scenario, Stints, Picks, stint_workers, picked, after_workers, until_ended}
+use Rattle.nam_catalog.specs.declared.form.Form.TheVariants.{Narrow, Wide}
+use Rattle.si_model.specs.declared.op.Op.TheVariants.{Get, Put, Add, Del, Need}
+use Rattle.si_model.specs.declared.log.Outcome.TheVariants.{Commit, ReadOnly, Declined, NoSpace, Spent}
+use Rattle.nam_calls.specs.Schedule.{Scenario, Stints, stint_workers, picked, after_workers, until_ended}
 use Rattle.nam_calls.specs.Session.{settle}
 use Rattle.nam_calls.specs.Opening.{copies, load_from}
-use Rattle.nam_calls.proofs.Shown.{shape, table, loaded, txn, stint, up, fuse, item, row, lock, tried, unbegun, move, move_done, move_back, move_cut, shown}
+use Rattle.nam_calls.proofs.Shown.{shape, table, loaded, txn, item, row, lock, tried, shown}
 
 unfoldable of_transfer : Scenario
 of_transfer = record {
@@ -21,14 +20,14 @@ of_transfer = record {
 -- an amount from one account to another
 transfer : shown of_transfer [] ≡ record {
   logs =
-    record {
-      events = tried 1 1 0 3 2 2 (Commit 1) ∷ [];
-      reads = item 0 0 (Some (100 ∷ [])) ∷ item 0 0 (Some (100 ∷ [])) ∷ item 0 1 (Some (0 ∷ [])) ∷ [];
-      locks = lock 0 0 0 0 ∷ lock 0 1 0 0 ∷ [];
-      writes = item 0 0 (Some (90 ∷ [])) ∷ item 0 1 (Some (10 ∷ [])) ∷ [];
-      snaps = [];
-    } ∷
-    [];
+      record {
+        events = tried 1 1 0 3 2 2 (Commit 1) ∷ [];
+        reads = item 0 0 (Some (100 ∷ [])) ∷ item 0 0 (Some (100 ∷ [])) ∷ item 0 1 (Some (0 ∷ [])) ∷ [];
+        locks = lock 0 0 0 0 ∷ lock 0 1 0 0 ∷ [];
+        writes = item 0 0 (Some (90 ∷ [])) ∷ item 0 1 (Some (10 ∷ [])) ∷ [];
+        snaps = [];
+      } ∷
+      [];
   audit = row 0 0 (Some (90 ∷ [])) false ∷ row 0 1 (Some (10 ∷ [])) false ∷ [];
 }
 unfolding of_transfer stint_workers picked after_workers until_ended settle copies load_from
@@ -46,14 +45,14 @@ of_one_row = record {
 -- no transaction
 one_row : shown of_one_row [] ≡ record {
   logs =
-    record {
-      events = [];
-      reads = [];
-      locks = [];
-      writes = [];
-      snaps = [];
-    } ∷
-    [];
+      record {
+        events = [];
+        reads = [];
+        locks = [];
+        writes = [];
+        snaps = [];
+      } ∷
+      [];
   audit = row 0 0 (Some (7 ∷ [])) false ∷ [];
 }
 unfolding of_one_row stint_workers picked after_workers until_ended settle copies load_from
@@ -71,14 +70,14 @@ of_absent_key = record {
 -- a get of a key that is not there
 absent_key : shown of_absent_key [] ≡ record {
   logs =
-    record {
-      events = tried 1 1 0 2 0 0 ReadOnly ∷ [];
-      reads = item 0 0 (Some (7 ∷ [])) ∷ item 0 5 None ∷ [];
-      locks = [];
-      writes = [];
-      snaps = [];
-    } ∷
-    [];
+      record {
+        events = tried 1 1 0 2 0 0 ReadOnly ∷ [];
+        reads = item 0 0 (Some (7 ∷ [])) ∷ item 0 5 None ∷ [];
+        locks = [];
+        writes = [];
+        snaps = [];
+      } ∷
+      [];
   audit = row 0 0 (Some (7 ∷ [])) false ∷ [];
 }
 unfolding of_absent_key stint_workers picked after_workers until_ended settle copies load_from
@@ -96,14 +95,14 @@ of_numbers_are_spent = record {
 -- the greatest commit number is reached
 numbers_are_spent : shown of_numbers_are_spent [] ≡ record {
   logs =
-    record {
-      events = tried 1 1 0 0 1 1 (Commit 4294967295) ∷ tried 2 1 1 0 0 0 Spent ∷ tried 3 1 1 1 0 0 ReadOnly ∷ [];
-      reads = item 0 0 (Some (2 ∷ [])) ∷ [];
-      locks = lock 0 0 0 0 ∷ [];
-      writes = item 0 0 (Some (2 ∷ [])) ∷ [];
-      snaps = [];
-    } ∷
-    [];
+      record {
+        events = tried 1 1 0 0 1 1 (Commit 4294967295) ∷ tried 2 1 1 0 0 0 Spent ∷ tried 3 1 1 1 0 0 ReadOnly ∷ [];
+        reads = item 0 0 (Some (2 ∷ [])) ∷ [];
+        locks = lock 0 0 0 0 ∷ [];
+        writes = item 0 0 (Some (2 ∷ [])) ∷ [];
+        snaps = [];
+      } ∷
+      [];
   audit = row 0 0 (Some (2 ∷ [])) false ∷ [];
 }
 unfolding of_numbers_are_spent stint_workers picked after_workers until_ended settle copies load_from
@@ -121,14 +120,14 @@ of_delete_and_put = record {
 -- a deletion, and a put of the deleted key
 delete_and_put : shown of_delete_and_put [] ≡ record {
   logs =
-    record {
-      events = tried 1 1 0 1 1 1 (Commit 1) ∷ tried 2 1 1 2 1 1 (Commit 2) ∷ [];
-      reads = item 0 0 None ∷ item 0 0 None ∷ item 0 0 (Some (5 ∷ 6 ∷ [])) ∷ [];
-      locks = lock 0 0 0 0 ∷ lock 0 0 1 1 ∷ [];
-      writes = item 0 0 None ∷ item 0 0 (Some (5 ∷ 6 ∷ [])) ∷ [];
-      snaps = [];
-    } ∷
-    [];
+      record {
+        events = tried 1 1 0 1 1 1 (Commit 1) ∷ tried 2 1 1 2 1 1 (Commit 2) ∷ [];
+        reads = item 0 0 None ∷ item 0 0 None ∷ item 0 0 (Some (5 ∷ 6 ∷ [])) ∷ [];
+        locks = lock 0 0 0 0 ∷ lock 0 0 1 1 ∷ [];
+        writes = item 0 0 None ∷ item 0 0 (Some (5 ∷ 6 ∷ [])) ∷ [];
+        snaps = [];
+      } ∷
+      [];
   audit = row 0 0 (Some (5 ∷ 6 ∷ [])) false ∷ [];
 }
 unfolding of_delete_and_put stint_workers picked after_workers until_ended settle copies load_from
@@ -146,14 +145,14 @@ of_table_has_no_space = record {
 -- every position bears another key
 table_has_no_space : shown of_table_has_no_space [] ≡ record {
   logs =
-    record {
-      events = tried 1 1 0 1 0 0 (NoSpace 0) ∷ [];
-      reads = item 0 2 None ∷ [];
-      locks = [];
-      writes = [];
-      snaps = [];
-    } ∷
-    [];
+      record {
+        events = tried 1 1 0 1 0 0 (NoSpace 0) ∷ [];
+        reads = item 0 2 None ∷ [];
+        locks = [];
+        writes = [];
+        snaps = [];
+      } ∷
+      [];
   audit = row 0 0 (Some (1 ∷ [])) false ∷ row 0 1 (Some (1 ∷ [])) false ∷ [];
 }
 unfolding of_table_has_no_space stint_workers picked after_workers until_ended settle copies load_from
@@ -171,14 +170,14 @@ of_declined = record {
 -- a need that is not met, and changes beyond the limits
 declined : shown of_declined [] ≡ record {
   logs =
-    record {
-      events = tried 1 1 0 1 0 0 (Declined 1) ∷ tried 2 1 0 1 0 0 (Declined 1) ∷ tried 3 1 0 1 0 0 (Declined 1) ∷ [];
-      reads = item 0 0 (Some (5 ∷ [])) ∷ item 0 0 (Some (5 ∷ [])) ∷ item 0 0 (Some (5 ∷ [])) ∷ [];
-      locks = [];
-      writes = [];
-      snaps = [];
-    } ∷
-    [];
+      record {
+        events = tried 1 1 0 1 0 0 (Declined 1) ∷ tried 2 1 0 1 0 0 (Declined 1) ∷ tried 3 1 0 1 0 0 (Declined 1) ∷ [];
+        reads = item 0 0 (Some (5 ∷ [])) ∷ item 0 0 (Some (5 ∷ [])) ∷ item 0 0 (Some (5 ∷ [])) ∷ [];
+        locks = [];
+        writes = [];
+        snaps = [];
+      } ∷
+      [];
   audit = row 0 0 (Some (5 ∷ [])) false ∷ [];
 }
 unfolding of_declined stint_workers picked after_workers until_ended settle copies load_from
@@ -196,14 +195,14 @@ of_wide_numbers = record {
 -- the greatest commit number of the form Wide
 wide_numbers : shown of_wide_numbers [] ≡ record {
   logs =
-    record {
-      events = tried 1 1 0 0 1 1 (Commit 35184372088831) ∷ tried 2 1 1 0 0 0 Spent ∷ tried 3 1 1 1 0 0 ReadOnly ∷ [];
-      reads = item 0 0 (Some (2 ∷ [])) ∷ [];
-      locks = lock 0 0 0 0 ∷ [];
-      writes = item 0 0 (Some (2 ∷ [])) ∷ [];
-      snaps = [];
-    } ∷
-    [];
+      record {
+        events = tried 1 1 0 0 1 1 (Commit 35184372088831) ∷ tried 2 1 1 0 0 0 Spent ∷ tried 3 1 1 1 0 0 ReadOnly ∷ [];
+        reads = item 0 0 (Some (2 ∷ [])) ∷ [];
+        locks = lock 0 0 0 0 ∷ [];
+        writes = item 0 0 (Some (2 ∷ [])) ∷ [];
+        snaps = [];
+      } ∷
+      [];
   audit = row 0 0 (Some (2 ∷ [])) false ∷ [];
 }
 unfolding of_wide_numbers stint_workers picked after_workers until_ended settle copies load_from

@@ -6,8 +6,8 @@ use Rattle.nam_catalog.specs.declared.shape.Shape.{Shape}
 use Rattle.nam_catalog.specs.Words.{words_of}
 use Rattle.nam_layout.specs.Place.{place_of, cells_of}
 use Rattle.si_model.specs.declared.op.Op.TheVariants.{Need, Add, Scan}
-use Rattle.nam_calls.specs.Words.{word_at, slot_at, tag_at}
-use Rattle.nam_calls.specs.Stamps.{version_word, with_lock, freed}
+use Rattle.nam_calls.specs.Words.{slot_at, tag_at}
+use Rattle.nam_calls.specs.Stamps.{freed}
 use Rattle.nam_calls.specs.Opening.{copies, load_from, blank_words, opening_words}
 use Rattle.nam_calls.specs.Schedule.{next_state, pick}
 use Rattle.nam_calls.specs.Bound.{verb_bound}

@@ -1,7 +1,7 @@
 -- How many verbs of a client's call and of a session are to come at the most, and how much room a client reserves for jobs.
-use Rattle.std.specs.Prelude.{ℕ, ◌+◌, ◌-◌, ◌*◌, if◌then◌else◌, Bool, true, false, List, [], ◌∷◌, length, drop, Option, Some, None, is_some, slice_get}
+use Rattle.std.specs.Prelude.{ℕ, ◌+◌, ◌-◌, ◌*◌, if◌then◌else◌, true, false, List, [], ◌∷◌, length, drop, Option, Some, None, is_some, slice_get}
 use Rattle.nam_verbs.specs.declared.now.Now.{Now}
-use Rattle.nam_verbs.specs.declared.now.Now.TheVariants.{At, Over}
+use Rattle.nam_verbs.specs.declared.now.Now.TheVariants.{At}
 use Rattle.si_model.specs.declared.row.Key.{Key}
 use Rattle.si_model.specs.declared.op.Op.{Op}
 use Rattle.si_model.specs.declared.op.Op.TheVariants.{Scan}
@@ -26,7 +26,6 @@ use Rattle.nam_calls.specs.Index.{find_left}
 use Rattle.nam_calls.specs.Mover.{move_left}
 use Rattle.nam_calls.specs.Horizon.{collect_left}
 use Rattle.nam_calls.specs.Scan.{scan_left}
-use Rattle.nam_calls.specs.Driver.{keys_of_job}
 use Rattle.nam_calls.specs.Bound.{txn_left, ops_bound, writes_bound, verb_bound, tidy_bound, collect_bound}
 
 module _ (shape : Shape) where
@@ -90,8 +89,8 @@ module _ (shape : Shape) where
   abbrev pub after_call_bound : List Op → DriverPlace → ℕ
   after_call_bound ops ToBegin = ops_bound shape ops + commit_bound ops + keys_bound (written_keys ops)
   after_call_bound ops (ToAsk nth) = if is_some (slice_get ops nth)
-    then ops_bound shape (drop (nth + 1) ops) + commit_bound ops + keys_bound (written_keys ops)
-    else keys_bound (written_keys ops)
+      then ops_bound shape (drop (nth + 1) ops) + commit_bound ops + keys_bound (written_keys ops)
+      else keys_bound (written_keys ops)
   after_call_bound ops (ToTidy keys nth false retry) = keys_after (λ key. collect_bound shape + tidy_bound shape key.table) (drop nth keys)
   after_call_bound ops (ToTidy keys nth true retry) = keys_after (λ key. 0) (drop nth keys)
   after_call_bound ops (ToCollect bucket keys nth retry) = keys_after (λ key. tidy_bound shape key.table) (drop nth keys)
@@ -143,5 +142,5 @@ module _ (shape : Shape) where
   room_for policy jobs = record {
     attempts = policy.tries * length jobs;
     ops = policy.tries * jobs_weight jobs;
-    tidies = if policy.tidy then 3 * (jobs_writes jobs + policy.tries * length jobs) else 0
+    tidies = if policy.tidy then 3 * (jobs_writes jobs + policy.tries * length jobs) else 0;
   }

@@ -1,9 +1,8 @@
 -- What a client lists, and how its log grows.
-use Rattle.std.specs.Prelude.{ℕ, ◌+◌, ◌-◌, ◌^◌, List, [], ◌∷◌, ◌++◌, length, Option, Some, None}
+use Rattle.std.specs.Prelude.{ℕ, ◌+◌, ◌-◌, ◌^◌, List, [], ◌∷◌, ◌++◌, Some, None}
 use Rattle.si_model.specs.declared.row.Item.{Item}
 use Rattle.si_model.specs.declared.log.Lock.{Lock}
 use Rattle.si_model.specs.declared.log.Outcome.{Outcome}
-use Rattle.si_model.specs.declared.log.Attempt.{Attempt}
 use Rattle.si_model.specs.declared.log.Event.{Event}
 use Rattle.si_model.specs.declared.log.Event.TheVariants.{Tried}
 use Rattle.si_model.specs.declared.log.Log.{Log}
@@ -47,5 +46,5 @@ attempt_of attempt outcome writes = Tried record {
   reads = attempt.reads;
   locks = attempt.locks;
   writes = writes;
-  outcome = outcome
+  outcome = outcome;
 }

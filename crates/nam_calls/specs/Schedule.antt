@@ -1,5 +1,5 @@
 -- Lines that refuse verbs by a plan, and the schedule of a simulated run.
-use Rattle.std.specs.Prelude.{ℕ, zero, suc, ◌+◌, ◌-◌, ◌*◌, ◌/◌, ◌%◌, ◌^◌, ◌≡◌, ◌==◌, ◌||◌, nat_le, Bool, true, false, if◌then◌else◌, List, [], ◌∷◌, ◌++◌, length, map, replicate, Option, Some, None, is_some, slice_get, slice_set}
+use Rattle.std.specs.Prelude.{ℕ, zero, suc, ◌+◌, ◌-◌, ◌*◌, ◌/◌, ◌%◌, ◌^◌, ◌≡◌, ◌==◌, ◌||◌, nat_le, Bool, true, false, if◌then◌else◌, List, [], ◌∷◌, ◌++◌, map, replicate, Option, Some, None, is_some, slice_get, slice_set}
 use Rattle.std.specs.List.{list_any}
 use Rattle.nam_verbs.specs.declared.verb.Verb.{Verb}
 use Rattle.si_model.specs.declared.row.Row.{Row}
@@ -8,7 +8,6 @@ use Rattle.si_model.specs.declared.op.Policy.{Policy}
 use Rattle.si_model.specs.declared.log.Log.{Log}
 use Rattle.nam_catalog.specs.declared.shape.Shape.{Shape}
 use Rattle.nam_calls.specs.declared.session.Job.{Job}
-use Rattle.nam_calls.specs.declared.session.SessionState.{SessionState}
 use Rattle.nam_calls.specs.Session.{session_verb, session_log}
 use Rattle.nam_calls.specs.World.{World, world_verb, step, cut, new_world, HasEnded}
 
@@ -60,7 +59,7 @@ module _ (shape : Shape) where
   turn_by run worker None = record run { world = step shape run.world worker }
   turn_by run worker (Some line) = record {
     world = if refuses_next line then cut run.world worker else step shape run.world worker;
-    lines = slice_set run.lines (worker - 1) (asked_once line)
+    lines = slice_set run.lines (worker - 1) (asked_once line);
   }
 
   -- a turn of an ended or cut worker, which has no verb, does nothing

@@ -1,5 +1,5 @@
 -- A client, what it lists, and what follows each step of its transaction.
-use Rattle.std.specs.Prelude.{ℕ, ◌+◌, ◌*◌, ◌==◌, nat_lt, false, if◌then◌else◌, List, [], ◌∷◌, ◌++◌, map, length, drop, Option, Some, None}
+use Rattle.std.specs.Prelude.{ℕ, ◌+◌, false, List, [], ◌∷◌, length, drop, Option, Some, None}
 use Rattle.nam_verbs.specs.declared.now.Now.{Now}
 use Rattle.nam_verbs.specs.declared.now.Now.TheVariants.{At, Over}
 use Rattle.si_model.specs.declared.row.Item.{Item}
@@ -31,7 +31,7 @@ new_client worker start = record {
   txn = None;
   scanned = [];
   call = None;
-  cut = false
+  cut = false;
 }
 
 -- the client at a place of its call, and with the call's answer
@@ -51,7 +51,7 @@ opened client txn nth prefix seen = record {
   ops_so_far = 0;
   reads = 0;
   locks = 0;
-  state = new_txn client.worker client.last seen
+  state = new_txn client.worker client.last seen;
 }
 
 -- 1. What is listed
@@ -68,14 +68,14 @@ abbrev pub committed : ClientState → Open → ℕ → ClientState
 committed client attempt number = record client {
   last = number;
   txn = None;
-  log = with_writes (with_event client.log (attempt_of attempt (outcome.Commit number) (length attempt.state.writes))) attempt.state.writes
+  log = with_writes (with_event client.log (attempt_of attempt (outcome.Commit number) (length attempt.state.writes))) attempt.state.writes;
 }
 
 -- the items that were read
 abbrev pub read_listed : ClientState → Open → List Item → ClientState
 read_listed client attempt items = record client {
   txn = Some (record attempt { reads = attempt.reads + length items });
-  log = with_reads client.log items
+  log = with_reads client.log items;
 }
 
 abbrev pub items_of : Option Item → List Item
@@ -94,7 +94,7 @@ new_locks state before headers = locks_from state before (drop before headers)
 abbrev pub locks_listed : ClientState → Open → List Lock → ClientState
 locks_listed client attempt locks = record client {
   txn = Some (record attempt { locks = attempt.locks + length locks });
-  log = with_locks client.log locks
+  log = with_locks client.log locks;
 }
 
 -- 2. A transaction's call was answered
@@ -135,4 +135,4 @@ abbrev pub stepped : ClientState → Open → ℕ → Stepped → ClientState
 stepped client attempt before step =
     let locks = new_locks step.state before (taken_now step.state step.call) in
     on_call (record client { log = with_locks client.log locks })
-      (record attempt { locks = attempt.locks + length locks; state = step.state }) step.call
+    (record attempt { locks = attempt.locks + length locks; state = step.state }) step.call

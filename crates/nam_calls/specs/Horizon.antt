@@ -1,0 +1,68 @@
+-- The horizon: collecting a bucket, and showing that a snapshot is too old.
+use Rattle.std.specs.Prelude.{ℕ, ◌+◌, ◌-◌, ◌*◌, ◌==◌, ◌&&◌, nat_lt, if◌then◌else◌, List, [], ◌∷◌, ◌++◌, length, slice_index}
+use Rattle.nam_verbs.specs.declared.verb.Verb.{Verb}
+use Rattle.nam_verbs.specs.declared.verb.Verb.TheVariants.{Read, Exchange}
+use Rattle.nam_verbs.specs.declared.now.Now.{Now}
+use Rattle.nam_verbs.specs.declared.now.Now.TheVariants.{At, Over}
+use Rattle.nam_layout.specs.declared.field.Cells.{Cells}
+use Rattle.nam_calls.specs.declared.horizon.CollectPlace.{CollectPlace}
+use Rattle.nam_calls.specs.declared.horizon.CollectPlace.TheVariants.{HorizonLook, HorizonRaise, CollectTag, CollectEnding, CollectFree}
+use Rattle.nam_calls.specs.declared.horizon.OldEnd.{OldEnd}
+use Rattle.nam_calls.specs.declared.horizon.OldEnd.TheVariants.{TooOld, NotPassed}
+use Rattle.nam_calls.specs.Stamps.{stamp_in, is_within, is_full, has_next, freed}
+use Rattle.nam_calls.specs.Words.{tag_at, end_at, horizon_at, until}
+
+-- 1. Collect: the horizon entries are raised to the snapshot's, then the cells within the horizon that is known are freed
+
+abbrev pub collect_begin : CollectPlace
+collect_begin = HorizonLook []
+
+abbrev pub collect_verb : Cells → ℕ → List ℕ → CollectPlace → Verb
+collect_verb cells workers seen (HorizonLook known) = Read (horizon_at workers (length known + 1))
+collect_verb cells workers seen (HorizonRaise known found) =
+    Exchange (horizon_at workers (length known + 1)) found (slice_index seen (length known))
+collect_verb cells workers seen (CollectTag known cell) = Read (tag_at cells cell)
+collect_verb cells workers seen (CollectEnding known cell tag) = Read (end_at cells cell)
+collect_verb cells workers seen (CollectFree known cell tag) = Exchange (tag_at cells cell) tag (freed tag)
+
+-- after the last entry the cells follow
+abbrev pub entry_known : ℕ → List ℕ → Now CollectPlace (List ℕ)
+entry_known workers known = At (until workers known HorizonLook (λ all. CollectTag all 0))
+
+abbrev pub collect_next : Cells → List ℕ → ℕ → Now CollectPlace (List ℕ)
+collect_next cells known cell = if cell + 1 == cells.cells then Over known else At (CollectTag known (cell + 1))
+
+abbrev pub collect_after : Cells → ℕ → List ℕ → CollectPlace → ℕ → Now CollectPlace (List ℕ)
+collect_after cells workers seen (HorizonLook known) found =
+    if nat_lt found (slice_index seen (length known)) then At (HorizonRaise known found) else entry_known workers (known ++ found ∷ [])
+collect_after cells workers seen (HorizonRaise known expected) found =
+    entry_known workers (known ++ (if found == expected then slice_index seen (length known) else found) ∷ [])
+collect_after cells workers seen (CollectTag known cell) found =
+    if is_full found then At (CollectEnding known cell found) else collect_next cells known cell
+collect_after cells workers seen (CollectEnding known cell tag) found =
+    if is_within (stamp_in cells.form found) known && has_next tag then At (CollectFree known cell tag) else collect_next cells known cell
+collect_after cells workers seen (CollectFree known cell tag) found = collect_next cells known cell
+
+abbrev pub collect_left : Cells → ℕ → CollectPlace → ℕ
+collect_left cells workers (HorizonLook known) = 2 * (workers - length known) + 3 * cells.cells
+collect_left cells workers (HorizonRaise known found) = 2 * (workers - length known) - 1 + 3 * cells.cells
+collect_left cells workers (CollectTag known cell) = 3 * (cells.cells - cell - 1) + 3
+collect_left cells workers (CollectEnding known cell tag) = 3 * (cells.cells - cell - 1) + 2
+collect_left cells workers (CollectFree known cell tag) = 3 * (cells.cells - cell - 1) + 1
+
+-- 2. ShowOld: worker after worker, until one's horizon entry is above the snapshot's. The place is the worker
+
+abbrev pub old_begin : ℕ
+old_begin = 1
+
+abbrev pub old_verb : ℕ → ℕ → Verb
+old_verb workers worker = Read (horizon_at workers worker)
+
+abbrev pub old_after : ℕ → List ℕ → ℕ → ℕ → Now ℕ OldEnd
+old_after workers seen worker found =
+    if nat_lt (slice_index seen (worker - 1)) found then Over (TooOld worker (slice_index seen (worker - 1)) found)
+    else if worker == workers then Over NotPassed
+    else At (worker + 1)
+
+abbrev pub old_left : ℕ → ℕ → ℕ
+old_left workers worker = workers + 1 - worker

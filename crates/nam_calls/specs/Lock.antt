@@ -1,0 +1,75 @@
+-- Locking records in order, and writing headers back.
+use Rattle.std.specs.Prelude.{ℕ, ◌+◌, ◌-◌, ◌*◌, ◌==◌, if◌then◌else◌, List, [], ◌∷◌, ◌++◌, length, slice_index, slice_index_or}
+use Rattle.nam_verbs.specs.declared.verb.Verb.{Verb}
+use Rattle.nam_verbs.specs.declared.verb.Verb.TheVariants.{Read, Write, Exchange}
+use Rattle.nam_verbs.specs.declared.now.Now.{Now}
+use Rattle.nam_verbs.specs.declared.now.Now.TheVariants.{At, Over}
+use Rattle.nam_catalog.specs.declared.form.Form.{Form}
+use Rattle.nam_layout.specs.declared.field.Place.{Place}
+use Rattle.nam_calls.specs.declared.lock.LockPlace.{LockPlace}
+use Rattle.nam_calls.specs.declared.lock.LockPlace.TheVariants.{Peek, Seize, GiveBack}
+use Rattle.nam_calls.specs.declared.lock.LockEnd.{LockEnd}
+use Rattle.nam_calls.specs.declared.lock.LockEnd.TheVariants.{Held, Locked, Newer}
+use Rattle.nam_calls.specs.Stamps.{sees, is_locked, with_lock}
+use Rattle.nam_calls.specs.Words.{no_place}
+
+abbrev pub nth_place : List Place → ℕ → Place
+nth_place places nth = slice_index_or places nth no_place
+
+-- 1. LockAll: record after record its header is read, and exchanged for the same with the lock
+
+abbrev pub lock_begin : LockPlace
+lock_begin = Peek []
+
+abbrev pub lock_verb : ℕ → List Place → LockPlace → Verb
+lock_verb worker places (Peek held) = Read (nth_place places (length held)).header_at
+lock_verb worker places (Seize held header) =
+    let place = nth_place places (length held) in Exchange place.header_at header (with_lock place.form worker header)
+lock_verb worker places (GiveBack held given found) = Write (nth_place places given).header_at (slice_index held given)
+
+-- what the header found in the way of the next lock says
+abbrev pub loss_of : Form → ℕ → ℕ → LockEnd
+loss_of form nth found = if is_locked form found then Locked nth found else Newer nth found
+
+abbrev pub give_back : List Place → List ℕ → ℕ → ℕ → Now LockPlace LockEnd
+give_back places held given found =
+    if given == length held then Over (loss_of (nth_place places (length held)).form (length held) found) else At (GiveBack held given found)
+
+abbrev pub lock_next : List Place → List ℕ → Now LockPlace LockEnd
+lock_next places held = if length held == length places then Over (Held held) else At (Peek held)
+
+abbrev pub lock_after : List Place → List ℕ → LockPlace → ℕ → Now LockPlace LockEnd
+lock_after places seen (Peek held) found =
+    let form = (nth_place places (length held)).form in
+    if is_locked form found then give_back places held 0 found
+    else if sees form seen found then At (Seize held found)
+    else give_back places held 0 found
+lock_after places seen (Seize held header) found =
+    if found == header then lock_next places (held ++ header ∷ []) else give_back places held 0 found
+lock_after places seen (GiveBack held given found) word = give_back places held (given + 1) found
+
+-- the headers of the records that it holds, and of those that it gives back
+abbrev pub taken : LockPlace → List ℕ
+taken (Peek held) = held
+taken (Seize held header) = held
+taken (GiveBack held given found) = held
+
+-- what follows the locks takes no more than rest, which is no less than the number of records
+abbrev pub lock_left : List Place → ℕ → LockPlace → ℕ
+lock_left places rest (Peek held) = 2 * (length places - length held) + rest
+lock_left places rest (Seize held header) = 2 * (length places - length held) - 1 + rest
+lock_left places rest (GiveBack held given found) = length held - given
+
+-- 2. UnlockAll: the place is the number of headers written back
+
+abbrev pub unlock_begin : List Place → Now ℕ (Unit {0})
+unlock_begin places = if length places == 0 then Over tt else At 0
+
+abbrev pub unlock_verb : List Place → List ℕ → ℕ → Verb
+unlock_verb places headers given = Write (nth_place places given).header_at (slice_index headers given)
+
+abbrev pub unlock_after : List Place → ℕ → Now ℕ (Unit {0})
+unlock_after places given = if given + 1 == length places then Over tt else At (given + 1)
+
+abbrev pub unlock_left : List Place → ℕ → ℕ
+unlock_left places given = length places - given

@@ -1,0 +1,87 @@
+-- Moving the version in the slot that the record's next version needs.
+use Rattle.std.specs.Prelude.{ℕ, ◌+◌, ◌-◌, ◌*◌, ◌==◌, if◌then◌else◌, [], ◌∷◌, ◌++◌, length, Option, Some, None}
+use Rattle.nam_verbs.specs.declared.verb.Verb.{Verb}
+use Rattle.nam_verbs.specs.declared.verb.Verb.TheVariants.{Read, Write, Exchange}
+use Rattle.nam_verbs.specs.declared.now.Now.{Now}
+use Rattle.nam_verbs.specs.declared.now.Now.TheVariants.{At, Over}
+use Rattle.si_model.specs.declared.log.Stamp.{Stamp}
+use Rattle.nam_layout.specs.declared.field.Place.{Place}
+use Rattle.nam_layout.specs.declared.field.Cells.{Cells}
+use Rattle.nam_calls.specs.declared.overflow.ClaimPlace.{ClaimPlace}
+use Rattle.nam_calls.specs.declared.overflow.ClaimEnd.{ClaimEnd}
+use Rattle.nam_calls.specs.declared.overflow.ClaimEnd.TheVariants.{Claimed, NoRoom}
+use Rattle.nam_calls.specs.declared.overflow.Version.{Version}
+use Rattle.nam_calls.specs.declared.overflow.FillPlace.{FillPlace}
+use Rattle.nam_calls.specs.declared.mover.MovePlace.{MovePlace}
+use Rattle.nam_calls.specs.declared.mover.MovePlace.TheVariants.{MoveCount, MoveHead, MoveEnding, MoveClaim, MoveWords, MoveFill, MoveAgain, MoveFull, MoveFlag, MoveBack}
+use Rattle.nam_calls.specs.declared.mover.MoveAnswer.{MoveAnswer}
+use Rattle.nam_calls.specs.declared.mover.MoveAnswer.TheVariants as answer
+use Rattle.nam_calls.specs.Stamps.{stamp_in, is_moved, with_moved, without_moved, freed, full}
+use Rattle.nam_calls.specs.Words.{slot_at, slot_end_at, slot_word_at, slot_of, tag_at, until}
+use Rattle.nam_calls.specs.Overflow.{claim_begin, claim_verb, claim_after, claim_left, fill_begin, fill_verb, fill_after, fill_left}
+
+abbrev pub move_begin : MovePlace
+move_begin = MoveCount
+
+abbrev pub move_verb : Place → Cells → MovePlace → Verb
+move_verb place cells MoveCount = Read place.count_at
+move_verb place cells (MoveHead slot) = Read (slot_at place slot)
+move_verb place cells (MoveEnding slot header) = Read (slot_end_at place slot)
+move_verb place cells (MoveClaim slot header ending at) = claim_verb cells at
+move_verb place cells (MoveWords slot header ending cell tag got) = Read (slot_word_at place slot (length got))
+move_verb place cells (MoveFill slot header cell tag version at) = fill_verb cells cell place.row version at
+move_verb place cells (MoveAgain slot header cell tag) = Read (slot_at place slot)
+move_verb place cells (MoveFull slot header cell tag) = Write (tag_at cells cell) (full tag)
+move_verb place cells (MoveFlag slot header) = Exchange (slot_at place slot) header (with_moved place.form header)
+move_verb place cells (MoveBack header cell tag) = Write (tag_at cells cell) (freed tag)
+
+-- after the claim the slot's words are read
+abbrev pub on_claim : Cells → ℕ → ℕ → ℕ → Now ClaimPlace ClaimEnd → Now MovePlace MoveAnswer
+on_claim cells slot header ending (At at) = At (MoveClaim slot header ending at)
+on_claim cells slot header ending (Over (Claimed cell tag)) = At (MoveWords slot header ending cell tag [])
+on_claim cells slot header ending (Over NoRoom) = Over (answer.NoRoom cells.bucket)
+
+-- after the filling the slot's header is read again
+abbrev pub on_fill : ℕ → ℕ → ℕ → ℕ → Version → Now FillPlace (Unit {0}) → Now MovePlace MoveAnswer
+on_fill slot header cell tag version (At at) = At (MoveFill slot header cell tag version at)
+on_fill slot header cell tag version (Over done) = At (MoveAgain slot header cell tag)
+
+abbrev pub move_after : Place → Cells → MovePlace → ℕ → Now MovePlace MoveAnswer
+move_after place cells MoveCount found = At (MoveHead (slot_of place found))
+move_after place cells (MoveHead slot) found = if is_moved place.form found then Over answer.Nothing else At (MoveEnding slot found)
+move_after place cells (MoveEnding slot header) found = At (MoveClaim slot header found claim_begin)
+move_after place cells (MoveClaim slot header ending at) found = on_claim cells slot header ending (claim_after cells at found)
+move_after place cells (MoveWords slot header ending cell tag got) found =
+    At (until place.width (got ++ found ∷ []) (MoveWords slot header ending cell tag)
+    (λ value. MoveFill slot header cell tag record { begin = without_moved place.form header; «end» = ending; value = value } fill_begin))
+move_after place cells (MoveFill slot header cell tag version at) found = on_fill slot header cell tag version (fill_after place.width at)
+move_after place cells (MoveAgain slot header cell tag) found =
+    if found == header then At (MoveFull slot header cell tag) else At (MoveBack header cell tag)
+move_after place cells (MoveFull slot header cell tag) found = At (MoveFlag slot header)
+move_after place cells (MoveFlag slot header) found = Over (answer.Moved (stamp_in place.form header))
+move_after place cells (MoveBack header cell tag) found = Over (answer.Back (stamp_in place.form header))
+
+-- the version for which a cell was claimed
+abbrev pub move_claimed : Place → MovePlace → Option Stamp
+move_claimed place MoveCount = None
+move_claimed place (MoveHead slot) = None
+move_claimed place (MoveEnding slot header) = None
+move_claimed place (MoveClaim slot header ending at) = None
+move_claimed place (MoveWords slot header ending cell tag got) = Some (stamp_in place.form header)
+move_claimed place (MoveFill slot header cell tag version at) = Some (stamp_in place.form header)
+move_claimed place (MoveAgain slot header cell tag) = Some (stamp_in place.form header)
+move_claimed place (MoveFull slot header cell tag) = Some (stamp_in place.form header)
+move_claimed place (MoveFlag slot header) = Some (stamp_in place.form header)
+move_claimed place (MoveBack header cell tag) = Some (stamp_in place.form header)
+
+abbrev pub move_left : Place → Cells → MovePlace → ℕ
+move_left place cells MoveCount = 2 * cells.cells + 2 * place.width + 9
+move_left place cells (MoveHead slot) = 2 * cells.cells + 2 * place.width + 8
+move_left place cells (MoveEnding slot header) = 2 * cells.cells + 2 * place.width + 7
+move_left place cells (MoveClaim slot header ending at) = claim_left cells at + 2 * place.width + 6
+move_left place cells (MoveWords slot header ending cell tag got) = place.width - length got + place.width + 6
+move_left place cells (MoveFill slot header cell tag version at) = fill_left place.width at + 3
+move_left place cells (MoveAgain slot header cell tag) = 3
+move_left place cells (MoveFull slot header cell tag) = 2
+move_left place cells (MoveFlag slot header) = 1
+move_left place cells (MoveBack header cell tag) = 1

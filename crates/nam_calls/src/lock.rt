@@ -1,0 +1,34 @@
+//! Locking records in order, each under the header that the snapshot sees.
+
+use lists::ShortList;
+
+/// Where the locking stands. It holds the first records, whose headers were these.
+#[derive(Drop)]
+pub enum LockPlace {
+    /// Read the header of the next record.
+    Peek {
+        held: ShortList<u64, 16>,
+    },
+    /// Exchange it for the same with the lock.
+    Seize {
+        held: ShortList<u64, 16>,
+        header: u64,
+    },
+    /// Write the header of a held record back, since the next record's header is this one.
+    GiveBack {
+        held: ShortList<u64, 16>,
+        given: u32,
+        found: u64,
+    },
+}
+
+/// How the locking ended.
+#[derive(Drop)]
+pub enum LockEnd {
+    /// All records are locked; their headers were these.
+    Held(ShortList<u64, 16>),
+    /// The record is locked by another, and no lock is held.
+    Locked { nth: u32, found: u64 },
+    /// The record has a newer version than the snapshot sees, and no lock is held.
+    Newer { nth: u32, found: u64 },
+}

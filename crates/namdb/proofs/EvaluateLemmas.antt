@@ -1,5 +1,5 @@
 -- An evaluation looks at the rows of the keys that its operations may look at.
-use Rattle.std.proofs.Common.{◌≡◌, ℕ, zero, suc, ◌+◌, ◌-◌, ◌<◌, Bool, true, false, cond, List, [], ◌∷◌, ◌++◌, length, refl, ap, sym, ◌∙◌, subst, arith, append_assoc, Option, Some, None, inl, inr}
+use Rattle.std.proofs.Common.{◌≡◌, ℕ, zero, suc, ◌+◌, ◌-◌, ◌<◌, Bool, true, false, cond, List, [], ◌∷◌, ◌++◌, length, refl, ap, sym, ◌∙◌, subst, arith, Option, Some, None, inl, inr}
 use Rattle.std.specs.Prelude.{◌⊎◌, ◌≤◌, ◌||◌, not, filter, is_some, slice_index, Result, Ok, Err, IfOk}
 use Rattle.std.specs.List.{AllByRecursion, flat_map, list_any}
 use Rattle.std.specs.BTreeMap.{is_at}
@@ -18,9 +18,9 @@ use Rattle.si_model.specs.declared.evaluated.Evaluated.{Evaluated}
 use Rattle.si_model.specs.declared.evaluated.Evaluated.TheVariants.{Done, Declined}
 use Rattle.si_model.specs.Held.{key_cmp}
 use Rattle.si_model.specs.Rows.{Rows, key_at, same_key, item_key, item_at, rows_of, overlay, writes_key, present, items_from}
-use Rattle.si_model.specs.Evaluation.{evaluation_from, evaluation_of, AreWide, passes, found, writes_after, guards_after, with_reads, wrote, guarded, reads_of, with_field, changed, field_of}
+use Rattle.si_model.specs.Evaluation.{evaluation_from, evaluation_of, AreWide, passes, found, writes_after, guards_after, with_reads, wrote, guarded, with_field, changed, field_of}
 use Rattle.si_model.proofs.EvaluationLemmas.{same_key-refl, same_key_says}
-use Rattle.namdb.specs.NamedRows.{key_of, has_key, is_between, keys_for, row_at, rows_at, rows_named}
+use Rattle.namdb.specs.NamedRows.{has_key, is_between, keys_for, row_at, rows_at, rows_named}
 use Rattle.namdb.specs.Serial.{claims_of}
 
 -- the first rows count, and then the others

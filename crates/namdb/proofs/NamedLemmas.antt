@@ -1,7 +1,7 @@
 -- No other keys hold rows than those that a script names, and so a scan finds few.
-use Rattle.std.proofs.Common.{◌≡◌, ℕ, zero, suc, ◌+◌, ◌-◌, ◌<◌, ◌≤◌, Bool, true, false, cond, List, [], ◌∷◌, ◌++◌, length, map, refl, ap, sym, ◌∙◌, subst, arith, length-append, Option, Some, None, inl, inr}
+use Rattle.std.proofs.Common.{◌≡◌, ℕ, zero, suc, ◌+◌, ◌-◌, ◌<◌, ◌≤◌, Bool, true, false, List, [], ◌∷◌, ◌++◌, length, map, refl, ap, sym, ◌∙◌, arith, length-append, Option, Some, None, inl, inr}
 use Rattle.std.specs.Prelude.{◌==◌, ◌&&◌, ◌||◌, nat_le, is_some, IsTrue, ◌^◌, ◌*◌, slice_index, slice_index_or, if◌then◌else◌}
-use Rattle.std.specs.List.{AllByRecursion, flat_map, list_any}
+use Rattle.std.specs.List.{AllByRecursion, flat_map}
 use Rattle.std.proofs.lemmas.Bool.{cases_Bool, cond_both, false≢true}
 use Rattle.std.proofs.lemmas.Bool.Decides.{nat_tests}
 use Rattle.std.proofs.lemmas.List.{length-map}
@@ -16,7 +16,7 @@ use Rattle.si_model.specs.Rows.{Rows, key_at, same_key, row_key, item_key, item_
 use Rattle.si_model.specs.Evaluation.{field_of, with_field, changed, wrote, passes, found, writes_after, guards_after, with_reads, evaluation_from, evaluation_of, reads_of, key_written, is_key, ops_write}
 use Rattle.si_model.specs.EvaluationLaws.{is_scan}
 use Rattle.si_model.specs.Setting.{Setting}
-use Rattle.si_model.proofs.EvaluationLemmas.{same_key-refl, same_key_says, done-writes_key}
+use Rattle.si_model.proofs.EvaluationLemmas.{same_key_says, done-writes_key}
 use Rattle.nam_catalog.specs.Tables.{widths_of}
 use Rattle.nam_script.specs.declared.script.Script.{Script}
 use Rattle.nam_script.specs.declared.script.ScriptTxn.{ScriptTxn}

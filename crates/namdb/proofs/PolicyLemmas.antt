@@ -1,5 +1,5 @@
 -- A worker of a serial run follows the retry policy: each transaction is tried once, and after a commit each written key is tidied.
-use Rattle.std.proofs.Common.{◌≡◌, ℕ, ◌+◌, Bool, true, List, [], ◌∷◌, ◌++◌, length, map, refl, ap, ◌∙◌, Some, None}
+use Rattle.std.proofs.Common.{◌≡◌, ℕ, ◌+◌, Bool, true, List, [], ◌∷◌, ◌++◌, map, refl, ap, ◌∙◌, Some, None}
 use Rattle.std.specs.Prelude.{◌||◌, false, if◌then◌else◌}
 use Rattle.std.specs.List.{flat_map}
 use Rattle.std.proofs.lemmas.Bool.{eq-eqb}
@@ -11,7 +11,6 @@ use Rattle.si_model.specs.declared.log.Outcome.TheVariants.{Commit}
 use Rattle.si_model.specs.declared.report.CommitLine.{CommitLine}
 use Rattle.si_model.specs.Evaluation.{written_keys}
 use Rattle.si_model.specs.History.{count_of}
-use Rattle.si_model.specs.Tells.{Tell}
 use Rattle.si_model.specs.View.{View}
 use Rattle.si_model.specs.Setting.{Setting}
 use Rattle.si_model.specs.Tries.{Part, tells_in, settles, next_owed, outcome_owed, Stage, goes_on, is_short, FullEvent, FullsFollow}

@@ -1,7 +1,7 @@
 -- A worker's transactions one after another, and all workers: the serial run is a run.
-use Rattle.std.proofs.Common.{◌≡◌, ℕ, zero, suc, ◌+◌, ◌<◌, ◌≤◌, Bool, true, false, cond, List, [], ◌∷◌, ◌++◌, length, map, refl, ap, sym, ◌∙◌, subst, arith, append_assoc, append-nil, zero-add, Some, None, inl, inr, length-append}
-use Rattle.std.specs.Prelude.{filter, ◌==◌, ◌&&◌, ◌||◌, if◌then◌else◌}
-use Rattle.std.specs.List.{AllByRecursion, flat_map}
+use Rattle.std.proofs.Common.{◌≡◌, ℕ, zero, suc, ◌+◌, ◌<◌, ◌≤◌, Bool, true, false, cond, List, [], ◌∷◌, ◌++◌, length, map, refl, ap, sym, ◌∙◌, subst, arith, append_assoc, append-nil, zero-add, inl, inr, length-append}
+use Rattle.std.specs.Prelude.{filter, ◌==◌, ◌&&◌}
+use Rattle.std.specs.List.{AllByRecursion}
 use Rattle.std.proofs.Math.Seq.{take-append_seam, drop-append_seam}
 use Rattle.std.proofs.lemmas.Bool.{eq-eqb, eqb-true, ne_eqb, cases_Bool}
 use Rattle.std.proofs.lemmas.List.Elements.{filter-append}
@@ -19,7 +19,7 @@ use Rattle.si_model.specs.Knowledge.{AreAtMost, SeesForward}
 use Rattle.si_model.specs.Answers.{AnswersMatch}
 use Rattle.si_model.specs.Causes.{HaveCausesAfter}
 use Rattle.si_model.specs.Run.{times_listed, is_listed_as}
-use Rattle.namdb.specs.Serial.{writes_by, entry_by, ops_of, evaluated_after, tell_after, entry_after, tells_after, history_after, log_of, logs_after, end_after}
+use Rattle.namdb.specs.Serial.{writes_by, entry_by, evaluated_after, tell_after, entry_after, tells_after, history_after, log_of, logs_after, end_after}
 use Rattle.namdb.proofs.HistoryLemmas.{count_of-append, count_of-own, at_most-refl}
 use Rattle.namdb.proofs.SerialLemmas.{by_outcome, told, answers_after, sees_after, known_then, caused_after, last_number_then}
 

@@ -1,4 +1,4 @@
-use Rattle.std.proofs.Common.{◌≡◌, ◌++◌, ap, sym, ◌∙◌, append-nil}
+use Rattle.std.proofs.Common.{◌++◌, ap, sym, ◌∙◌, append-nil}
 use Rattle.si_model.specs.Committed.{rows_held}
 use Rattle.namdb.specs.NamedRows.{keys_for, rows_at}
 use Rattle.namdb.proofs.EvaluateLemmas.{backward}

@@ -1,4 +1,4 @@
-use Rattle.std.proofs.Common.{◌≡◌, refl, ap, ◌∙◌}
+use Rattle.std.proofs.Common.{refl, ap, ◌∙◌}
 use Rattle.std.specs.Prelude.{◌||◌, map}
 use Rattle.si_model.specs.Rows.{row_key}
 use Rattle.nam_catalog.specs.Tables.{widths_of}

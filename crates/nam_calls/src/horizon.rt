@@ -34,7 +34,7 @@ pub enum CollectPlace {
 }
 
 /// Whether the horizon has passed a snapshot.
-#[derive(Clone, Copy)]
+#[derive(Clone, Copy, Debug, PartialEq, Eq)]
 pub enum OldEnd {
     /// The worker's horizon entry is above the snapshot's entry.
     TooOld {

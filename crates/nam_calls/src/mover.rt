@@ -70,7 +70,7 @@ pub enum MovePlace {
 }
 
 /// How a move ended.
-#[derive(Clone, Copy)]
+#[derive(Clone, Copy, Debug, PartialEq, Eq)]
 pub enum MoveAnswer {
     /// The version with this stamp stands in a cell.
     Moved { stamp: Stamp },

@@ -42,7 +42,7 @@ pub enum CellPlace {
 }
 
 /// Where the claim of a free cell stands.
-#[derive(Clone, Copy)]
+#[derive(Clone, Copy, Debug, PartialEq, Eq)]
 pub enum ClaimPlace {
     /// Read the cell's tag.
     ClaimLook { cell: u32 },
@@ -51,7 +51,7 @@ pub enum ClaimPlace {
 }
 
 /// How the claim of a free cell ended.
-#[derive(Clone, Copy)]
+#[derive(Clone, Copy, Debug, PartialEq, Eq)]
 pub enum ClaimEnd {
     /// The cell is claimed, under this tag.
     Claimed { cell: u32, tag: u64 },
@@ -68,7 +68,7 @@ pub struct Version {
 }
 
 /// Where the filling of a claimed cell stands.
-#[derive(Clone, Copy)]
+#[derive(Clone, Copy, Debug, PartialEq, Eq)]
 pub enum FillPlace {
     /// Write the row that owns it.
     FillOwner,

@@ -7,7 +7,7 @@ use nam_layout::{Cells, Place};
 use si_model::Value;
 
 /// Where a read looks: at the record, at the cells of its bucket, and at the horizon of so many workers.
-#[derive(Clone, Copy)]
+#[derive(Clone, Copy, Debug, PartialEq, Eq)]
 pub struct Sight {
     pub place: Place,
     pub cells: Cells,

@@ -25,7 +25,7 @@ pub enum CurrentEnd {
 }
 
 /// Where an install stands.
-#[derive(Clone, Copy)]
+#[derive(Clone, Copy, Debug, PartialEq, Eq)]
 pub enum InstallPlace {
     /// Write a data word.
     InstallWord { nth: u32 },

@@ -3,7 +3,7 @@
 use si_model::Value;
 
 /// Where the look at the slot stands that the next version needs.
-#[derive(Clone, Copy)]
+#[derive(Clone, Copy, Debug, PartialEq, Eq)]
 pub enum SlotPlace {
     /// Read the number of the current version.
     CheckCount,
@@ -12,7 +12,7 @@ pub enum SlotPlace {
 }
 
 /// How the look at the slot ended.
-#[derive(Clone, Copy)]
+#[derive(Clone, Copy, Debug, PartialEq, Eq)]
 pub enum SlotEnd {
     /// Its version was moved: the current version, of this number, may be copied there.
     Free { count: u64 },
@@ -21,7 +21,7 @@ pub enum SlotEnd {
 }
 
 /// Where the copy of the current version into its slot stands.
-#[derive(Clone, Copy)]
+#[derive(Clone, Copy, Debug, PartialEq, Eq)]
 pub enum CopyPlace {
     /// Write the mark in the place of the slot's header.
     CopyMark,

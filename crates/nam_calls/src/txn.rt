@@ -53,7 +53,7 @@ pub enum TxnCall {
 }
 
 /// A key and the position that bears it.
-#[derive(Clone, Copy)]
+#[derive(Clone, Copy, Debug, PartialEq, Eq)]
 pub struct Record {
     pub key: Key,
     pub place: Place,

@@ -3,7 +3,7 @@
 use si_model::Snapshot;
 
 /// Where the collection of a bucket stands. It knows so many entries of the horizon.
-#[derive(Drop)]
+#[derive(Debug, Drop)]
 pub enum CollectPlace {
     /// Read the horizon entry after those known.
     HorizonLook {

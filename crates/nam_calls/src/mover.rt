@@ -4,7 +4,7 @@ use crate::overflow::{ClaimPlace, FillPlace, Version};
 use si_model::{Stamp, Value};
 
 /// Where a move stands.
-#[derive(Drop)]
+#[derive(Debug, Drop)]
 pub enum MovePlace {
     /// Read the number of the record's current version.
     MoveCount,

@@ -3,7 +3,7 @@
 use si_model::Value;
 
 /// Where the search of a bucket's cells stands.
-#[derive(Drop)]
+#[derive(Debug, Drop)]
 pub enum CellPlace {
     /// Read the cell's tag.
     CellTag {
@@ -60,7 +60,7 @@ pub enum ClaimEnd {
 }
 
 /// An old version: its header without the moved flag, the stamp word of its successor, and its words.
-#[derive(Drop)]
+#[derive(Debug, Drop)]
 pub struct Version {
     pub begin: u64,
     pub end: u64,

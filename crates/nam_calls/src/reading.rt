@@ -15,7 +15,7 @@ pub struct Sight {
 }
 
 /// Where a read stands.
-#[derive(Drop)]
+#[derive(Debug, Drop)]
 pub enum ReadPlace {
     /// Read the current version.
     ReadCurrent {
@@ -47,7 +47,7 @@ pub enum ReadPlace {
 }
 
 /// How a read ended.
-#[derive(Drop)]
+#[derive(Debug, Drop)]
 pub enum ReadingEnd {
     /// What the snapshot sees; a deletion has no value.
     Got(Option<Value>),

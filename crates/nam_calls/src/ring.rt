@@ -34,7 +34,7 @@ pub enum CopyPlace {
 }
 
 /// Where the search of a ring stands.
-#[derive(Drop)]
+#[derive(Debug, Drop)]
 pub enum RingPlace {
     /// Read the slot's header.
     SlotHead {
@@ -60,7 +60,7 @@ pub enum RingPlace {
 }
 
 /// How a search of old versions ended.
-#[derive(Drop)]
+#[derive(Debug, Drop)]
 pub enum SearchEnd {
     /// The version that the snapshot sees; a deletion has no value.
     Found(Option<Value>),

@@ -27,3 +27,4 @@ pub mod Closed
 pub mod Bound
 pub mod Left
 pub mod Fits
+pub mod TxnFits

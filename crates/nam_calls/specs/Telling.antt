@@ -71,12 +71,17 @@ committed client attempt number = record client {
   log = with_writes (with_event client.log (attempt_of attempt (outcome.Commit number) (length attempt.state.writes))) attempt.state.writes;
 }
 
--- the items that were read
+-- the attempt with so many more reads
+abbrev pub with_read : Open → List Item → Open
+with_read attempt items = record attempt { reads = attempt.reads + length items }
+
+-- the items that were read are listed, and the transaction stays open
 abbrev pub read_listed : ClientState → Open → List Item → ClientState
-read_listed client attempt items = record client {
-  txn = Some (record attempt { reads = attempt.reads + length items });
-  log = with_reads client.log items;
-}
+read_listed client attempt items = record client { txn = Some (with_read attempt items); log = with_reads client.log items }
+
+-- the items that were read are listed, and the attempt has ended so
+abbrev pub read_ended : ClientState → Open → List Item → Outcome → ClientState
+read_ended client attempt items outcome = ended (record client { log = with_reads client.log items }) (with_read attempt items) outcome
 
 abbrev pub items_of : Option Item → List Item
 items_of None = []
@@ -91,21 +96,7 @@ locks_from state nth (header ∷ headers) = lock_at state nth header ∷ locks_f
 abbrev pub new_locks : TxnState → ℕ → List ℕ → List Lock
 new_locks state before headers = locks_from state before (drop before headers)
 
-abbrev pub locks_listed : ClientState → Open → List Lock → ClientState
-locks_listed client attempt locks = record client {
-  txn = Some (record attempt { locks = attempt.locks + length locks });
-  log = with_locks client.log locks;
-}
-
 -- 2. A transaction's call was answered
-
--- the open transaction, which this one is where none is
-abbrev pub open_or : Option Open → Open → Open
-open_or None attempt = attempt
-open_or (Some attempt) other = attempt
-
-abbrev pub then_ended : ClientState → Open → Outcome → ClientState
-then_ended client attempt outcome = ended client (open_or client.txn attempt) outcome
 
 -- a call lists what it has read when it answers; each end but the first four is the attempt's
 abbrev pub on_answer : ClientState → Open → TxnAnswer → ClientState
@@ -116,10 +107,8 @@ on_answer client attempt txn_answer.Met = read_listed client attempt (items_of a
 on_answer client attempt (txn_answer.Committed number) = committed client attempt number
 on_answer client attempt txn_answer.ReadOnly = ended client attempt outcome.ReadOnly
 on_answer client attempt (txn_answer.TooOld worker entry horizon) = ended client attempt (outcome.TooOld worker entry horizon)
-on_answer client attempt (txn_answer.NoSpace table) =
-    then_ended (read_listed client attempt (items_of attempt.state.read)) attempt (outcome.NoSpace table)
-on_answer client attempt txn_answer.Declined =
-    then_ended (read_listed client attempt (items_of attempt.state.read)) attempt (outcome.Declined attempt.ops)
+on_answer client attempt (txn_answer.NoSpace table) = read_ended client attempt (items_of attempt.state.read) (outcome.NoSpace table)
+on_answer client attempt txn_answer.Declined = read_ended client attempt (items_of attempt.state.read) (outcome.Declined attempt.ops)
 on_answer client attempt txn_answer.Spent = ended client attempt outcome.Spent
 on_answer client attempt (txn_answer.Locked lock) = ended client attempt (outcome.Locked lock)
 on_answer client attempt (txn_answer.Newer lock) = ended client attempt (outcome.Newer lock)

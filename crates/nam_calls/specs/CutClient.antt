@@ -1,7 +1,7 @@
 -- A client that is stopped, and the log that a client leaves. A call that was stopped in its middle is listed.
-use Rattle.std.specs.Prelude.{ℕ, ◌+◌, Bool, true, if◌then◌else◌, List, Option, Some, None}
+use Rattle.std.specs.Prelude.{ℕ, ◌+◌, true, if◌then◌else◌, Option, Some, None}
 use Rattle.nam_verbs.specs.declared.now.Now.{Now}
-use Rattle.nam_verbs.specs.declared.now.Now.TheVariants.{At, Over}
+use Rattle.nam_verbs.specs.declared.now.Now.TheVariants.{At}
 use Rattle.si_model.specs.declared.log.Stamp.{Stamp}
 use Rattle.si_model.specs.declared.log.Outcome.TheVariants as outcome
 use Rattle.si_model.specs.declared.log.MoveEnd.TheVariants as moved

@@ -1,5 +1,5 @@
 -- Lines that refuse verbs by a plan, and the schedule of a simulated run.
-use Rattle.std.specs.Prelude.{ℕ, zero, suc, ◌+◌, ◌-◌, ◌*◌, ◌/◌, ◌%◌, ◌^◌, ◌≡◌, ◌==◌, ◌||◌, nat_le, Bool, true, false, if◌then◌else◌, List, [], ◌∷◌, ◌++◌, length, map, replicate, Option, Some, None, is_some, slice_get, slice_set}
+use Rattle.std.specs.Prelude.{ℕ, zero, suc, ◌+◌, ◌-◌, ◌*◌, ◌/◌, ◌%◌, ◌^◌, ◌≡◌, ◌==◌, ◌||◌, nat_le, Bool, true, false, if◌then◌else◌, List, [], ◌∷◌, ◌++◌, map, replicate, Option, Some, None, is_some, slice_get, slice_set}
 use Rattle.std.specs.List.{list_any}
 use Rattle.si_model.specs.declared.row.Row.{Row}
 use Rattle.si_model.specs.declared.op.Op.{Op}
@@ -7,7 +7,6 @@ use Rattle.si_model.specs.declared.op.Policy.{Policy}
 use Rattle.si_model.specs.declared.log.Log.{Log}
 use Rattle.nam_catalog.specs.declared.shape.Shape.{Shape}
 use Rattle.nam_calls.specs.declared.session.Job.{Job}
-use Rattle.nam_calls.specs.declared.session.SessionState.{SessionState}
 use Rattle.nam_calls.specs.Session.{session_verb, session_log}
 use Rattle.nam_calls.specs.World.{World, world_verb, step, cut, new_world, HasEnded}
 

@@ -2,16 +2,14 @@
 use Rattle.std.specs.Prelude.{ℕ, zero, suc, ◌+◌, Bool, if◌then◌else◌, List, [], ◌∷◌, length, Option, Some, None, is_some, not}
 use Rattle.nam_verbs.specs.declared.verb.Verb.{Verb}
 use Rattle.nam_verbs.specs.declared.now.Now.{Now}
-use Rattle.nam_verbs.specs.declared.now.Now.TheVariants.{At, Over}
+use Rattle.nam_verbs.specs.declared.now.Now.TheVariants.{Over}
 use Rattle.si_model.specs.declared.op.Policy.{Policy}
 use Rattle.si_model.specs.declared.log.Log.{Log}
 use Rattle.nam_catalog.specs.declared.shape.Shape.{Shape}
-use Rattle.nam_calls.specs.declared.client.Call.{Call}
 use Rattle.nam_calls.specs.declared.client.Answer.{Answer}
 use Rattle.nam_calls.specs.declared.client.CallPlace.{CallPlace}
 use Rattle.nam_calls.specs.declared.client.ClientState.{ClientState}
 use Rattle.nam_calls.specs.declared.session.Job.{Job}
-use Rattle.nam_calls.specs.declared.session.DriverState.{DriverState}
 use Rattle.nam_calls.specs.declared.session.SessionState.{SessionState}
 use Rattle.nam_calls.specs.Client.{client_ask, client_verb, client_after}
 use Rattle.nam_calls.specs.CutClient.{client_cut, into_log}

@@ -1,8 +1,7 @@
 -- What the calls read from header words and tags, and write to them.
-use Rattle.std.specs.Prelude.{ℕ, ◌+◌, ◌-◌, ◌*◌, ◌/◌, ◌%◌, ◌^◌, ◌==◌, ◌&&◌, nat_lt, nat_le, Bool, true, false, not, if◌then◌else◌, List, length, slice_index}
+use Rattle.std.specs.Prelude.{ℕ, ◌+◌, ◌-◌, ◌*◌, ◌/◌, ◌%◌, ◌^◌, ◌==◌, ◌&&◌, nat_lt, nat_le, Bool, false, not, if◌then◌else◌, List, length, slice_index}
 use Rattle.si_model.specs.declared.log.Stamp.{Stamp}
 use Rattle.nam_catalog.specs.declared.form.Form.{Form}
-use Rattle.nam_header.specs.declared.header.Header.{Header}
 use Rattle.nam_header.specs.Header.{word_of, header_of}
 use Rattle.nam_header.specs.Flag as flag
 use Rattle.nam_header.specs.Visible.{is_visible}

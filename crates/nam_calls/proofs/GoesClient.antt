@@ -1,10 +1,9 @@
 -- Where a client's call goes on. For any property of clients: if it holds at each place that may follow, and of each
 -- answered client, then it holds after the word.
-use Rattle.std.proofs.Common.{◌≡◌, ℕ, ◌+◌, Bool, true, false, List, [], ◌∷◌, ◌++◌, length, Option, Some, None, refl}
+use Rattle.std.proofs.Common.{◌≡◌, ℕ, ◌+◌, false, List, [], ◌∷◌, ◌++◌, length, Option, Some, None, refl}
 use Rattle.std.proofs.lemmas.Bool.{cond_both}
 use Rattle.nam_verbs.specs.declared.now.Now.{Now}
 use Rattle.nam_verbs.specs.declared.now.Now.TheVariants.{At, Over}
-use Rattle.si_model.specs.declared.row.Item.{Item}
 use Rattle.si_model.specs.declared.log.Outcome.{Outcome}
 use Rattle.si_model.specs.declared.log.Outcome.TheVariants as outcome
 use Rattle.si_model.specs.declared.log.MoveEnd.TheVariants as moved
@@ -40,7 +39,7 @@ use Rattle.nam_calls.specs.Txn.{new_txn}
 use Rattle.nam_calls.specs.TxnCalls.{taken_now}
 use Rattle.nam_calls.specs.Scan.{scan_skip, scan_read}
 use Rattle.nam_calls.specs.Log.{with_locks, with_snap, prefix_of, unbegun}
-use Rattle.nam_calls.specs.Client.{go, answered, told, ended, committed, read_listed, items_of, new_locks, on_answer, on_call, stepped, gathered, scan_listed, scan_ended, on_skip, on_key, on_scan, on_begin, on_seek, on_move, on_snap, on_collect}
+use Rattle.nam_calls.specs.Client.{go, answered, told, ended, committed, read_listed, items_of, new_locks, on_answer, on_call, stepped, gathered, scan_listed, scan_ended, on_skip, on_scan, on_begin, on_seek, on_move, on_snap, on_collect}
 
 -- 1. Words for what comes out
 

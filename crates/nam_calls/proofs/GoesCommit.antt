@@ -1,5 +1,5 @@
 -- Where a commit goes on: first by what each of its steps has come to, then of each place whole.
-use Rattle.std.proofs.Common.{◌≡◌, ℕ, ◌+◌, Bool, true, false, List, [], ◌∷◌, ◌++◌, length, Option, None, refl}
+use Rattle.std.proofs.Common.{◌≡◌, ℕ, ◌+◌, true, false, List, [], ◌∷◌, ◌++◌, length, None, refl}
 use Rattle.std.specs.Prelude.{◌==◌}
 use Rattle.std.proofs.lemmas.Bool.{cond_both}
 use Rattle.nam_verbs.specs.declared.now.Now.{Now}
@@ -18,7 +18,6 @@ use Rattle.nam_calls.specs.declared.ring.CopyPlace.{CopyPlace}
 use Rattle.nam_calls.specs.declared.ring.CopyPlace.TheVariants.{CopyMark}
 use Rattle.nam_calls.specs.declared.record.InstallPlace.{InstallPlace}
 use Rattle.nam_calls.specs.declared.txn.TxnState.{TxnState}
-use Rattle.nam_calls.specs.declared.txn.TxnPlace.{TxnPlace}
 use Rattle.nam_calls.specs.declared.txn.TxnAnswer.{TxnAnswer}
 use Rattle.nam_calls.specs.declared.txn.TxnAnswer.TheVariants.{ReadOnly, Spent, Committed, Locked, Newer, Full}
 use Rattle.nam_calls.specs.declared.txn.CommitPlace.{CommitPlace}
@@ -27,7 +26,7 @@ use Rattle.nam_calls.specs.declared.txn.Stepped.{Stepped}
 use Rattle.nam_catalog.specs.Greatest.{greatest_number}
 use Rattle.nam_calls.specs.Record.{install_begin}
 use Rattle.nam_calls.specs.Txn.{answered}
-use Rattle.nam_calls.specs.Commit.{go, lock_at, value_at, records_of, ask_commit, next_check, on_lock, on_slot, on_return, on_words, on_copy, on_install, next_free, commit_after}
+use Rattle.nam_calls.specs.Commit.{go, lock_at, value_at, records_of, ask_commit, on_lock, on_slot, on_return, on_words, on_copy, on_install, next_free, commit_after}
 
 -- the state with all locks, and with one more count
 abbrev pub holding_locks : TxnState → List ℕ → TxnState

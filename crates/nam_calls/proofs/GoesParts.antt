@@ -1,5 +1,5 @@
 -- Where a composed call goes on, by what its part has come to: for the read, the move, and the scan.
-use Rattle.std.proofs.Common.{◌≡◌, ℕ, Bool, true, false, List, [], Option, Some, None, refl}
+use Rattle.std.proofs.Common.{◌≡◌, ℕ, true, false, List, [], Option, Some, refl}
 use Rattle.std.proofs.lemmas.Bool.{cond_both}
 use Rattle.nam_verbs.specs.declared.now.Now.{Now}
 use Rattle.nam_verbs.specs.declared.now.Now.TheVariants.{At, Over}
@@ -34,7 +34,7 @@ use Rattle.nam_calls.specs.declared.scan.ScanPlace.TheVariants.{ScanRead}
 use Rattle.nam_calls.specs.declared.scan.ScanAnswer.{ScanAnswer}
 use Rattle.nam_calls.specs.declared.scan.ScanAnswer.TheVariants as scan_answer
 use Rattle.nam_calls.specs.Ring.{ring_begin}
-use Rattle.nam_calls.specs.Overflow.{cell_begin, fill_begin}
+use Rattle.nam_calls.specs.Overflow.{cell_begin}
 use Rattle.nam_calls.specs.Horizon.{old_begin}
 use Rattle.nam_calls.specs.Record.{recheck_end}
 use Rattle.nam_calls.specs.Reading.{on_current, on_unsure, on_ring, on_cells, on_horizon, read_after}

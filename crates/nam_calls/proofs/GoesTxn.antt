@@ -1,7 +1,7 @@
 -- Where a transaction's call goes on. For any property of what comes out: if it holds at each place that may follow, and at
 -- each answer, then it holds after the word. First by what the call's part has come to, then of each place whole.
-use Rattle.std.proofs.Common.{◌≡◌, ℕ, ◌+◌, Bool, true, false, not, List, [], ◌∷◌, ◌++◌, length, Option, Some, None, refl}
-use Rattle.std.specs.Prelude.{◌==◌, if◌then◌else◌}
+use Rattle.std.proofs.Common.{◌≡◌, ℕ, Bool, true, false, not, List, Option, None, refl}
+use Rattle.std.specs.Prelude.{if◌then◌else◌}
 use Rattle.std.proofs.lemmas.Bool.{cond_both}
 use Rattle.nam_verbs.specs.declared.now.Now.{Now}
 use Rattle.nam_verbs.specs.declared.now.Now.TheVariants.{At, Over}
@@ -19,13 +19,11 @@ use Rattle.nam_calls.specs.declared.reading.ReadPlace.{ReadPlace}
 use Rattle.nam_calls.specs.declared.reading.ReadingEnd.{ReadingEnd}
 use Rattle.nam_calls.specs.declared.reading.ReadingEnd.TheVariants as read_end
 use Rattle.nam_calls.specs.declared.txn.TxnState.{TxnState}
-use Rattle.nam_calls.specs.declared.txn.TxnPlace.{TxnPlace}
 use Rattle.nam_calls.specs.declared.txn.TxnPlace.TheVariants.{Finding, Reading, Claiming}
 use Rattle.nam_calls.specs.declared.txn.TxnAnswer.{TxnAnswer}
 use Rattle.nam_calls.specs.declared.txn.TxnAnswer.TheVariants.{TooOld, NoSpace, Declined, Astray}
 use Rattle.nam_calls.specs.declared.txn.Stepped.{Stepped}
-use Rattle.nam_calls.specs.Index.{find_after, claim_key_after}
-use Rattle.nam_calls.specs.Reading.{sight_of, read_begin, read_after}
+use Rattle.nam_calls.specs.Reading.{read_begin}
 use Rattle.nam_calls.specs.Operations.{key_of, reads, claims, holding, own_value, read_of, value_in, answer_of}
 use Rattle.nam_calls.specs.Txn.{at, answered, with_op, ask_op, decided, valued, on_find, on_read, on_claim, claimed}
 use Rattle.nam_calls.specs.TxnCalls.{txn_after}

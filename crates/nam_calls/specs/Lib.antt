@@ -24,3 +24,5 @@ pub mod Schedule
 pub mod Closed
 pub mod Bound
 pub mod Grows
+pub mod Program
+pub mod ProgramRead

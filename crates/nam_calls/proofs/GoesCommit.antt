@@ -26,7 +26,8 @@ use Rattle.nam_calls.specs.declared.txn.Stepped.{Stepped}
 use Rattle.nam_catalog.specs.Greatest.{greatest_number}
 use Rattle.nam_calls.specs.Record.{install_begin}
 use Rattle.nam_calls.specs.Txn.{answered}
-use Rattle.nam_calls.specs.Commit.{go, lock_at, value_at, records_of, ask_commit, on_lock, on_slot, on_return, on_words, on_copy, on_install, next_free, commit_after}
+use Rattle.nam_calls.specs.ProgramCommit.{committing}
+use Rattle.nam_calls.specs.Commit.{go, lock_at, value_at, ask_commit, on_lock, on_slot, on_return, on_words, on_copy, on_install, next_free, commit_after}
 
 -- the state with all locks, and with one more count
 abbrev pub holding_locks : TxnState → List ℕ → TxnState
@@ -34,10 +35,6 @@ holding_locks state headers = record state { held = headers }
 
 abbrev pub with_count : TxnState → ℕ → TxnState
 with_count state count = record state { counts = state.counts ++ count ∷ [] }
-
--- the state at the commit's begin, and after a commit that takes no verb
-abbrev pub committing : TxnState → TxnState
-committing state = record state { read = None; records = records_of state; held = []; counts = [] }
 
 module _ (P : Stepped → Type 0) (state : TxnState) where
   -- 1. The commit is asked

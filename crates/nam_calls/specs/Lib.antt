@@ -26,3 +26,5 @@ pub mod Bound
 pub mod Grows
 pub mod Program
 pub mod ProgramRead
+pub mod ProgramClaim
+pub mod ProgramCommit

@@ -4,11 +4,11 @@ use Rattle.std.proofs.Math.Path.{fun_ext}
 use Rattle.std.specs.Prelude.{◌==◌, if◌then◌else◌}
 use Rattle.std.proofs.lemmas.Bool.Decides.{nat_tests}
 use Rattle.nam_verbs.specs.declared.verb.Verb.{Verb}
-use Rattle.nam_verbs.specs.declared.verb.Verb.TheVariants.{Read}
+use Rattle.nam_verbs.specs.declared.verb.Verb.TheVariants.{Read, Write}
 use Rattle.nam_verbs.specs.declared.now.Now.{Now}
 use Rattle.nam_verbs.specs.declared.now.Now.TheVariants.{At, Over}
 use Rattle.nam_calls.specs.Words.{until}
-use Rattle.nam_calls.specs.Program.{Prog, Ret, Do, ◌>>=◌, words, IsProgram, standing, taking}
+use Rattle.nam_calls.specs.Program.{Prog, Ret, Do, ◌>>=◌, words, write_words, IsProgram, standing, taking}
 
 -- 1. Tests on both sides
 
@@ -85,7 +85,30 @@ module _ {S A : Type 0} (stands : S → Now Verb A) (after : S → ℕ → S) wh
     pub words_is : 0 < width → Reads width [] (more [])
     words_is l = words_are width refl l
 
--- 4. A part of a composed call: on says what follows what the part has come to
+  -- 4. Writes one after another
+
+  module _ (address word : ℕ → ℕ) (count : ℕ) (here : ℕ → S) (done : S) (rest : Prog A)
+      (stands_here : (nth : ℕ) → stands (here nth) ≡ At (Write (address nth) (word nth)))
+      (after_here : (nth found : ℕ) → after (here nth) found ≡ (if nth + 1 == count then done else here (nth + 1)))
+      (goes_on : IsProgram stands after done rest) where
+    abbrev Writes : ℕ → ℕ → S → Type 0
+    Writes n nth call = IsProgram stands after call (write_words address word n nth >>= λ end. rest)
+
+    -- those from the nth on, where none may be left
+    pub writes_left : (n nth : ℕ) → nth + n ≡ count → Writes n nth (if nth == count then done else here nth)
+    writes_left zero nth e = at_last (Writes zero nth) nth count _ _ (omega arith) goes_on
+    writes_left (suc n) nth e =
+        before_last (Writes (suc n) nth) nth count _ _ n (omega arith) (stands_here nth, λ found.
+          subst (Writes n (nth + 1)) (sym (after_here nth found)) (writes_left n (nth + 1) (omega arith)))
+
+    writes_are : (n : ℕ) → n ≡ count → 0 < n → Writes n 0 (here 0)
+    writes_are zero e l = absurd (omega arith)
+    writes_are (suc n) e l = (stands_here 0, λ found. subst (Writes n (0 + 1)) (sym (after_here 0 found)) (writes_left n (0 + 1) (omega arith)))
+
+    pub writes_is : 0 < count → Writes count 0 (here 0)
+    writes_is l = writes_are count refl l
+
+-- 5. A part of a composed call: on says what follows what the part has come to
 
 module _ {S A P E : Type 0} (stands : S → Now Verb A) (after : S → ℕ → S) (verb : P → Verb) (part : P → ℕ → Now P E) (on : Now P E → S)
     (stands_in : (place : P) → stands (on (At place)) ≡ At (verb place))

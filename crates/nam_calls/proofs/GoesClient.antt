@@ -85,9 +85,9 @@ module _ (P : ClientState → Type 0) where
 
   pub stepped_goes : (client : ClientState) (attempt : Open) (before : ℕ) (step : Stepped)
       → ((place : TxnPlace) → step.call ≡ At place
-          → P (go (record (step_lists client before step) { txn = Some (step_opens attempt before step) }) (InTxn place)))
+      → P (go (record (step_lists client before step) { txn = Some (step_opens attempt before step) }) (InTxn place)))
       → ((answer : TxnAnswer) → step.call ≡ Over answer
-          → P (answered (on_answer (step_lists client before step) (step_opens attempt before step) answer) (client_answer.Txn answer)))
+      → P (answered (on_answer (step_lists client before step) (step_opens attempt before step) answer) (client_answer.Txn answer)))
       → P (stepped client attempt before step)
   stepped_goes client attempt before step stays over =
       on_call_goes (step_lists client before step) (step_opens attempt before step) step.call stays over
@@ -97,7 +97,7 @@ module _ (P : ClientState → Type 0) where
       → P (read_listed client attempt (items_of attempt.state.read))
       → ((outcome : Outcome) → P (ended client attempt outcome))
       → ((outcome : Outcome) → let items = items_of attempt.state.read in
-          P (ended (read_listed client attempt items) (record attempt { reads = attempt.reads + length items }) outcome))
+      P (ended (read_listed client attempt items) (record attempt { reads = attempt.reads + length items }) outcome))
       → ((number : ℕ) → answer ≡ txn_answer.Committed number → P (committed client attempt number))
       → P (on_answer client attempt answer)
   on_answer_goes client attempt (txn_answer.Value value) stays over read_over commits = stays
@@ -144,8 +144,8 @@ module _ (P : ClientState → Type 0) where
     scan_goes client attempt table low high position (Over (scan_answer.Key key)) stays listed over =
         let own = key_at table key in
         cond_both (writes_key attempt.state.writes own) _ _ P
-          (λ e. gathered_goes client attempt table low high position key (own_value attempt.state.writes own) (scan_skip shape table low high position) stays listed)
-          (λ e. on_skip_goes client attempt table low high (scan_read shape table low high position key) (stays client.scanned) (listed client.scanned))
+        (λ e. gathered_goes client attempt table low high position key (own_value attempt.state.writes own) (scan_skip shape table low high position) stays listed)
+        (λ e. on_skip_goes client attempt table low high (scan_read shape table low high position key) (stays client.scanned) (listed client.scanned))
     scan_goes client attempt table low high position (Over (scan_answer.Row item)) stays listed over =
         gathered_goes client attempt table low high position item.key item.value (scan_skip shape table low high position) stays listed
     scan_goes client attempt table low high position (Over scan_answer.Done) stays listed over = listed client.scanned
@@ -158,9 +158,9 @@ module _ (P : ClientState → Type 0) where
     pub begin_goes : (client : ClientState) (txn nth : ℕ) (now : Now SnapPlace SnapEnd)
         → ((place : SnapPlace) → now ≡ At place → P (go client (Beginning txn nth place)))
         → ((seen : List ℕ) → now ≡ Over (snap_end.Done seen)
-            → P (answered (begun client txn nth seen) (client_answer.Begun (prefix_of client.start seen))))
+        → P (answered (begun client txn nth seen) (client_answer.Begun (prefix_of client.start seen))))
         → ((worker first second : ℕ) → now ≡ Over (snap_end.Again worker first second)
-            → P (answered (told client (unbegun txn nth (outcome.Again worker first second))) (client_answer.Again worker first second)))
+        → P (answered (told client (unbegun txn nth (outcome.Again worker first second))) (client_answer.Again worker first second)))
         → P (on_begin shape client txn nth now)
     begin_goes client txn nth (At place) stays done again = stays place refl
     begin_goes client txn nth (Over (snap_end.Done seen)) stays done again = done seen refl
@@ -178,9 +178,9 @@ module _ (P : ClientState → Type 0) where
     pub move_goes : (client : ClientState) (table key position bucket : ℕ) (now : Now MovePlace MoveAnswer)
         → ((place : MovePlace) → now ≡ At place → P (go client (Moving table key position place)))
         → ((stamp : Stamp) → now ≡ Over (move_end.Moved stamp)
-            → P (answered (told client (event.Moved bucket table key stamp moved.Done)) client_answer.Moved))
+        → P (answered (told client (event.Moved bucket table key stamp moved.Done)) client_answer.Moved))
         → ((stamp : Stamp) → now ≡ Over (move_end.Back stamp)
-            → P (answered (told client (event.Moved bucket table key stamp moved.Back)) client_answer.Back))
+        → P (answered (told client (event.Moved bucket table key stamp moved.Back)) client_answer.Back))
         → (now ≡ Over move_end.Nothing → P (answered client client_answer.Nothing))
         → ((full : ℕ) → now ≡ Over (move_end.NoRoom full) → P (answered (told client (event.NoRoom full)) (client_answer.NoRoom full)))
         → P (on_move shape client table key position bucket now)
@@ -193,9 +193,9 @@ module _ (P : ClientState → Type 0) where
     pub snap_goes : (client : ClientState) (bucket : ℕ) (now : Now SnapPlace SnapEnd)
         → ((place : SnapPlace) → now ≡ At place → P (go client (Snapping bucket place)))
         → ((seen : List ℕ) → now ≡ Over (snap_end.Done seen)
-            → P (go (record client { log = with_snap client.log seen }) (Collecting bucket (prefix_of client.start seen) seen collect_begin)))
+        → P (go (record client { log = with_snap client.log seen }) (Collecting bucket (prefix_of client.start seen) seen collect_begin)))
         → ((worker first second : ℕ) → now ≡ Over (snap_end.Again worker first second)
-            → P (answered (told client (event.CollectAgain bucket worker first second)) (client_answer.Again worker first second)))
+        → P (answered (told client (event.CollectAgain bucket worker first second)) (client_answer.Again worker first second)))
         → P (on_snap shape client bucket now)
     snap_goes client bucket (At place) stays done again = stays place refl
     snap_goes client bucket (Over (snap_end.Done seen)) stays done again = done seen refl
@@ -204,7 +204,7 @@ module _ (P : ClientState → Type 0) where
     pub collect_goes : (client : ClientState) (bucket prefix : ℕ) (seen : List ℕ) (now : Now CollectPlace (List ℕ))
         → ((place : CollectPlace) → now ≡ At place → P (go client (Collecting bucket prefix seen place)))
         → ((known : List ℕ) → now ≡ Over known
-            → P (answered (told client (event.Collected bucket prefix seen false)) (client_answer.Collected known)))
+        → P (answered (told client (event.Collected bucket prefix seen false)) (client_answer.Collected known)))
         → P (on_collect shape client bucket prefix seen now)
     collect_goes client bucket prefix seen (At place) stays done = stays place refl
     collect_goes client bucket prefix seen (Over known) stays done = done known refl

@@ -46,7 +46,7 @@ module _ (P : Stepped → Type 0) (state : TxnState) where
       → P (ask_commit shape state)
   ask_commit_goes shape read_only spent locking =
       cond_both (length state.writes == 0) _ _ P read_only
-        (λ e. cond_both (state.last == greatest_number shape.form) _ _ P (spent e) (locking e))
+      (λ e. cond_both (state.last == greatest_number shape.form) _ _ P (spent e) (locking e))
 
   -- 2. By what a step has come to
 
@@ -64,9 +64,9 @@ module _ (P : Stepped → Type 0) (state : TxnState) where
   pub on_slot_goes : (now : Now SlotPlace SlotEnd)
       → ((place : SlotPlace) → now ≡ At place → P (go state (Checking place)))
       → ((count : ℕ) → now ≡ Over (Free count) → (length (state.counts ++ count ∷ []) == length state.writes) ≡ true
-          → P (go (with_count state count) (Saving 0 [])))
+      → P (go (with_count state count) (Saving 0 [])))
       → ((count : ℕ) → now ≡ Over (Free count) → (length (state.counts ++ count ∷ []) == length state.writes) ≡ false
-          → P (go (with_count state count) (Checking CheckCount)))
+      → P (go (with_count state count) (Checking CheckCount)))
       → ((slot found : ℕ) → now ≡ Over (NotMoved slot found) → P (go state (Returning 0 (lock_at state (length state.counts) found))))
       → P (on_slot state now)
   on_slot_goes (At place) stays last next full = stays place refl
@@ -119,10 +119,10 @@ module _ (P : Stepped → Type 0) (state : TxnState) where
       → P (commit_after state place found)
   commit_goes (Locking at) found stays held counted answer =
       on_lock_goes _ (λ next e. stays (Locking next)) (λ headers e. held headers)
-        (λ nth word e. answer (Locked (lock_at state nth word))) (λ nth word e. answer (Newer (lock_at state nth word)))
+      (λ nth word e. answer (Locked (lock_at state nth word))) (λ nth word e. answer (Newer (lock_at state nth word)))
   commit_goes (Checking at) found stays held counted answer =
       on_slot_goes _ (λ next e. stays (Checking next)) (λ count e f. counted count (Saving 0 [])) (λ count e f. counted count (Checking CheckCount))
-        (λ slot word e. stays (Returning 0 (lock_at state (length state.counts) word)))
+      (λ slot word e. stays (Returning 0 (lock_at state (length state.counts) word)))
   commit_goes (Returning given full) found stays held counted answer =
       on_return_goes full _ (λ next e. stays (Returning next full)) (λ e. answer (Full full))
   commit_goes (Saving nth got) found stays held counted answer =

@@ -59,16 +59,16 @@ module _ (shape : Shape) (P : Stepped → Type 0) (op : Op) where
 
   pub ask_goes : (state : TxnState)
       → (writes_key state.writes (key_of op) ≡ true → let own = own_value state.writes (key_of op) in
-          passes op (holding own) ≡ false → P (answered (knowing state op own) Declined))
+      passes op (holding own) ≡ false → P (answered (knowing state op own) Declined))
       → (writes_key state.writes (key_of op) ≡ true → let own = own_value state.writes (key_of op) in
-          passes op (holding own) ≡ true → P (answered (with_op shape (knowing state op own) op own) (answer_of op own)))
+      passes op (holding own) ≡ true → P (answered (with_op shape (knowing state op own) op own) (answer_of op own)))
       → (writes_key state.writes (key_of op) ≡ false → reads op ≡ true → P (at (record state { read = None }) (Finding op 0)))
       → (writes_key state.writes (key_of op) ≡ false → reads op ≡ false → P (at (record state { read = None }) (Claiming op (KeyLook 0))))
       → P (ask_op shape state op)
   ask_goes state declined own finding claiming =
       cond_both (writes_key state.writes (key_of op)) _ _ P
-        (λ e. by_not P (passes op (holding (own_value state.writes (key_of op)))) _ _ (declined e) (own e))
-        (λ e. cond_both (reads op) _ _ P (finding e) (claiming e))
+      (λ e. by_not P (passes op (holding (own_value state.writes (key_of op)))) _ _ (declined e) (own e))
+      (λ e. cond_both (reads op) _ _ P (finding e) (claiming e))
 
   -- 3. By what the part has come to
 
@@ -120,7 +120,7 @@ module _ (shape : Shape) (P : Stepped → Type 0) (op : Op) where
       → P (txn_after shape state (Reading op position place) found)
   reading_goes state position place found stays claiming answer ended =
       on_read_goes state position _ (λ next e. stays next) (λ value e. valued_goes state value (claiming value) (answer value))
-        (λ worker entry horizon e. ended (TooOld worker entry horizon)) (λ e. ended Astray)
+      (λ worker entry horizon e. ended (TooOld worker entry horizon)) (λ e. ended Astray)
 
   pub claiming_goes : (state : TxnState) (place : ClaimKeyPlace) (found : ℕ)
       → ((next : ClaimKeyPlace) → P (at state (Claiming op next)))

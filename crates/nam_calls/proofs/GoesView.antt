@@ -20,10 +20,11 @@ use Rattle.nam_calls.specs.declared.client.CallPlace.TheVariants.{Beginning, InT
 use Rattle.nam_calls.specs.declared.client.Open.{Open}
 use Rattle.nam_calls.specs.declared.client.ClientState.{ClientState}
 use Rattle.nam_calls.specs.Record.{install_begin}
+use Rattle.nam_calls.specs.Txn.{ask_op}
 use Rattle.nam_calls.specs.TxnCalls.{txn_after}
 use Rattle.nam_calls.specs.Commit.{value_at}
 use Rattle.nam_calls.specs.Client.{go, stepped, take_txn, take_scan, client_after}
-use Rattle.nam_calls.proofs.GoesTxn.{finding_goes, reading_goes, claiming_goes}
+use Rattle.nam_calls.proofs.GoesTxn.{ask_goes, finding_goes, reading_goes, claiming_goes}
 use Rattle.nam_calls.proofs.GoesCommit.{on_copy_goes}
 use Rattle.nam_calls.proofs.GoesClient.{scan_goes, begin_goes, seek_goes, move_goes, snap_goes, collect_goes}
 
@@ -64,14 +65,17 @@ module _ (shape : Shape) (client : ClientState) (attempt : Open) where
   pub claiming_quiet : (op : Op) (place : ClaimKeyPlace) (found : ℕ) → Quiet (txn_after shape attempt.state (Claiming op place) found)
   claiming_quiet op place found = claiming_goes shape Quiet op attempt.state place found (λ next. refl) refl (λ position. refl)
 
+  pub ask_quiet : (op : Op) → Quiet (ask_op shape attempt.state op)
+  ask_quiet op = ask_goes shape Quiet op attempt.state (λ e f. refl) (λ e f. refl) (λ e f. refl) (λ e f. refl)
+
   -- a commit that copies keeps its records and its locks
   pub copying_keeps : (nth before found : ℕ) (old : List ℕ) (at : CopyPlace)
       → (next : CommitPlace) × (commit_view (stepped client attempt before (txn_after shape attempt.state (Committing (Copying nth old at)) found))
-          ≡ Some record { records = attempt.state.records; held = attempt.state.held; place = next })
+      ≡ Some record { records = attempt.state.records; held = attempt.state.held; place = next })
   copying_keeps nth before found old at =
       on_copy_goes (λ step. (next : CommitPlace) × (commit_view (stepped client attempt before step)
-          ≡ Some record { records = attempt.state.records; held = attempt.state.held; place = next })) attempt.state nth old _
-        (λ place e. (Copying nth old place, refl)) (λ e. (Installing nth (install_begin (value_at attempt.state nth)), refl))
+      ≡ Some record { records = attempt.state.records; held = attempt.state.held; place = next })) attempt.state nth old _
+      (λ place e. (Copying nth old place, refl)) (λ e. (Installing nth (install_begin (value_at attempt.state nth)), refl))
 
 -- 3. So is each word of a client that commits nothing
 

@@ -124,7 +124,7 @@ stepped_grows client attempt before step =
     let locks = new_locks step.state before (taken_now step.state step.call) in
     let log = with_locks client.log locks in
     grows_trans client.log log _ (locks_grow client.log locks)
-      (on_call_grows (record client { log = log }) (record attempt { locks = attempt.locks + length locks; state = step.state }) step.call)
+    (on_call_grows (record client { log = log }) (record attempt { locks = attempt.locks + length locks; state = step.state }) step.call)
 
 -- 3. What a scan lists
 
@@ -149,8 +149,8 @@ module _ (shape : Shape) where
   key_grows client attempt table low high position key =
       let own = key_at table key in
       cond_both (writes_key attempt.state.writes own) _ _ (λ (c : ClientState). Grows client.log c.log)
-        (λ e. gathered_skip_grows client attempt table low high position key (own_value attempt.state.writes own) (scan_skip shape table low high position))
-        (λ e. skip_grows client attempt table low high (scan_read shape table low high position key))
+      (λ e. gathered_skip_grows client attempt table low high position key (own_value attempt.state.writes own) (scan_skip shape table low high position))
+      (λ e. skip_grows client attempt table low high (scan_read shape table low high position key))
 
   scan_grows : (client : ClientState) (attempt : Open) (table low high position : ℕ) (now : Now ScanPlace ScanAnswer)
       → Grows client.log (on_scan shape client attempt table low high position now).log

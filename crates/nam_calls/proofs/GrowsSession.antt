@@ -21,25 +21,25 @@ module _ (shape : Shape) where
   -- what stands after a call that was asked, and what a call leaves
   asked_grows : (calls : ℕ) (session : SessionState) (client : ClientState) (answer : Option Answer)
       → ((s : SessionState) → Kept s.client.log (settle shape calls s)) → Kept client.log (elim answer [
-          | None ↦ record session { client = client }
-          | Some answer ↦ settle shape calls (taken session client answer)
-        ])
+        | None ↦ record session { client = client }
+        | Some answer ↦ settle shape calls (taken session client answer)
+      ])
   asked_grows calls session client None later = grows_same client.log
   asked_grows calls session client (Some answer) later = later (taken session client answer)
 
   next_grows : (calls : ℕ) (session : SessionState) (call : Option Call)
       → ((s : SessionState) → Kept s.client.log (settle shape calls s)) → Kept session.client.log (elim call [
-          | None ↦ session
-          | Some call ↦ elim (answer_now (client_ask shape session.client call).call) [
-            | None ↦ record session { client = client_ask shape session.client call }
-            | Some answer ↦ settle shape calls (taken session (client_ask shape session.client call) answer)
-          ]
-        ])
+        | None ↦ session
+        | Some call ↦ elim (answer_now (client_ask shape session.client call).call) [
+          | None ↦ record session { client = client_ask shape session.client call }
+          | Some answer ↦ settle shape calls (taken session (client_ask shape session.client call) answer)
+        ]
+      ])
   next_grows calls session None later = grows_same session.client.log
   next_grows calls session (Some call) later =
       let client = client_ask shape session.client call in
       grows_trans session.client.log client.log _ (ask_grows shape session.client call)
-        (asked_grows calls session client (answer_now client.call) later)
+      (asked_grows calls session client (answer_now client.call) later)
 
   settle_grows : (calls : ℕ) (session : SessionState) → Kept session.client.log (settle shape calls session)
   unfolding settle
@@ -50,7 +50,7 @@ module _ (shape : Shape) where
   session_word_grows session found =
       let client = client_after shape session.client found in
       grows_trans session.client.log client.log _ (word_grows shape session.client found)
-        (asked_grows (calls_at_most session.jobs) session client (answer_now client.call) (settle_grows (calls_at_most session.jobs)))
+      (asked_grows (calls_at_most session.jobs) session client (answer_now client.call) (settle_grows (calls_at_most session.jobs)))
 
   session_cut_is : (session : SessionState) (b : Bool)
       → (if b then session else record session { client = client_cut session.client }).client.log ≡ session.client.log

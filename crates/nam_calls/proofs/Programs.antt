@@ -8,7 +8,7 @@ use Rattle.nam_verbs.specs.declared.verb.Verb.TheVariants.{Read, Write}
 use Rattle.nam_verbs.specs.declared.now.Now.{Now}
 use Rattle.nam_verbs.specs.declared.now.Now.TheVariants.{At, Over}
 use Rattle.nam_calls.specs.Words.{until}
-use Rattle.nam_calls.specs.Program.{Prog, Ret, Do, ◌>>=◌, words, write_words, IsProgram, standing, taking}
+use Rattle.nam_calls.specs.Program.{Prog, Ret, Do, ◌>>=◌, words, write_words, IsProgram, IsTheProgram, standing, taking}
 
 -- 1. Tests on both sides
 
@@ -18,9 +18,13 @@ module _ {X Y : Type 0} (F : X → Y → Type 0) where
   both false x x' y y' f g = g refl
 
   -- where the program asks for the opposite
-  pub both_not : (b : Bool) (x x' : X) (y y' : Y) → (b ≡ true → F x y) → (b ≡ false → F x' y') → F (if b then x else x') (if not b then y' else y)
-  both_not true x x' y y' f g = f refl
-  both_not false x x' y y' f g = g refl
+  pub both_not : (b : Bool) (x x' : X) (y y' : Y) → (b ≡ false → F x' y') → (b ≡ true → F x y) → F (if b then x else x') (if not b then y' else y)
+  both_not true x x' y y' f g = g refl
+  both_not false x x' y y' f g = f refl
+
+-- a verb that stands, and what follows its word
+pub word_then : {A B : Type 0} → A → B → A × B
+word_then here next = (here, next)
 
 -- the last of so many, or another one
 module _ {X : Type 0} (F : X → Type 0) (nth count : ℕ) (last more : X) where
@@ -54,36 +58,39 @@ module _ {S A : Type 0} (stands : S → Now Verb A) (after : S → ℕ → S) wh
       let e : v ≡ w = cc in
       ap (λ k. Do v k) (fun_ext (λ found. program_unique (after call found) (next found) (other found) (f.1 found) (g.1 found))) ∙ ap (λ k. Do k other) e
 
+  pub the_program : (call : S) (p : Prog A) → IsProgram stands after call p → IsTheProgram stands after call p
+  the_program call p f = record { does = f; only = λ other g. program_unique call other p g f }
+
   -- 3. Words
 
   -- places for the words got so far, and after the last
   module _ (address : ℕ → ℕ) (width : ℕ) (more done : List ℕ → S) (rest : List ℕ → Prog A)
       (stands_more : (got : List ℕ) → stands (more got) ≡ At (Read (address (length got))))
       (after_more : (got : List ℕ) (word : ℕ) → after (more got) word ≡ until width (got ++ word ∷ []) more done)
-      (goes_on : (got : List ℕ) → length got ≡ width → IsProgram stands after (done got) (rest got)) where
+      (wide : 0 < width) (goes_on : (got : List ℕ) → length got ≡ width → IsProgram stands after (done got) (rest got)) where
     abbrev Reads : ℕ → List ℕ → S → Type 0
     Reads n got call = IsProgram stands after call (words address n got >>= rest)
 
     words_from : (n : ℕ) (got : List ℕ) → length got + suc n ≡ width → Reads (suc n) got (more got)
-    words_from zero got e = (stands_more got, λ word.
+    words_from zero got e = word_then (stands_more got) λ word.
         let l = length-append got (word ∷ []) in
         let t : (length (got ++ word ∷ []) == width) ≡ true = grind (arith, nat_tests) in
         subst (Reads zero (got ++ word ∷ [])) (sym (after_more got word))
-          (subst (λ b. Reads zero (got ++ word ∷ []) (if b then done (got ++ word ∷ []) else more (got ++ word ∷ []))) (sym t)
-            (goes_on (got ++ word ∷ []) (omega arith))))
-    words_from (suc n) got e = (stands_more got, λ word.
+        (subst (λ b. Reads zero (got ++ word ∷ []) (if b then done (got ++ word ∷ []) else more (got ++ word ∷ []))) (sym t)
+        (goes_on (got ++ word ∷ []) (omega arith)))
+    words_from (suc n) got e = word_then (stands_more got) λ word.
         let l = length-append got (word ∷ []) in
         let t : (length (got ++ word ∷ []) == width) ≡ false = grind (arith, nat_tests) in
         subst (Reads (suc n) (got ++ word ∷ [])) (sym (after_more got word))
-          (subst (λ b. Reads (suc n) (got ++ word ∷ []) (if b then done (got ++ word ∷ []) else more (got ++ word ∷ []))) (sym t)
-            (words_from n (got ++ word ∷ []) (omega arith))))
+        (subst (λ b. Reads (suc n) (got ++ word ∷ []) (if b then done (got ++ word ∷ []) else more (got ++ word ∷ []))) (sym t)
+        (words_from n (got ++ word ∷ []) (omega arith)))
 
-    words_are : (w : ℕ) → w ≡ width → 0 < w → Reads w [] (more [])
-    words_are zero e l = absurd (omega arith)
-    words_are (suc n) e l = words_from n [] (omega arith)
+    words_are : (w : ℕ) → w ≡ width → Reads w [] (more [])
+    words_are zero e = absurd (omega arith)
+    words_are (suc n) e = words_from n [] (omega arith)
 
-    pub words_is : 0 < width → Reads width [] (more [])
-    words_is l = words_are width refl l
+    pub words_is : Reads width [] (more [])
+    words_is = words_are width refl
 
   -- 4. Writes one after another
 
@@ -98,12 +105,13 @@ module _ {S A : Type 0} (stands : S → Now Verb A) (after : S → ℕ → S) wh
     pub writes_left : (n nth : ℕ) → nth + n ≡ count → Writes n nth (if nth == count then done else here nth)
     writes_left zero nth e = at_last (Writes zero nth) nth count _ _ (omega arith) goes_on
     writes_left (suc n) nth e =
-        before_last (Writes (suc n) nth) nth count _ _ n (omega arith) (stands_here nth, λ found.
-          subst (Writes n (nth + 1)) (sym (after_here nth found)) (writes_left n (nth + 1) (omega arith)))
+        before_last (Writes (suc n) nth) nth count _ _ n (omega arith) (word_then (stands_here nth) λ found.
+        subst (Writes n (nth + 1)) (sym (after_here nth found)) (writes_left n (nth + 1) (omega arith)))
 
     writes_are : (n : ℕ) → n ≡ count → 0 < n → Writes n 0 (here 0)
     writes_are zero e l = absurd (omega arith)
-    writes_are (suc n) e l = (stands_here 0, λ found. subst (Writes n (0 + 1)) (sym (after_here 0 found)) (writes_left n (0 + 1) (omega arith)))
+    writes_are (suc n) e l = word_then (stands_here 0) λ found.
+        subst (Writes n (0 + 1)) (sym (after_here 0 found)) (writes_left n (0 + 1) (omega arith))
 
     pub writes_is : 0 < count → Writes count 0 (here 0)
     writes_is l = writes_are count refl l
@@ -118,5 +126,7 @@ module _ {S A P E : Type 0} (stands : S → Now Verb A) (after : S → ℕ → S
   part_is (Over end) (Ret answer) f = let e : end ≡ answer = cc in subst (λ k. IsProgram stands after (on (Over end)) (rest k)) e (goes_on end)
   part_is (At place) (Ret answer) f = absurd (cc)
   part_is (Over end) (Do v next) f = absurd (cc)
-  part_is (At place) (Do v next) f = let here = f.0 in let same : verb place ≡ v = cc in (stands_in place ∙ ap At same, λ found.
-      subst (λ call. IsProgram stands after call (next found >>= rest)) (sym (after_in place found)) (part_is (part place found) (next found) (f.1 found)))
+  part_is (At place) (Do v next) f =
+      let here = f.0 in let same : verb place ≡ v = cc in
+      word_then (stands_in place ∙ ap At same) λ found.
+      subst (λ call. IsProgram stands after call (next found >>= rest)) (sym (after_in place found)) (part_is (part place found) (next found) (f.1 found))

@@ -55,6 +55,11 @@ module _ {S A : Type 0} (stands : S → Now Verb A) (after : S → ℕ → S) wh
   IsProgram call (Ret answer) = stands call ≡ Over answer
   IsProgram call (Do verb next) = (stands call ≡ At verb) × ((found : ℕ) → IsProgram (after call found) (next found))
 
+  -- and it does what no other program says
+  pub record IsTheProgram (call : S) (program : Prog A) : Type 0 where
+    pub does : IsProgram call program
+    pub only : (other : Prog A) → IsProgram call other → other ≡ program
+
 module _ {P E : Type 0} where
   -- the verb of a call at a place, and the call after a word
   abbrev pub standing : (P → Verb) → Now P E → Now Verb E

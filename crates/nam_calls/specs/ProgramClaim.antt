@@ -8,7 +8,7 @@ use Rattle.nam_calls.specs.declared.index.ClaimKeyEnd.{ClaimKeyEnd}
 use Rattle.nam_calls.specs.declared.index.ClaimKeyEnd.TheVariants as claimed_key
 use Rattle.nam_calls.specs.Words.{capacity_of, on_path, path_at, key_word}
 use Rattle.nam_calls.specs.Index.{find_begin, find_verb, find_after, claim_key_begin, claim_key_verb, claim_key_after}
-use Rattle.nam_calls.specs.Program.{Prog, Ret, ◌>>=◌, read, exchange, IsProgram, standing, taking}
+use Rattle.nam_calls.specs.Program.{Prog, Ret, ◌>>=◌, read, exchange, IsTheProgram, standing, taking}
 
 module _ (shape : Shape) (table key : ℕ) where
   abbrev pub here : ℕ → ℕ
@@ -40,6 +40,6 @@ module _ (shape : Shape) (table key : ℕ) where
 -- in a table that has positions, the search for a key and the claim of its position do what their programs say
 pub record ClaimIsProgram : Type 0 where
   pub find : (shape : Shape) (table key : ℕ) → 0 < capacity_of shape table
-      → IsProgram (standing (find_verb shape table key)) (taking (find_after shape table key)) (At (find_begin shape table key)) (find_program shape table key)
+      → IsTheProgram (standing (find_verb shape table key)) (taking (find_after shape table key)) (At (find_begin shape table key)) (find_program shape table key)
   pub claim : (shape : Shape) (table key : ℕ) → 0 < capacity_of shape table
-      → IsProgram (standing (claim_key_verb shape table key)) (taking (claim_key_after shape table key)) (At (claim_key_begin shape table key)) (claim_program shape table key)
+      → IsTheProgram (standing (claim_key_verb shape table key)) (taking (claim_key_after shape table key)) (At (claim_key_begin shape table key)) (claim_program shape table key)

@@ -19,7 +19,7 @@ use Rattle.nam_calls.specs.Record.{word_in}
 use Rattle.nam_calls.specs.Lock.{nth_place, loss_of}
 use Rattle.nam_calls.specs.Commit.{places, place_at, value_at, lock_at, own_stamp, new_header, records_of, ask_commit}
 use Rattle.nam_calls.specs.TxnCalls.{txn_verb, txn_after}
-use Rattle.nam_calls.specs.Program.{Prog, Ret, ◌>>=◌, ◌>>◌, read, exchange, write, words, write_words, IsProgram, standing}
+use Rattle.nam_calls.specs.Program.{Prog, Ret, ◌>>=◌, ◌>>◌, read, exchange, write, words, write_words, IsTheProgram, standing}
 
 -- the headers of so many records, from the nth on, are written back
 abbrev pub write_back : List Place → List ℕ → ℕ → ℕ → Prog (Unit {0})
@@ -127,4 +127,4 @@ module _ (shape : Shape) where
 abbrev pub CommitIsProgram : Type 0
 CommitIsProgram = (shape : Shape) (state : TxnState)
     → ((nth : ℕ) → nth < length state.writes → 0 < (place_at (committing state) nth).width)
-    → IsProgram (txn_stands shape) (txn_takes shape) (ask_commit shape state) (commit_program shape state)
+    → IsTheProgram (txn_stands shape) (txn_takes shape) (ask_commit shape state) (commit_program shape state)

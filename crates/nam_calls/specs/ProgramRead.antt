@@ -13,7 +13,7 @@ use Rattle.nam_calls.specs.declared.reading.ReadingEnd.TheVariants.{Got, Passed,
 use Rattle.nam_calls.specs.Stamps.{sees, is_deleted, is_locked, same_stamp, mark, is_full}
 use Rattle.nam_calls.specs.Words.{word_at, slot_at, slot_end_at, slot_word_at, tag_at, owner_at, begin_at, end_at, cell_word_at, horizon_at}
 use Rattle.nam_calls.specs.Reading.{read_begin, read_verb, read_after}
-use Rattle.nam_calls.specs.Program.{Prog, Ret, ◌>>=◌, read, words, IsProgram, standing, taking}
+use Rattle.nam_calls.specs.Program.{Prog, Ret, ◌>>=◌, read, words, IsTheProgram, standing, taking}
 
 module _ (place : Place) (seen : List ℕ) where
   -- the search of the ring: so many slots, from this one on
@@ -97,4 +97,4 @@ pub record SightHasAll (sight : Sight) : Type 0 where
 -- the read does what its program says
 abbrev pub ReadIsProgram : Type 0
 ReadIsProgram = (sight : Sight) (seen : List ℕ) → SightHasAll sight
-    → IsProgram (standing (read_verb sight)) (taking (read_after sight seen)) (At read_begin) (read_program sight seen)
+    → IsTheProgram (standing (read_verb sight)) (taking (read_after sight seen)) (At read_begin) (read_program sight seen)

@@ -23,7 +23,6 @@ use Rattle.nam_calls.specs.declared.mover.MoveAnswer.TheVariants as move_end
 use Rattle.nam_calls.specs.declared.txn.TxnPlace.{TxnPlace}
 use Rattle.nam_calls.specs.declared.txn.TxnAnswer.{TxnAnswer}
 use Rattle.nam_calls.specs.declared.txn.TxnAnswer.TheVariants as txn_answer
-use Rattle.nam_calls.specs.declared.txn.Stepped.{Stepped}
 use Rattle.nam_calls.specs.declared.scan.ScanPlace.{ScanPlace}
 use Rattle.nam_calls.specs.declared.scan.ScanAnswer.{ScanAnswer}
 use Rattle.nam_calls.specs.declared.scan.ScanAnswer.TheVariants as scan_answer
@@ -35,29 +34,20 @@ use Rattle.nam_calls.specs.declared.client.ClientState.{ClientState}
 use Rattle.nam_calls.specs.Mover.{move_begin}
 use Rattle.nam_calls.specs.Horizon.{collect_begin}
 use Rattle.nam_calls.specs.Operations.{own_value}
-use Rattle.nam_calls.specs.Txn.{new_txn}
+use Rattle.nam_calls.specs.Txn.{Stepped, new_txn}
 use Rattle.nam_calls.specs.TxnCalls.{taken_now}
 use Rattle.nam_calls.specs.Scan.{scan_skip, scan_read}
 use Rattle.nam_calls.specs.Log.{with_locks, with_snap, prefix_of, unbegun}
-use Rattle.nam_calls.specs.Client.{go, answered, told, ended, committed, read_listed, items_of, new_locks, on_answer, on_call, stepped, gathered, scan_listed, scan_ended, on_skip, on_scan, on_begin, on_seek, on_move, on_snap, on_collect}
+use Rattle.nam_calls.specs.Telling.{go, answered, opened, told, ended, committed, with_read, read_listed, read_ended, items_of, new_locks, on_answer, on_call, stepped}
+use Rattle.nam_calls.specs.ScanCall.{gathered, scan_listed, scan_ended, on_skip, on_key, on_scan}
+use Rattle.nam_calls.specs.Client.{on_begin, on_seek, on_move, on_snap, on_collect}
 
 -- 1. Words for what comes out
 
--- the transaction that a begin opens on this snapshot
-abbrev pub opened : ClientState → ℕ → ℕ → List ℕ → Open
-opened client txn nth seen = record {
-  txn = txn;
-  nth = nth;
-  prefix = prefix_of client.start seen;
-  ops = 0;
-  weight = 0;
-  reads = 0;
-  locks = 0;
-  state = new_txn client.worker client.last seen;
-}
-
+-- the client that has begun a transaction on this snapshot
 abbrev pub begun : ClientState → ℕ → ℕ → List ℕ → ClientState
-begun client txn nth seen = record client { log = with_snap client.log seen; txn = Some (opened client txn nth seen) }
+begun client txn nth seen =
+    record client { log = with_snap client.log seen; txn = Some (opened client txn nth (prefix_of client.start seen) seen) }
 
 -- the client with these rows of a scan
 abbrev pub with_rows : ClientState → List Scanned → ClientState
@@ -121,14 +111,14 @@ module _ (P : ClientState → Type 0) where
     on_skip_goes : (client : ClientState) (attempt : Open) (table low high : ℕ) (now : Now ScanPlace ScanAnswer)
         → ((place : ScanPlace) → P (go client (Scanning table low high place)))
         → P (scan_listed client attempt table)
-        → P (on_skip shape client attempt table low high now)
+        → P (on_skip client attempt table low high now)
     on_skip_goes client attempt table low high (At place) stays listed = stays place
     on_skip_goes client attempt table low high (Over end) stays listed = listed
 
     gathered_goes : (client : ClientState) (attempt : Open) (table low high position key : ℕ) (value : Option (List ℕ)) (now : Now ScanPlace ScanAnswer)
         → ((rows : List Scanned) (place : ScanPlace) → P (go (with_rows client rows) (Scanning table low high place)))
         → ((rows : List Scanned) → P (scan_listed (with_rows client rows) attempt table))
-        → P (on_skip shape (gathered client position key value) attempt table low high now)
+        → P (on_skip (gathered client position key value) attempt table low high now)
     gathered_goes client attempt table low high position key None now stays listed =
         on_skip_goes client attempt table low high now (stays client.scanned) (listed client.scanned)
     gathered_goes client attempt table low high position key (Some value) now stays listed =
@@ -144,10 +134,10 @@ module _ (P : ClientState → Type 0) where
     scan_goes client attempt table low high position (Over (scan_answer.Key key)) stays listed over =
         let own = key_at table key in
         cond_both (writes_key attempt.state.writes own) _ _ P
-        (λ e. gathered_goes client attempt table low high position key (own_value attempt.state.writes own) (scan_skip shape table low high position) stays listed)
-        (λ e. on_skip_goes client attempt table low high (scan_read shape table low high position key) (stays client.scanned) (listed client.scanned))
+        (λ e. gathered_goes client attempt table low high position key (own_value attempt.state.writes own) (scan_skip shape table position) stays listed)
+        (λ e. on_skip_goes client attempt table low high (scan_read position key) (stays client.scanned) (listed client.scanned))
     scan_goes client attempt table low high position (Over (scan_answer.Row item)) stays listed over =
-        gathered_goes client attempt table low high position item.key item.value (scan_skip shape table low high position) stays listed
+        gathered_goes client attempt table low high position item.key item.value (scan_skip shape table position) stays listed
     scan_goes client attempt table low high position (Over scan_answer.Done) stays listed over = listed client.scanned
     scan_goes client attempt table low high position (Over (scan_answer.TooOld worker entry horizon)) stays listed over =
         over (outcome.TooOld worker entry horizon) (txn_answer.TooOld worker entry horizon)

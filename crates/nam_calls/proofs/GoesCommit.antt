@@ -22,10 +22,9 @@ use Rattle.nam_calls.specs.declared.txn.TxnAnswer.{TxnAnswer}
 use Rattle.nam_calls.specs.declared.txn.TxnAnswer.TheVariants.{ReadOnly, Spent, Committed, Locked, Newer, Full}
 use Rattle.nam_calls.specs.declared.txn.CommitPlace.{CommitPlace}
 use Rattle.nam_calls.specs.declared.txn.CommitPlace.TheVariants.{Locking, Checking, Returning, Saving, Copying, Installing, Publishing, Freeing}
-use Rattle.nam_calls.specs.declared.txn.Stepped.{Stepped}
 use Rattle.nam_catalog.specs.Greatest.{greatest_number}
 use Rattle.nam_calls.specs.Record.{install_begin}
-use Rattle.nam_calls.specs.Txn.{answered}
+use Rattle.nam_calls.specs.Txn.{Stepped, answered}
 use Rattle.nam_calls.specs.ProgramCommit.{committing}
 use Rattle.nam_calls.specs.Commit.{go, lock_at, value_at, ask_commit, on_lock, on_slot, on_return, on_words, on_copy, on_install, next_free, commit_after}
 

@@ -4,7 +4,6 @@ use Rattle.std.proofs.lemmas.Bool.{cond_both}
 use Rattle.nam_verbs.specs.declared.now.Now.{Now}
 use Rattle.nam_verbs.specs.declared.now.Now.TheVariants.{At, Over}
 use Rattle.si_model.specs.Rows.{key_at, item_at}
-use Rattle.nam_catalog.specs.declared.shape.Shape.{Shape}
 use Rattle.nam_layout.specs.declared.field.Cells.{Cells}
 use Rattle.nam_calls.specs.declared.record.CurrentPlace.{CurrentPlace}
 use Rattle.nam_calls.specs.declared.record.CurrentEnd.{CurrentEnd}
@@ -118,13 +117,13 @@ module _ (P : Now MovePlace MoveAnswer → Type 0) where
 
 -- 3. The scan
 
-module _ (shape : Shape) (table low high : ℕ) (P : Now ScanPlace ScanAnswer → Type 0) where
+module _ (table : ℕ) (P : Now ScanPlace ScanAnswer → Type 0) where
   pub scan_read_goes : (position key : ℕ) (now : Now ReadPlace ReadingEnd)
       → ((place : ReadPlace) → now ≡ At place → P (At (ScanRead position key place)))
       → ((value : Option (List ℕ)) → now ≡ Over (read_end.Got value) → P (Over (scan_answer.Row (item_at (key_at table key) value))))
       → ((worker entry horizon : ℕ) → now ≡ Over (read_end.Passed worker entry horizon) → P (Over (scan_answer.TooOld worker entry horizon)))
       → (now ≡ Over read_end.Astray → P (Over scan_answer.Astray))
-      → P (on_scan_read shape table low high position key now)
+      → P (on_scan_read table position key now)
   scan_read_goes position key (At place) stays found passed astray = stays place refl
   scan_read_goes position key (Over (read_end.Got value)) stays found passed astray = found value refl
   scan_read_goes position key (Over (read_end.Passed worker entry horizon)) stays found passed astray = passed worker entry horizon refl

@@ -22,10 +22,9 @@ use Rattle.nam_calls.specs.declared.txn.TxnState.{TxnState}
 use Rattle.nam_calls.specs.declared.txn.TxnPlace.TheVariants.{Finding, Reading, Claiming}
 use Rattle.nam_calls.specs.declared.txn.TxnAnswer.{TxnAnswer}
 use Rattle.nam_calls.specs.declared.txn.TxnAnswer.TheVariants.{TooOld, NoSpace, Declined, Astray}
-use Rattle.nam_calls.specs.declared.txn.Stepped.{Stepped}
 use Rattle.nam_calls.specs.Reading.{read_begin}
 use Rattle.nam_calls.specs.Operations.{key_of, reads, claims, holding, own_value, read_of, value_in, answer_of}
-use Rattle.nam_calls.specs.Txn.{at, answered, with_op, ask_op, decided, valued, on_find, on_read, on_claim, claimed}
+use Rattle.nam_calls.specs.Txn.{Stepped, at, answered, with_op, ask_op, decided, valued, on_find, on_read, on_claim, claimed}
 use Rattle.nam_calls.specs.TxnCalls.{txn_after}
 
 -- the state once the value is known

@@ -13,17 +13,17 @@ use Rattle.nam_calls.specs.declared.txn.CommitPlace.{CommitPlace}
 use Rattle.nam_calls.specs.declared.txn.CommitPlace.TheVariants.{Copying, Installing}
 use Rattle.nam_calls.specs.declared.txn.TxnPlace.{TxnPlace}
 use Rattle.nam_calls.specs.declared.txn.TxnPlace.TheVariants.{Finding, Reading, Claiming, Committing}
-use Rattle.nam_calls.specs.declared.txn.Stepped.{Stepped}
 use Rattle.nam_calls.specs.declared.client.Answer.{Answer}
 use Rattle.nam_calls.specs.declared.client.CallPlace.{CallPlace}
 use Rattle.nam_calls.specs.declared.client.CallPlace.TheVariants.{Beginning, InTxn, Scanning, Seeking, Moving, Snapping, Collecting}
 use Rattle.nam_calls.specs.declared.client.Open.{Open}
 use Rattle.nam_calls.specs.declared.client.ClientState.{ClientState}
 use Rattle.nam_calls.specs.Record.{install_begin}
-use Rattle.nam_calls.specs.Txn.{ask_op}
+use Rattle.nam_calls.specs.Txn.{Stepped, ask_op}
 use Rattle.nam_calls.specs.TxnCalls.{txn_after}
 use Rattle.nam_calls.specs.Commit.{value_at}
-use Rattle.nam_calls.specs.Client.{go, stepped, take_txn, take_scan, client_after}
+use Rattle.nam_calls.specs.Telling.{go, stepped}
+use Rattle.nam_calls.specs.Client.{take_txn, take_scan, client_after}
 use Rattle.nam_calls.proofs.GoesTxn.{ask_goes, finding_goes, reading_goes, claiming_goes}
 use Rattle.nam_calls.proofs.GoesCommit.{on_copy_goes}
 use Rattle.nam_calls.proofs.GoesClient.{scan_goes, begin_goes, seek_goes, move_goes, snap_goes, collect_goes}

@@ -17,6 +17,7 @@ use Rattle.nam_catalog.specs.declared.shape.Shape.{Shape}
 use Rattle.nam_vector.specs.declared.snap.SnapPlace.{SnapPlace}
 use Rattle.nam_vector.specs.declared.snap.SnapEnd.{SnapEnd}
 use Rattle.nam_vector.specs.declared.snap.SnapEnd.TheVariants as snap_end
+use Rattle.nam_calls.specs.Txn.{Stepped}
 use Rattle.nam_calls.specs.declared.index.FindEnd.{FindEnd}
 use Rattle.nam_calls.specs.declared.index.FindEnd.TheVariants as found_key
 use Rattle.nam_calls.specs.declared.horizon.CollectPlace.{CollectPlace}
@@ -29,7 +30,6 @@ use Rattle.nam_calls.specs.declared.txn.TxnPlace.TheVariants.{Committing}
 use Rattle.nam_calls.specs.declared.txn.CommitPlace.TheVariants.{Freeing}
 use Rattle.nam_calls.specs.declared.txn.TxnAnswer.{TxnAnswer}
 use Rattle.nam_calls.specs.declared.txn.TxnAnswer.TheVariants as txn_answer
-use Rattle.nam_calls.specs.declared.txn.Stepped.{Stepped}
 use Rattle.nam_calls.specs.declared.scan.ScanPlace.{ScanPlace}
 use Rattle.nam_calls.specs.declared.scan.ScanAnswer.{ScanAnswer}
 use Rattle.nam_calls.specs.declared.scan.ScanAnswer.TheVariants as scan_answer
@@ -44,7 +44,9 @@ use Rattle.nam_calls.specs.Operations.{own_value}
 use Rattle.nam_calls.specs.TxnCalls.{taken_now}
 use Rattle.nam_calls.specs.Scan.{scan_skip, scan_read}
 use Rattle.nam_calls.specs.Log.{with_event, with_reads, with_locks, with_writes, with_snap}
-use Rattle.nam_calls.specs.Client.{read_listed, items_of, new_locks, committed, then_ended, on_answer, on_call, stepped, gathered, on_skip, on_key, on_scan, counted, ask_txn, ask_scan, client_ask, on_begin, on_seek, on_move, on_snap, on_collect, take_txn, take_scan, call_after, after_call, client_after, abandon_open, client_abandon}
+use Rattle.nam_calls.specs.Telling.{read_listed, read_ended, items_of, new_locks, committed, on_answer, on_call, stepped}
+use Rattle.nam_calls.specs.ScanCall.{scan_listed, gathered, on_skip, on_key, on_scan}
+use Rattle.nam_calls.specs.Client.{counted, ask_txn, ask_scan, client_ask, on_begin, on_seek, on_move, on_snap, on_collect, take_txn, take_scan, call_after, after_call, client_after, abandon_open, client_abandon}
 use Rattle.nam_calls.specs.CutClient.{cut_in_txn, cut_open, left_open, cut_move, cut_call, closed_call}
 use Rattle.nam_calls.specs.Grows.{Grows, LogsGrow}
 
@@ -100,9 +102,9 @@ committed_grows client attempt number =
     grows_trans client.log (with_event client.log _) _ (event_grows client.log _) (writes_grow (with_event client.log _) attempt.state.writes)
 
 -- what was read is listed, and then that the attempt has ended
-read_then_ended_grows : (client : ClientState) (attempt : Open) (items : List Item) (outcome : Outcome)
-    → Grows client.log (then_ended (read_listed client attempt items) attempt outcome).log
-read_then_ended_grows client attempt items outcome =
+read_ended_grows : (client : ClientState) (attempt : Open) (items : List Item) (outcome : Outcome)
+    → Grows client.log (read_ended client attempt items outcome).log
+read_ended_grows client attempt items outcome =
     grows_trans client.log (with_reads client.log items) _ (reads_grow client.log items) (event_grows (with_reads client.log items) _)
 
 answer_grows : (client : ClientState) (attempt : Open) (answer : TxnAnswer) → Grows client.log (on_answer client attempt answer).log
@@ -111,8 +113,8 @@ answer_grows client attempt txn_answer.Written = reads_grow client.log (items_of
 answer_grows client attempt (txn_answer.Added n) = reads_grow client.log (items_of attempt.state.read)
 answer_grows client attempt txn_answer.Met = reads_grow client.log (items_of attempt.state.read)
 answer_grows client attempt (txn_answer.Committed number) = committed_grows client attempt number
-answer_grows client attempt (txn_answer.NoSpace table) = read_then_ended_grows client attempt (items_of attempt.state.read) _
-answer_grows client attempt txn_answer.Declined = read_then_ended_grows client attempt (items_of attempt.state.read) _
+answer_grows client attempt (txn_answer.NoSpace table) = read_ended_grows client attempt (items_of attempt.state.read) _
+answer_grows client attempt txn_answer.Declined = read_ended_grows client attempt (items_of attempt.state.read) _
 answer_grows client attempt answer = event_grows client.log _
 
 on_call_grows : (client : ClientState) (attempt : Open) (call : Now TxnPlace TxnAnswer) → Grows client.log (on_call client attempt call).log
@@ -134,12 +136,12 @@ gathered_grows client position key (Some value) = grows_same client.log
 
 module _ (shape : Shape) where
   skip_grows : (client : ClientState) (attempt : Open) (table low high : ℕ) (now : Now ScanPlace ScanAnswer)
-      → Grows client.log (on_skip shape client attempt table low high now).log
+      → Grows client.log (on_skip client attempt table low high now).log
   skip_grows client attempt table low high (At place) = grows_same client.log
   skip_grows client attempt table low high (Over end) = reads_grow client.log _
 
   gathered_skip_grows : (client : ClientState) (attempt : Open) (table low high position key : ℕ) (value : Option (List ℕ)) (now : Now ScanPlace ScanAnswer)
-      → Grows client.log (on_skip shape (gathered client position key value) attempt table low high now).log
+      → Grows client.log (on_skip (gathered client position key value) attempt table low high now).log
   gathered_skip_grows client attempt table low high position key value now =
       let more = gathered client position key value in
       grows_trans client.log more.log _ (gathered_grows client position key value) (skip_grows more attempt table low high now)
@@ -149,15 +151,15 @@ module _ (shape : Shape) where
   key_grows client attempt table low high position key =
       let own = key_at table key in
       cond_both (writes_key attempt.state.writes own) _ _ (λ (c : ClientState). Grows client.log c.log)
-      (λ e. gathered_skip_grows client attempt table low high position key (own_value attempt.state.writes own) (scan_skip shape table low high position))
-      (λ e. skip_grows client attempt table low high (scan_read shape table low high position key))
+      (λ e. gathered_skip_grows client attempt table low high position key (own_value attempt.state.writes own) (scan_skip shape table position))
+      (λ e. skip_grows client attempt table low high (scan_read position key))
 
   scan_grows : (client : ClientState) (attempt : Open) (table low high position : ℕ) (now : Now ScanPlace ScanAnswer)
       → Grows client.log (on_scan shape client attempt table low high position now).log
   scan_grows client attempt table low high position (At place) = grows_same client.log
   scan_grows client attempt table low high position (Over (scan_answer.Key key)) = key_grows client attempt table low high position key
   scan_grows client attempt table low high position (Over (scan_answer.Row item)) =
-      gathered_skip_grows client attempt table low high position item.key item.value (scan_skip shape table low high position)
+      gathered_skip_grows client attempt table low high position item.key item.value (scan_skip shape table position)
   scan_grows client attempt table low high position (Over scan_answer.Done) = reads_grow client.log _
   scan_grows client attempt table low high position (Over (scan_answer.TooOld worker entry horizon)) = event_grows client.log _
   scan_grows client attempt table low high position (Over scan_answer.Astray) = event_grows client.log _
@@ -224,7 +226,7 @@ module _ (shape : Shape) where
 
   ask_txn_grows : (client : ClientState) (call : TxnCall) (txn : Option Open) → Grows client.log (ask_txn shape client call txn).log
   ask_txn_grows client call None = grows_same client.log
-  ask_txn_grows client call (Some attempt) = stepped_grows client (counted shape attempt call) 0 _
+  ask_txn_grows client call (Some attempt) = stepped_grows client (counted attempt call) 0 _
 
   ask_scan_grows : (client : ClientState) (table low high : ℕ) (txn : Option Open) → Grows client.log (ask_scan shape client table low high txn).log
   ask_scan_grows client table low high None = grows_same client.log

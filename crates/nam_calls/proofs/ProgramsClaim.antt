@@ -53,7 +53,7 @@ module _ (shape : Shape) (table key : ℕ) where
   abbrev IsClaim : Now ClaimKeyPlace ClaimKeyEnd → Prog ClaimKeyEnd → Type 0
   IsClaim = IsProgram (standing (claim_key_verb shape table key)) (taking (claim_key_after shape table key))
 
-  position_is : (rest passed : ℕ) → IsClaim (claim_key_next shape table key passed) (claim_from shape table key rest (passed + 1))
+  position_is : (rest passed : ℕ) → IsClaim (claim_key_next shape table passed) (claim_from shape table key rest (passed + 1))
       → IsClaim (At (KeyLook passed)) (claim_from shape table key (suc rest) passed)
   position_is rest passed next =
       word_then refl λ found.

@@ -23,12 +23,11 @@ use Rattle.nam_calls.specs.declared.txn.TxnState.{TxnState}
 use Rattle.nam_calls.specs.declared.txn.TxnAnswer.{TxnAnswer}
 use Rattle.nam_calls.specs.declared.txn.TxnAnswer.TheVariants.{Committed, Full}
 use Rattle.nam_calls.specs.declared.txn.CommitPlace.TheVariants.{Locking, Checking, Returning, Saving, Copying, Installing, Publishing, Freeing}
-use Rattle.nam_calls.specs.declared.txn.Stepped.{Stepped}
 use Rattle.nam_calls.specs.Stamps.{sees, is_locked, is_moved}
 use Rattle.nam_calls.specs.Words.{word_at, slot_word_at, slot_of}
 use Rattle.nam_calls.specs.Record.{install_begin, word_in}
 use Rattle.nam_calls.specs.Lock.{nth_place, lock_begin, lock_verb, lock_after, lock_next, loss_of, give_back}
-use Rattle.nam_calls.specs.Txn.{answered}
+use Rattle.nam_calls.specs.Txn.{Stepped, answered}
 use Rattle.nam_calls.specs.Commit.{go, places, place_at, value_at, lock_at, records_of, commit_keys, record_in, next_check, on_lock, on_slot, on_return, on_words, on_copy, on_install}
 use Rattle.nam_calls.specs.Program.{Prog, ◌>>=◌, write_words, IsProgram, standing, taking}
 use Rattle.nam_calls.specs.ProgramCommit.{Checked, NotFree, give_all_back, lock_records, check_slots, data_words, replace_versions, publish, after_check, after_locks, commit_records, committing, txn_stands, txn_takes, CommitIsProgram}

@@ -11,12 +11,12 @@ use Rattle.nam_calls.specs.declared.txn.CommitPlace.{CommitPlace}
 use Rattle.nam_calls.specs.declared.txn.CommitPlace.TheVariants.{Locking, Checking, Returning, Saving, Copying, Installing, Publishing, Freeing}
 use Rattle.nam_calls.specs.declared.txn.TxnPlace.{TxnPlace}
 use Rattle.nam_calls.specs.declared.txn.TxnPlace.TheVariants.{Finding, Reading, Claiming, Committing}
-use Rattle.nam_calls.specs.Words.{width_of, capacity_of, ring_of}
+use Rattle.nam_calls.specs.Words.{width_of, capacity_of}
 use Rattle.nam_calls.specs.Index.{find_left, claim_key_left}
 use Rattle.nam_calls.specs.Record.{words_left, install_left}
 use Rattle.nam_calls.specs.Ring.{slot_left, copy_left}
 use Rattle.nam_calls.specs.Lock.{lock_left, unlock_left}
-use Rattle.nam_calls.specs.Reading.{sight_of, read_left}
+use Rattle.nam_calls.specs.Reading.{sight_of, read_left, read_most}
 use Rattle.nam_calls.specs.Operations.{key_of, claims}
 use Rattle.nam_calls.specs.Commit.{places, place_at}
 
@@ -52,33 +52,27 @@ commit_left state (Freeing nth) = unlock_left (places state) nth
 module _ (shape : Shape) where
   -- 2. What is to come of an operation
 
-  -- a whole read at a table's position
-  abbrev pub read_most : ℕ → ℕ
-  read_most table =
-      4 + width_of shape table + 2 * (ring_of shape table * (width_of shape table + 3))
-      + shape.cells * (width_of shape table + 5) + shape.workers
-
   abbrev pub claim_most : Op → ℕ
   claim_most op = if claims op then 2 * capacity_of shape (key_of op).table else 0
 
   abbrev pub txn_left : TxnState → TxnPlace → ℕ
   txn_left state (Finding op passed) =
-      find_left shape (key_of op).table (key_of op).key passed + (read_most (key_of op).table + claim_most op)
+      find_left shape (key_of op).table passed + (read_most shape (key_of op).table + claim_most op)
   txn_left state (Reading op position at) = read_left (sight_of shape (key_of op).table position) at + claim_most op
-  txn_left state (Claiming op at) = claim_key_left shape (key_of op).table (key_of op).key at
+  txn_left state (Claiming op at) = claim_key_left shape (key_of op).table at
   txn_left state (Committing at) = commit_left state at
 
   -- 3. A whole attempt of these operations
 
   -- a read with its search in the index, a claim of a position, and a scan of a whole table
   abbrev pub find_bound : ℕ → ℕ
-  find_bound table = capacity_of shape table + read_most table
+  find_bound table = capacity_of shape table + read_most shape table
 
   abbrev pub claim_bound : ℕ → ℕ
   claim_bound table = 2 * capacity_of shape table
 
   abbrev pub scan_bound : ℕ → ℕ
-  scan_bound table = capacity_of shape table * (1 + read_most table)
+  scan_bound table = capacity_of shape table * (1 + read_most shape table)
 
   abbrev pub op_bound : Op → ℕ
   op_bound (Get t k) = find_bound t

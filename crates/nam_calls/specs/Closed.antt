@@ -25,6 +25,20 @@ read_alone sight seen words (suc verbs) (At place) =
     read_alone sight seen words verbs (read_after sight seen place (found_by words (read_verb sight place)))
 read_alone sight seen words verbs end = None
 
+-- a present row is audited, and an absent one that is locked
+abbrev pub is_audited : Option (List ℕ) → Bool → Bool
+is_audited None locked = locked
+is_audited (Some value) locked = true
+
+-- a row goes before the first of a greater key
+abbrev pub inserted : AuditRow → List AuditRow → List AuditRow
+inserted row [] = row ∷ []
+inserted row (r ∷ rs) = if nat_lt row.key r.key then row ∷ r ∷ rs else r ∷ inserted row rs
+
+abbrev pub inserted_all : List AuditRow → List AuditRow → List AuditRow
+inserted_all [] rows = rows
+inserted_all (r ∷ rs) rows = inserted r (inserted_all rs rows)
+
 module _ (shape : Shape) (words : List ℕ) where
   -- the last vector
   abbrev pub vector : List ℕ
@@ -36,26 +50,12 @@ module _ (shape : Shape) (words : List ℕ) where
       let sight = sight_of shape table position in
       read_alone sight vector words (read_left sight read_begin) (At read_begin)
 
-  -- a present row is audited, and an absent one that is locked
-  abbrev pub is_audited : Option (List ℕ) → Bool → Bool
-  is_audited None locked = locked
-  is_audited (Some value) locked = true
-
   abbrev pub audit_row : ℕ → Place → Option (List ℕ) → List AuditRow
   audit_row table place value =
       let locked = is_locked place.form (slice_index words place.header_at) in
       let key = slice_index words place.key_at in
       if (key == 0) || not (is_audited value locked) then []
       else record { table = table; key = key - 1; value = value; locked = locked } ∷ []
-
-  -- a row goes before the first of a greater key
-  abbrev pub inserted : AuditRow → List AuditRow → List AuditRow
-  inserted row [] = row ∷ []
-  inserted row (r ∷ rs) = if nat_lt row.key r.key then row ∷ r ∷ rs else r ∷ inserted row rs
-
-  abbrev pub inserted_all : List AuditRow → List AuditRow → List AuditRow
-  inserted_all [] rows = rows
-  inserted_all (r ∷ rs) rows = inserted r (inserted_all rs rows)
 
   -- the rows of a table's positions from one on, in order of keys
   abbrev pub table_rows : ℕ → ℕ → ℕ → List AuditRow

@@ -27,13 +27,12 @@ use Rattle.nam_calls.specs.declared.txn.CommitPlace.{CommitPlace}
 use Rattle.nam_calls.specs.declared.txn.CommitPlace.TheVariants.{Locking, Checking, Returning, Saving, Copying, Installing, Publishing, Freeing}
 use Rattle.nam_calls.specs.declared.txn.TxnPlace.TheVariants.{Committing}
 use Rattle.nam_calls.specs.declared.txn.TxnAnswer.TheVariants.{Committed, ReadOnly, Spent, Locked, Newer, Full}
-use Rattle.nam_calls.specs.declared.txn.Stepped.{Stepped}
 use Rattle.nam_calls.specs.Stamps.{stamp_in, version_word}
 use Rattle.nam_calls.specs.Words.{no_place}
 use Rattle.nam_calls.specs.Record.{words_begin, words_verb, words_after, install_begin, install_verb, install_after}
 use Rattle.nam_calls.specs.Ring.{slot_begin, slot_verb, slot_after, copy_begin, copy_verb, copy_after}
 use Rattle.nam_calls.specs.Lock.{nth_place, lock_begin, lock_verb, lock_after, taken, unlock_verb, unlock_after}
-use Rattle.nam_calls.specs.Txn.{at, answered}
+use Rattle.nam_calls.specs.Txn.{Stepped, at, answered}
 
 -- 1. The records
 

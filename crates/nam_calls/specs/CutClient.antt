@@ -19,7 +19,7 @@ use Rattle.nam_calls.specs.declared.client.Open.{Open}
 use Rattle.nam_calls.specs.declared.client.ClientState.{ClientState}
 use Rattle.nam_calls.specs.Mover.{move_claimed}
 use Rattle.nam_calls.specs.Log.{unbegun}
-use Rattle.nam_calls.specs.Client.{told, ended, committed}
+use Rattle.nam_calls.specs.Telling.{told, ended, committed}
 
 abbrev pub client_cut : ClientState → ClientState
 client_cut client = record client { cut = true }

@@ -13,11 +13,26 @@ use Rattle.nam_calls.specs.declared.index.ClaimKeyEnd.{ClaimKeyEnd}
 use Rattle.nam_calls.specs.declared.index.ClaimKeyEnd.TheVariants as claimed_key
 use Rattle.nam_calls.specs.Words.{capacity_of, on_path, path_at, key_word}
 
-module _ (shape : Shape) (table key : ℕ) where
-  -- 1. Find: the place is the number of positions passed
+-- the place of a search is the number of positions passed
+abbrev pub find_begin : ℕ
+find_begin = 0
 
-  abbrev pub find_begin : ℕ
-  find_begin = 0
+abbrev pub claim_key_begin : ClaimKeyPlace
+claim_key_begin = KeyLook 0
+
+module _ (shape : Shape) (table : ℕ) where
+  abbrev pub find_left : ℕ → ℕ
+  find_left passed = capacity_of shape table - passed
+
+  abbrev pub claim_key_next : ℕ → Now ClaimKeyPlace ClaimKeyEnd
+  claim_key_next passed = if passed + 1 == capacity_of shape table then Over claimed_key.NoSpace else At (KeyLook (passed + 1))
+
+  abbrev pub claim_key_left : ClaimKeyPlace → ℕ
+  claim_key_left (KeyLook passed) = 2 * (capacity_of shape table - passed - 1) + 2
+  claim_key_left (KeyTake passed) = 2 * (capacity_of shape table - passed - 1) + 1
+
+module _ (shape : Shape) (table key : ℕ) where
+  -- 1. Find
 
   abbrev pub find_verb : ℕ → Verb
   find_verb passed = Read (path_at shape table key passed)
@@ -29,30 +44,17 @@ module _ (shape : Shape) (table key : ℕ) where
       else if (found == 0) || (passed + 1 == capacity_of shape table) then Over found_key.Absent
       else At (passed + 1)
 
-  abbrev pub find_left : ℕ → ℕ
-  find_left passed = capacity_of shape table - passed
-
   -- 2. FindOrClaim: a free position is claimed by an exchange
-
-  abbrev pub claim_key_begin : ClaimKeyPlace
-  claim_key_begin = KeyLook 0
 
   abbrev pub claim_key_verb : ClaimKeyPlace → Verb
   claim_key_verb (KeyLook passed) = Read (path_at shape table key passed)
   claim_key_verb (KeyTake passed) = Exchange (path_at shape table key passed) 0 (key_word key)
 
-  abbrev pub claim_key_next : ℕ → Now ClaimKeyPlace ClaimKeyEnd
-  claim_key_next passed = if passed + 1 == capacity_of shape table then Over claimed_key.NoSpace else At (KeyLook (passed + 1))
-
   abbrev pub claim_key_after : ClaimKeyPlace → ℕ → Now ClaimKeyPlace ClaimKeyEnd
   claim_key_after (KeyLook passed) found =
       if found == key_word key then Over (claimed_key.At (on_path (capacity_of shape table) key passed))
       else if found == 0 then At (KeyTake passed)
-      else claim_key_next passed
+      else claim_key_next shape table passed
   claim_key_after (KeyTake passed) found =
       if (found == 0) || (found == key_word key) then Over (claimed_key.At (on_path (capacity_of shape table) key passed))
-      else claim_key_next passed
-
-  abbrev pub claim_key_left : ClaimKeyPlace → ℕ
-  claim_key_left (KeyLook passed) = 2 * (capacity_of shape table - passed - 1) + 2
-  claim_key_left (KeyTake passed) = 2 * (capacity_of shape table - passed - 1) + 1
+      else claim_key_next shape table passed

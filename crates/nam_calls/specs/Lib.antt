@@ -14,6 +14,8 @@ pub mod Commit
 pub mod TxnCalls
 pub mod Scan
 pub mod Log
+pub mod Telling
+pub mod ScanCall
 pub mod Client
 pub mod CutClient
 pub mod Driver
@@ -23,6 +25,9 @@ pub mod World
 pub mod Schedule
 pub mod Closed
 pub mod Bound
+pub mod Left
+pub mod Fits
+pub mod TxnFits
 pub mod Grows
 pub mod Program
 pub mod ProgramRead

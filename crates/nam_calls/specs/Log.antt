@@ -46,5 +46,5 @@ attempt_of attempt outcome writes = Tried record {
   reads = attempt.reads;
   locks = attempt.locks;
   writes = writes;
-  outcome = outcome
+  outcome = outcome;
 }

@@ -12,11 +12,11 @@ use Rattle.nam_calls.specs.declared.txn.TxnState.{TxnState}
 use Rattle.nam_calls.specs.declared.txn.TxnPlace.{TxnPlace}
 use Rattle.nam_calls.specs.declared.txn.TxnAnswer.{TxnAnswer}
 use Rattle.nam_calls.specs.declared.txn.TxnAnswer.TheVariants.{ReadOnly, Spent, Committed, Locked, Newer, Full}
-use Rattle.nam_calls.specs.declared.txn.Stepped.{Stepped}
 use Rattle.nam_calls.specs.Stamps.{sees, is_locked, is_moved, with_lock, stamp_word, mark, wrapped}
 use Rattle.nam_calls.specs.Words.{word_at, slot_at, slot_end_at, slot_word_at, slot_of}
 use Rattle.nam_calls.specs.Record.{word_in}
 use Rattle.nam_calls.specs.Lock.{nth_place, loss_of}
+use Rattle.nam_calls.specs.Txn.{Stepped}
 use Rattle.nam_calls.specs.Commit.{places, place_at, value_at, lock_at, own_stamp, new_header, records_of, ask_commit}
 use Rattle.nam_calls.specs.TxnCalls.{txn_verb, txn_after}
 use Rattle.nam_calls.specs.Program.{Prog, Ret, ◌>>=◌, ◌>>◌, read, exchange, write, words, write_words, IsTheProgram, standing}

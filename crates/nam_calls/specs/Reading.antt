@@ -19,7 +19,7 @@ use Rattle.nam_calls.specs.declared.reading.ReadPlace.{ReadPlace}
 use Rattle.nam_calls.specs.declared.reading.ReadPlace.TheVariants.{ReadCurrent, ReadUnsure, ReadRecheck, ReadRing, ReadCells, ReadHorizon}
 use Rattle.nam_calls.specs.declared.reading.ReadingEnd.{ReadingEnd}
 use Rattle.nam_calls.specs.declared.reading.ReadingEnd.TheVariants.{Got, Passed, Astray}
-use Rattle.nam_calls.specs.Words.{cells_by}
+use Rattle.nam_calls.specs.Words.{cells_by, width_of, ring_of}
 use Rattle.nam_calls.specs.Record.{current_begin, current_verb, current_after, current_left, recheck_verb, recheck_end}
 use Rattle.nam_calls.specs.Ring.{ring_begin, ring_verb, ring_after, ring_left}
 use Rattle.nam_calls.specs.Overflow.{cell_begin, cell_verb, cell_after, cell_left}
@@ -81,6 +81,12 @@ read_after sight seen (ReadRecheck value header) found =
 read_after sight seen (ReadRing at) found = on_ring (ring_after sight.place seen at found)
 read_after sight seen (ReadCells at) found = on_cells (cell_after sight.cells sight.place seen at found)
 read_after sight seen (ReadHorizon worker) found = on_horizon (old_after sight.workers seen worker found)
+
+-- a whole read at a table's position takes fewer
+abbrev pub read_most : Shape → ℕ → ℕ
+read_most shape table =
+    4 + width_of shape table + 2 * (ring_of shape table * (width_of shape table + 3))
+    + shape.cells * (width_of shape table + 5) + shape.workers
 
 -- a whole search of the ring, of the cells, and what steps 6 to 8 take
 abbrev pub ring_whole : Sight → ℕ

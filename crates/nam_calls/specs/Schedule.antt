@@ -1,6 +1,7 @@
 -- Lines that refuse verbs by a plan, and the schedule of a simulated run.
 use Rattle.std.specs.Prelude.{ℕ, zero, suc, ◌+◌, ◌-◌, ◌*◌, ◌/◌, ◌%◌, ◌^◌, ◌≡◌, ◌==◌, ◌||◌, nat_le, Bool, true, false, if◌then◌else◌, List, [], ◌∷◌, ◌++◌, map, replicate, Option, Some, None, is_some, slice_get, slice_set}
 use Rattle.std.specs.List.{list_any}
+use Rattle.nam_verbs.specs.declared.verb.Verb.{Verb}
 use Rattle.si_model.specs.declared.row.Row.{Row}
 use Rattle.si_model.specs.declared.op.Op.{Op}
 use Rattle.si_model.specs.declared.op.Policy.{Policy}
@@ -58,15 +59,16 @@ module _ (shape : Shape) where
   turn_by run worker None = record run { world = step shape run.world worker }
   turn_by run worker (Some line) = record {
     world = if refuses_next line then cut run.world worker else step shape run.world worker;
-    lines = slice_set run.lines (worker - 1) (asked_once line)
+    lines = slice_set run.lines (worker - 1) (asked_once line);
   }
 
-  -- a turn of an ended or cut worker does nothing
+  -- a turn of an ended or cut worker, which has no verb, does nothing
+  abbrev pub turn_on : Run → ℕ → Option Verb → Run
+  turn_on run worker None = run
+  turn_on run worker (Some verb) = turn_by run worker (slice_get run.lines (worker - 1))
+
   abbrev pub turn_of : Run → ℕ → Run
-  turn_of run worker = elim (is_some (world_verb shape run.world worker)) [
-    | false ↦ run
-    | true ↦ turn_by run worker (slice_get run.lines (worker - 1))
-  ]
+  turn_of run worker = turn_on run worker (world_verb shape run.world worker)
 
   -- turns of these workers, one after another
   unfoldable pub after_workers : Run → List ℕ → Run

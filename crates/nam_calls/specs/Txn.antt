@@ -22,10 +22,14 @@ use Rattle.nam_calls.specs.declared.txn.TxnPlace.{TxnPlace}
 use Rattle.nam_calls.specs.declared.txn.TxnPlace.TheVariants.{Finding, Reading, Claiming}
 use Rattle.nam_calls.specs.declared.txn.TxnAnswer.{TxnAnswer}
 use Rattle.nam_calls.specs.declared.txn.TxnAnswer.TheVariants.{TooOld, NoSpace, Declined, Astray}
-use Rattle.nam_calls.specs.declared.txn.Stepped.{Stepped}
 use Rattle.nam_calls.specs.Index.{find_begin, claim_key_begin}
 use Rattle.nam_calls.specs.Reading.{read_begin}
 use Rattle.nam_calls.specs.Operations.{key_of, reads, claims, holding, own_value, read_of, value_in, answer_of}
+
+-- a transaction, and where its call stands or how it was answered
+pub record Stepped : Type 0 where
+  pub state : TxnState
+  pub call : Now TxnPlace TxnAnswer
 
 -- a new transaction
 abbrev pub new_txn : ℕ → ℕ → List ℕ → TxnState
@@ -58,7 +62,7 @@ module _ (shape : Shape) where
   abbrev pub with_op : TxnState → Op → Option (List ℕ) → TxnState
   with_op state op value = record state {
     writes = writes_after (widths_of shape.tables) op (holding value) state.writes;
-    guards = guards_after op state.guards
+    guards = guards_after op state.guards;
   }
 
   -- 1. An operation is asked
@@ -72,15 +76,15 @@ module _ (shape : Shape) where
   ask_op state op =
       if writes_key state.writes (key_of op)
       then (let own = own_value state.writes (key_of op) in with_own (record state { read = read_of op own }) op own)
-      else if reads op then at (record state { read = None }) (Finding op (find_begin shape (key_of op).table (key_of op).key))
-      else at (record state { read = None }) (Claiming op (claim_key_begin shape (key_of op).table (key_of op).key))
+      else if reads op then at (record state { read = None }) (Finding op find_begin)
+      else at (record state { read = None }) (Claiming op claim_key_begin)
 
   -- 2. The value is known: a decline stands before any claim
 
   abbrev pub decided : TxnState → Op → Option (List ℕ) → Stepped
   decided state op value =
       if not (passes op (holding value)) then answered state Declined
-      else if claims op then at state (Claiming op (claim_key_begin shape (key_of op).table (key_of op).key))
+      else if claims op then at state (Claiming op claim_key_begin)
       else answered state (answer_of op value)
 
   abbrev pub valued : TxnState → Op → Option (List ℕ) → Stepped

@@ -11,11 +11,10 @@ use Rattle.nam_calls.specs.declared.txn.TxnState.{TxnState}
 use Rattle.nam_calls.specs.declared.txn.TxnPlace.{TxnPlace}
 use Rattle.nam_calls.specs.declared.txn.TxnPlace.TheVariants.{Finding, Reading, Claiming, Committing}
 use Rattle.nam_calls.specs.declared.txn.TxnAnswer.{TxnAnswer}
-use Rattle.nam_calls.specs.declared.txn.Stepped.{Stepped}
 use Rattle.nam_calls.specs.Index.{find_verb, find_after, claim_key_verb, claim_key_after}
 use Rattle.nam_calls.specs.Reading.{sight_of, read_verb, read_after}
 use Rattle.nam_calls.specs.Operations.{key_of}
-use Rattle.nam_calls.specs.Txn.{ask_op, on_find, on_read, on_claim}
+use Rattle.nam_calls.specs.Txn.{Stepped, ask_op, on_find, on_read, on_claim}
 use Rattle.nam_calls.specs.Commit.{ask_commit, commit_verb, commit_after, locks_taken}
 
 module _ (shape : Shape) where

@@ -1,5 +1,5 @@
 -- A world: words, and the sessions that change them verb by verb.
-use Rattle.std.specs.Prelude.{ℕ, ◌+◌, ◌-◌, List, [], ◌∷◌, Option, Some, None, slice_get, slice_set, IsNone}
+use Rattle.std.specs.Prelude.{ℕ, ◌≡◌, ◌+◌, ◌-◌, List, [], ◌∷◌, Option, Some, None, slice_get, slice_set}
 use Rattle.std.specs.List.{AllByRecursion}
 use Rattle.nam_verbs.specs.declared.verb.Verb.{Verb}
 use Rattle.nam_verbs.specs.Verb.{found_by, after_verb}
@@ -8,7 +8,7 @@ use Rattle.si_model.specs.declared.op.Policy.{Policy}
 use Rattle.nam_catalog.specs.declared.shape.Shape.{Shape}
 use Rattle.nam_calls.specs.declared.session.Job.{Job}
 use Rattle.nam_calls.specs.declared.session.SessionState.{SessionState}
-use Rattle.nam_calls.specs.Client.{new_client}
+use Rattle.nam_calls.specs.Telling.{new_client}
 use Rattle.nam_calls.specs.Session.{new_session, session_verb, session_after, session_cut}
 use Rattle.nam_calls.specs.Opening.{opening_words}
 
@@ -78,7 +78,7 @@ new_world shape rows policy jobs = record { words = opening_words shape rows; se
 
 -- each session has ended or is cut: none has a verb to come
 abbrev pub HasNoVerb : Shape → SessionState → Type 0
-HasNoVerb shape session = IsNone (session_verb shape session)
+HasNoVerb shape session = session_verb shape session ≡ None
 
 abbrev pub HasEnded : Shape → World → Type 0
 HasEnded shape world = AllByRecursion (HasNoVerb shape) world.sessions

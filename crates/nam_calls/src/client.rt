@@ -28,7 +28,9 @@ pub enum Call {
 #[derive(Drop)]
 pub enum Answer {
     /// The transaction is open, on the state after so many commits.
-    Begun { prefix: u64 },
+    Begun {
+        prefix: u64,
+    },
     /// The snapshot has to be taken again: the worker's entry rose.
     Again {
         worker: u32,
@@ -38,7 +40,9 @@ pub enum Answer {
     /// The answer to a call of a transaction.
     Txn(TxnAnswer),
     /// The scan listed so many rows.
-    Scanned { items: u32 },
+    Scanned {
+        items: u32,
+    },
     /// The version stands in a cell.
     Moved,
     /// Another worker had moved it first.
@@ -46,7 +50,9 @@ pub enum Answer {
     /// There was nothing to be moved.
     Nothing,
     /// The bucket had no free cell.
-    NoRoom { bucket: u32 },
+    NoRoom {
+        bucket: u32,
+    },
     /// The horizon that the collection knows.
     Collected(Snapshot),
 }
@@ -55,9 +61,15 @@ pub enum Answer {
 #[derive(Drop)]
 pub enum CallPlace {
     /// Take a transaction's snapshot.
-    Beginning { txn: u32, nth: u32, at: SnapPlace },
+    Beginning {
+        txn: u32,
+        nth: u32,
+        at: SnapPlace,
+    },
     /// A call of the open transaction.
-    InTxn { at: TxnPlace },
+    InTxn {
+        at: TxnPlace,
+    },
     /// Scan a table.
     Scanning {
         table: u32,
@@ -66,7 +78,11 @@ pub enum CallPlace {
         at: ScanPlace,
     },
     /// Search the position of the key to be tidied, having passed so many of its path.
-    Seeking { table: u32, key: u64, passed: u32 },
+    Seeking {
+        table: u32,
+        key: u64,
+        passed: u32,
+    },
     /// Move the version in the key's slot.
     Moving {
         table: u32,
@@ -75,7 +91,10 @@ pub enum CallPlace {
         at: MovePlace,
     },
     /// Take a collection's snapshot.
-    Snapping { bucket: u32, at: SnapPlace },
+    Snapping {
+        bucket: u32,
+        at: SnapPlace,
+    },
     /// Collect the bucket.
     Collecting {
         bucket: u32,
@@ -95,7 +114,7 @@ pub struct Open {
     /// How many operations were asked.
     pub ops: u32,
     /// The same, where a scan counts as many as its table has positions.
-    pub weight: u32,
+    pub ops_so_far: u32,
     /// How many reads and locks it has listed.
     pub reads: u32,
     pub locks: u32,

@@ -6,11 +6,19 @@ use si_model::Snapshot;
 #[derive(Drop)]
 pub enum CollectPlace {
     /// Read the horizon entry after those known.
-    HorizonLook { known: Snapshot },
+    HorizonLook {
+        known: Snapshot,
+    },
     /// Exchange the lower entry that was found for the snapshot's.
-    HorizonRaise { known: Snapshot, found: u64 },
+    HorizonRaise {
+        known: Snapshot,
+        found: u64,
+    },
     /// Read the cell's tag.
-    CollectTag { known: Snapshot, cell: u32 },
+    CollectTag {
+        known: Snapshot,
+        cell: u32,
+    },
     /// Read the end of its version.
     CollectEnding {
         known: Snapshot,

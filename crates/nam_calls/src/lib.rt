@@ -34,4 +34,4 @@ pub use record::{CurrentEnd, CurrentPlace, InstallPlace};
 pub use ring::{CopyPlace, RingPlace, SearchEnd, SlotEnd, SlotPlace};
 pub use scan::{ScanAnswer, ScanPlace};
 pub use session::{DriverPlace, DriverState, Job, SessionState};
-pub use txn::{CommitPlace, Record, Stepped, TxnAnswer, TxnCall, TxnPlace, TxnState};
+pub use txn::{CommitPlace, Record, TxnAnswer, TxnCall, TxnPlace, TxnState};

@@ -6,7 +6,9 @@ use lists::ShortList;
 #[derive(Drop)]
 pub enum LockPlace {
     /// Read the header of the next record.
-    Peek { held: ShortList<u64, 16> },
+    Peek {
+        held: ShortList<u64, 16>,
+    },
     /// Exchange it for the same with the lock.
     Seize {
         held: ShortList<u64, 16>,

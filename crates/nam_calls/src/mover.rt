@@ -9,9 +9,14 @@ pub enum MovePlace {
     /// Read the number of the record's current version.
     MoveCount,
     /// Read the header of that version's slot.
-    MoveHead { slot: u32 },
+    MoveHead {
+        slot: u32,
+    },
     /// Read the slot's end.
-    MoveEnding { slot: u32, header: u64 },
+    MoveEnding {
+        slot: u32,
+        header: u64,
+    },
     /// Claim a cell.
     MoveClaim {
         slot: u32,
@@ -52,9 +57,16 @@ pub enum MovePlace {
         tag: u64,
     },
     /// Exchange the slot's header for the same with the moved flag.
-    MoveFlag { slot: u32, header: u64 },
+    MoveFlag {
+        slot: u32,
+        header: u64,
+    },
     /// Write the tag that sets the cell free again.
-    MoveBack { header: u64, cell: u32, tag: u64 },
+    MoveBack {
+        header: u64,
+        cell: u32,
+        tag: u64,
+    },
 }
 
 /// How a move ended.

@@ -6,13 +6,25 @@ use si_model::Value;
 #[derive(Drop)]
 pub enum CellPlace {
     /// Read the cell's tag.
-    CellTag { cell: u32 },
+    CellTag {
+        cell: u32,
+    },
     /// Read the row that owns it.
-    CellOwner { cell: u32, tag: u64 },
+    CellOwner {
+        cell: u32,
+        tag: u64,
+    },
     /// Read the header of its version.
-    CellBegin { cell: u32, tag: u64 },
+    CellBegin {
+        cell: u32,
+        tag: u64,
+    },
     /// Read the end of its version.
-    CellEnding { cell: u32, tag: u64, header: u64 },
+    CellEnding {
+        cell: u32,
+        tag: u64,
+        header: u64,
+    },
     /// Read the data word after those got.
     CellWords {
         cell: u32,

@@ -18,7 +18,9 @@ pub struct Sight {
 #[derive(Drop)]
 pub enum ReadPlace {
     /// Read the current version.
-    ReadCurrent { at: CurrentPlace },
+    ReadCurrent {
+        at: CurrentPlace,
+    },
     /// Search the ring, since the current version was locked.
     ReadUnsure {
         value: Value,
@@ -26,13 +28,22 @@ pub enum ReadPlace {
         at: RingPlace,
     },
     /// Read the header once more, since the ring has no version.
-    ReadRecheck { value: Value, header: u64 },
+    ReadRecheck {
+        value: Value,
+        header: u64,
+    },
     /// Search the ring.
-    ReadRing { at: RingPlace },
+    ReadRing {
+        at: RingPlace,
+    },
     /// Search the cells.
-    ReadCells { at: CellPlace },
+    ReadCells {
+        at: CellPlace,
+    },
     /// Read a worker's horizon entry.
-    ReadHorizon { worker: u32 },
+    ReadHorizon {
+        worker: u32,
+    },
 }
 
 /// How a read ended.

@@ -37,11 +37,20 @@ pub enum CopyPlace {
 #[derive(Drop)]
 pub enum RingPlace {
     /// Read the slot's header.
-    SlotHead { slot: u32 },
+    SlotHead {
+        slot: u32,
+    },
     /// Read the slot's end.
-    SlotEnding { slot: u32, header: u64 },
+    SlotEnding {
+        slot: u32,
+        header: u64,
+    },
     /// Read the slot word after those got.
-    SlotWords { slot: u32, header: u64, got: Value },
+    SlotWords {
+        slot: u32,
+        header: u64,
+        got: Value,
+    },
     /// Read the slot's header again.
     SlotAgain {
         slot: u32,

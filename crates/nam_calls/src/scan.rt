@@ -7,7 +7,9 @@ use si_model::Item;
 #[derive(Drop)]
 pub enum ScanPlace {
     /// Read the position's key word.
-    ScanKey { position: u32 },
+    ScanKey {
+        position: u32,
+    },
     /// Read at the position, which bears the key.
     ScanRead {
         position: u32,
@@ -20,7 +22,9 @@ pub enum ScanPlace {
 #[derive(Drop)]
 pub enum ScanAnswer {
     /// The position bears a key of the range.
-    Key { key: u64 },
+    Key {
+        key: u64,
+    },
     /// What the snapshot sees at that position.
     Row(Item),
     /// All positions were passed.

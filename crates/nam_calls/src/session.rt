@@ -17,7 +17,9 @@ pub enum DriverPlace {
     /// The begin of a try.
     ToBegin,
     /// An operation, counted from 0, or the commit after the last.
-    ToAsk { nth: u32 },
+    ToAsk {
+        nth: u32,
+    },
     /// The tidying of a key. `again`: its bucket was collected for it; `retry`: another try follows.
     ToTidy {
         keys: ShortList<Key, 16>,

@@ -3,20 +3,26 @@
 use crate::index::ClaimKeyPlace;
 use crate::lock::LockPlace;
 use crate::reading::ReadPlace;
-use crate::ring::{CopyPlace, SlotPlace};
 use crate::record::InstallPlace;
+use crate::ring::{CopyPlace, SlotPlace};
 use lists::ShortList;
 use nam_layout::Place;
-use nam_verbs::Now;
 use si_model::{Item, Key, Lock, Op, Snapshot, Value};
 
 /// A call of a transaction. Fields are counted from 1.
 #[derive(Drop)]
 pub enum TxnCall {
     /// Reads a key.
-    Get { table: u32, key: u64 },
+    Get {
+        table: u32,
+        key: u64,
+    },
     /// Gives a key a value.
-    Put { table: u32, key: u64, value: Value },
+    Put {
+        table: u32,
+        key: u64,
+        value: Value,
+    },
     /// Reads a key and adds `by` to one of its fields, or takes it away where not `up`.
     Add {
         table: u32,
@@ -26,7 +32,10 @@ pub enum TxnCall {
         by: u64,
     },
     /// Makes a key absent.
-    Del { table: u32, key: u64 },
+    Del {
+        table: u32,
+        key: u64,
+    },
     /// Reads a key and declines the transaction where a field is below `least`.
     Need {
         table: u32,
@@ -35,7 +44,10 @@ pub enum TxnCall {
         least: u64,
     },
     /// Reads a key that no concurrent transaction may write.
-    Guard { table: u32, key: u64 },
+    Guard {
+        table: u32,
+        key: u64,
+    },
     /// Publishes the write set.
     Commit,
 }
@@ -81,11 +93,7 @@ pub enum CommitPlace {
     /// Read a written record's data word after those got.
     Saving { nth: u32, got: Value },
     /// Copy a written record's current version into its slot.
-    Copying {
-        nth: u32,
-        old: Value,
-        at: CopyPlace,
-    },
+    Copying { nth: u32, old: Value, at: CopyPlace },
     /// Install a written record's next version.
     Installing { nth: u32, at: InstallPlace },
     /// Write the worker's entry of the vector.
@@ -98,7 +106,10 @@ pub enum CommitPlace {
 #[derive(Drop)]
 pub enum TxnPlace {
     /// Search the key's position, having passed so many of its path.
-    Finding { op: Op, passed: u32 },
+    Finding {
+        op: Op,
+        passed: u32,
+    },
     /// Read at the position.
     Reading {
         op: Op,
@@ -106,9 +117,14 @@ pub enum TxnPlace {
         at: ReadPlace,
     },
     /// Claim a position for the key.
-    Claiming { op: Op, at: ClaimKeyPlace },
+    Claiming {
+        op: Op,
+        at: ClaimKeyPlace,
+    },
     /// Commit.
-    Committing { at: CommitPlace },
+    Committing {
+        at: CommitPlace,
+    },
 }
 
 /// The answer to a transaction's call.
@@ -123,7 +139,9 @@ pub enum TxnAnswer {
     /// The field is at least what was needed.
     Met,
     /// The write set is published under this number.
-    Committed { number: u64 },
+    Committed {
+        number: u64,
+    },
     /// There was nothing to be published.
     ReadOnly,
     /// The horizon is above the snapshot: the worker's entries of both.
@@ -133,7 +151,9 @@ pub enum TxnAnswer {
         horizon: u64,
     },
     /// Every position of the table bears another key.
-    NoSpace { table: u32 },
+    NoSpace {
+        table: u32,
+    },
     /// The operation did not find what it needs.
     Declined,
     /// The worker has no commit number left.
@@ -146,11 +166,4 @@ pub enum TxnAnswer {
     Full(Lock),
     /// A read went astray: this never comes in a world.
     Astray,
-}
-
-/// A transaction, and where its call stands or how it was answered.
-#[derive(Drop)]
-pub struct Stepped {
-    pub state: TxnState,
-    pub call: Now<TxnPlace, TxnAnswer>,
 }

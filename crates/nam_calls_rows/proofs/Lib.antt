@@ -1,0 +1,12 @@
+mod FuseGetExample
+mod FusePutExample
+mod RandomExample
+mod RandomMoreExample
+mod RandomThirdExample
+mod RandomScansExample
+mod RandomScansMoreExample
+mod RandomPicksExample
+mod RandomPicksMoreExample
+mod RandomRareExample
+mod RandomRareMoreExample
+mod RandomOldExample

@@ -34,12 +34,12 @@ use Rattle.nam_calls.specs.declared.client.ClientState.{ClientState}
 use Rattle.nam_calls.specs.Mover.{move_begin}
 use Rattle.nam_calls.specs.Horizon.{collect_begin}
 use Rattle.nam_calls.specs.Operations.{own_value}
-use Rattle.nam_calls.specs.Txn.{Stepped, new_txn}
+use Rattle.nam_calls.specs.Txn.{Stepped}
 use Rattle.nam_calls.specs.TxnCalls.{taken_now}
 use Rattle.nam_calls.specs.Scan.{scan_skip, scan_read}
 use Rattle.nam_calls.specs.Log.{with_locks, with_snap, prefix_of, unbegun}
-use Rattle.nam_calls.specs.Telling.{go, answered, opened, told, ended, committed, with_read, read_listed, read_ended, items_of, new_locks, on_answer, on_call, stepped}
-use Rattle.nam_calls.specs.ScanCall.{gathered, scan_listed, scan_ended, on_skip, on_key, on_scan}
+use Rattle.nam_calls.specs.Telling.{go, answered, opened, told, ended, committed, read_listed, items_of, new_locks, on_answer, on_call, stepped}
+use Rattle.nam_calls.specs.ScanCall.{gathered, scan_listed, scan_ended, on_skip, on_scan}
 use Rattle.nam_calls.specs.Client.{on_begin, on_seek, on_move, on_snap, on_collect}
 
 -- 1. Words for what comes out
@@ -115,7 +115,8 @@ module _ (P : ClientState → Type 0) where
     on_skip_goes client attempt table low high (At place) stays listed = stays place
     on_skip_goes client attempt table low high (Over end) stays listed = listed
 
-    gathered_goes : (client : ClientState) (attempt : Open) (table low high position key : ℕ) (value : Option (List ℕ)) (now : Now ScanPlace ScanAnswer)
+    gathered_goes : (client : ClientState) (attempt : Open) (table low high position key : ℕ) (value : Option (List ℕ))
+        (now : Now ScanPlace ScanAnswer)
         → ((rows : List Scanned) (place : ScanPlace) → P (go (with_rows client rows) (Scanning table low high place)))
         → ((rows : List Scanned) → P (scan_listed (with_rows client rows) attempt table))
         → P (on_skip (gathered client position key value) attempt table low high now)
@@ -134,7 +135,8 @@ module _ (P : ClientState → Type 0) where
     scan_goes client attempt table low high position (Over (scan_answer.Key key)) stays listed over =
         let own = key_at table key in
         cond_both (writes_key attempt.state.writes own) _ _ P
-        (λ e. gathered_goes client attempt table low high position key (own_value attempt.state.writes own) (scan_skip shape table position) stays listed)
+        (λ e. gathered_goes client attempt table low high position key (own_value attempt.state.writes own)
+        (scan_skip shape table position) stays listed)
         (λ e. on_skip_goes client attempt table low high (scan_read position key) (stays client.scanned) (listed client.scanned))
     scan_goes client attempt table low high position (Over (scan_answer.Row item)) stays listed over =
         gathered_goes client attempt table low high position item.key item.value (scan_skip shape table position) stays listed

@@ -86,9 +86,12 @@ module _ (shape : Shape) where
   take_quiet : (client : ClientState) (place : TxnPlace) (txn : Option Open) (found : ℕ)
       → Idle (in_txn client place txn) → Idle (take_txn shape (in_txn client place txn) place txn found)
   take_quiet client place None found idle = idle
-  take_quiet client (Finding op passed) (Some attempt) found idle = finding_quiet shape (in_txn client (Finding op passed) (Some attempt)) attempt op passed found
-  take_quiet client (Reading op position place) (Some attempt) found idle = reading_quiet shape (in_txn client (Reading op position place) (Some attempt)) attempt op position place found
-  take_quiet client (Claiming op place) (Some attempt) found idle = claiming_quiet shape (in_txn client (Claiming op place) (Some attempt)) attempt op place found
+  take_quiet client (Finding op passed) (Some attempt) found idle =
+      finding_quiet shape (in_txn client (Finding op passed) (Some attempt)) attempt op passed found
+  take_quiet client (Reading op position place) (Some attempt) found idle =
+      reading_quiet shape (in_txn client (Reading op position place) (Some attempt)) attempt op position place found
+  take_quiet client (Claiming op place) (Some attempt) found idle =
+      claiming_quiet shape (in_txn client (Claiming op place) (Some attempt)) attempt op place found
   take_quiet client (Committing place) (Some attempt) found idle = absurd (cc)
 
   scan_quiet : (client : ClientState) (table low high : ℕ) (place : ScanPlace) (txn : Option Open) (found : ℕ)
@@ -99,11 +102,16 @@ module _ (shape : Shape) where
 
   pub word_quiet : (client : ClientState) (place : CallPlace) (found : ℕ)
       → Idle (go client place) → Idle (client_after shape (go client place) found)
-  word_quiet client (Beginning txn nth at) found idle = begin_goes Idle shape (go client (Beginning txn nth at)) txn nth _ (λ next e. refl) (λ seen e. refl) (λ worker first second e. refl)
+  word_quiet client (Beginning txn nth at) found idle =
+      begin_goes Idle shape (go client (Beginning txn nth at)) txn nth _ (λ next e. refl) (λ seen e. refl) (λ worker first second e. refl)
   word_quiet client (InTxn at) found idle = take_quiet client at client.txn found idle
   word_quiet client (Scanning table low high at) found idle = scan_quiet client table low high at client.txn found
-  word_quiet client (Seeking table key passed) found idle = seek_goes Idle shape (go client (Seeking table key passed)) table key _ (λ next e. refl) (λ position e. refl) (λ e. refl)
+  word_quiet client (Seeking table key passed) found idle =
+      seek_goes Idle shape (go client (Seeking table key passed)) table key _ (λ next e. refl) (λ position e. refl) (λ e. refl)
   word_quiet client (Moving table key position at) found idle =
-      move_goes Idle shape (go client (Moving table key position at)) table key position _ _ (λ next e. refl) (λ stamp e. refl) (λ stamp e. refl) (λ e. refl) (λ full e. refl)
-  word_quiet client (Snapping bucket at) found idle = snap_goes Idle shape (go client (Snapping bucket at)) bucket _ (λ next e. refl) (λ seen e. refl) (λ worker first second e. refl)
-  word_quiet client (Collecting bucket prefix seen at) found idle = collect_goes Idle shape (go client (Collecting bucket prefix seen at)) bucket prefix seen _ (λ next e. refl) (λ known e. refl)
+      move_goes Idle shape (go client (Moving table key position at)) table key position _ _
+      (λ next e. refl) (λ stamp e. refl) (λ stamp e. refl) (λ e. refl) (λ full e. refl)
+  word_quiet client (Snapping bucket at) found idle =
+      snap_goes Idle shape (go client (Snapping bucket at)) bucket _ (λ next e. refl) (λ seen e. refl) (λ worker first second e. refl)
+  word_quiet client (Collecting bucket prefix seen at) found idle =
+      collect_goes Idle shape (go client (Collecting bucket prefix seen at)) bucket prefix seen _ (λ next e. refl) (λ known e. refl)

@@ -44,8 +44,8 @@ use Rattle.nam_calls.specs.Operations.{own_value}
 use Rattle.nam_calls.specs.TxnCalls.{taken_now}
 use Rattle.nam_calls.specs.Scan.{scan_skip, scan_read}
 use Rattle.nam_calls.specs.Log.{with_event, with_reads, with_locks, with_writes, with_snap}
-use Rattle.nam_calls.specs.Telling.{read_listed, read_ended, items_of, new_locks, committed, on_answer, on_call, stepped}
-use Rattle.nam_calls.specs.ScanCall.{scan_listed, gathered, on_skip, on_key, on_scan}
+use Rattle.nam_calls.specs.Telling.{read_ended, items_of, new_locks, committed, on_answer, on_call, stepped}
+use Rattle.nam_calls.specs.ScanCall.{gathered, on_skip, on_key, on_scan}
 use Rattle.nam_calls.specs.Client.{counted, ask_txn, ask_scan, client_ask, on_begin, on_seek, on_move, on_snap, on_collect, take_txn, take_scan, call_after, after_call, client_after, abandon_open, client_abandon}
 use Rattle.nam_calls.specs.CutClient.{cut_in_txn, cut_open, left_open, cut_move, cut_call, closed_call}
 use Rattle.nam_calls.specs.Grows.{Grows, LogsGrow}
@@ -140,7 +140,8 @@ module _ (shape : Shape) where
   skip_grows client attempt table low high (At place) = grows_same client.log
   skip_grows client attempt table low high (Over end) = reads_grow client.log _
 
-  gathered_skip_grows : (client : ClientState) (attempt : Open) (table low high position key : ℕ) (value : Option (List ℕ)) (now : Now ScanPlace ScanAnswer)
+  gathered_skip_grows : (client : ClientState) (attempt : Open) (table low high position key : ℕ) (value : Option (List ℕ))
+      (now : Now ScanPlace ScanAnswer)
       → Grows client.log (on_skip (gathered client position key value) attempt table low high now).log
   gathered_skip_grows client attempt table low high position key value now =
       let more = gathered client position key value in
@@ -151,7 +152,8 @@ module _ (shape : Shape) where
   key_grows client attempt table low high position key =
       let own = key_at table key in
       cond_both (writes_key attempt.state.writes own) _ _ (λ (c : ClientState). Grows client.log c.log)
-      (λ e. gathered_skip_grows client attempt table low high position key (own_value attempt.state.writes own) (scan_skip shape table position))
+      (λ e. gathered_skip_grows client attempt table low high position key (own_value attempt.state.writes own)
+      (scan_skip shape table position))
       (λ e. skip_grows client attempt table low high (scan_read position key))
 
   scan_grows : (client : ClientState) (attempt : Open) (table low high position : ℕ) (now : Now ScanPlace ScanAnswer)
@@ -214,7 +216,8 @@ module _ (shape : Shape) where
   call_grows client (Snapping bucket at) found = collect_snap_grows client bucket _
   call_grows client (Collecting bucket prefix seen at) found = collect_grows client bucket prefix seen _
 
-  after_call_grows : (client : ClientState) (call : Option (Now CallPlace Answer)) (found : ℕ) → Grows client.log (after_call shape client call found).log
+  after_call_grows : (client : ClientState) (call : Option (Now CallPlace Answer)) (found : ℕ)
+      → Grows client.log (after_call shape client call found).log
   after_call_grows client None found = grows_same client.log
   after_call_grows client (Some (At place)) found = call_grows client place found
   after_call_grows client (Some (Over answer)) found = grows_same client.log
@@ -248,7 +251,8 @@ abandon_grows client = abandon_open_grows client client.txn
 
 -- 7. The client is closed
 
-tail_cut_grows : (client : ClientState) (attempt : Open) → Grows client.log (with_event (committed client attempt (attempt.state.last + 1)).log TailCut)
+tail_cut_grows : (client : ClientState) (attempt : Open)
+    → Grows client.log (with_event (committed client attempt (attempt.state.last + 1)).log TailCut)
 tail_cut_grows client attempt =
     let done = committed client attempt (attempt.state.last + 1) in
     grows_trans client.log done.log _ (committed_grows client attempt (attempt.state.last + 1)) (event_grows done.log TailCut)

@@ -56,7 +56,8 @@ module _ {S A : Type 0} (stands : S → Now Verb A) (after : S → ℕ → S) wh
   program_unique call (Do verb next) (Ret b) f g = absurd (cc)
   program_unique call (Do v next) (Do w other) f g =
       let e : v ≡ w = cc in
-      ap (λ k. Do v k) (fun_ext (λ found. program_unique (after call found) (next found) (other found) (f.1 found) (g.1 found))) ∙ ap (λ k. Do k other) e
+      ap (λ k. Do v k) (fun_ext (λ found. program_unique (after call found) (next found) (other found) (f.1 found) (g.1 found)))
+      ∙ ap (λ k. Do k other) e
 
   pub the_program : (call : S) (p : Prog A) → IsProgram stands after call p → IsTheProgram stands after call p
   the_program call p f = record { does = f; only = λ other g. program_unique call other p g f }
@@ -129,4 +130,5 @@ module _ {S A P E : Type 0} (stands : S → Now Verb A) (after : S → ℕ → S
   part_is (At place) (Do v next) f =
       let here = f.0 in let same : verb place ≡ v = cc in
       word_then (stands_in place ∙ ap At same) λ found.
-      subst (λ call. IsProgram stands after call (next found >>= rest)) (sym (after_in place found)) (part_is (part place found) (next found) (f.1 found))
+      subst (λ call. IsProgram stands after call (next found >>= rest)) (sym (after_in place found))
+      (part_is (part place found) (next found) (f.1 found))

@@ -62,11 +62,14 @@ module _ (shape : Shape) (table key : ℕ) where
       word_then refl λ word.
       both IsClaim ((word == 0) || (word == key_word key)) _ _ _ _ (λ t. refl) (λ t. next)
 
-  claim_at : (rest passed : ℕ) → passed + suc rest ≡ capacity_of shape table → IsClaim (At (KeyLook passed)) (claim_from shape table key (suc rest) passed)
+  claim_at : (rest passed : ℕ) → passed + suc rest ≡ capacity_of shape table
+      → IsClaim (At (KeyLook passed)) (claim_from shape table key (suc rest) passed)
   claim_at zero passed e =
-      position_is zero passed (is_last (λ call. IsClaim call (claim_from shape table key zero (passed + 1))) passed (capacity_of shape table) _ _ (omega arith) refl)
+      position_is zero passed
+      (is_last (λ call. IsClaim call (claim_from shape table key zero (passed + 1))) passed (capacity_of shape table) _ _ (omega arith) refl)
   claim_at (suc rest) passed e =
-      position_is (suc rest) passed (is_more (λ call. IsClaim call (claim_from shape table key (suc rest) (passed + 1))) passed (capacity_of shape table) _ _ rest (omega arith)
+      position_is (suc rest) passed
+      (is_more (λ call. IsClaim call (claim_from shape table key (suc rest) (passed + 1))) passed (capacity_of shape table) _ _ rest (omega arith)
       (claim_at rest (passed + 1) (omega arith)))
 
   claim_of : (count : ℕ) → count ≡ capacity_of shape table → 0 < count → IsClaim (At (KeyLook 0)) (claim_from shape table key count 0)
@@ -75,6 +78,8 @@ module _ (shape : Shape) (table key : ℕ) where
 
 pub claims_are_programs : ClaimIsProgram
 claims_are_programs = record {
-  find = λ shape table key l. the_program (standing (find_verb shape table key)) (taking (find_after shape table key)) _ _ (find_of shape table key (capacity_of shape table) refl l);
-  claim = λ shape table key l. the_program (standing (claim_key_verb shape table key)) (taking (claim_key_after shape table key)) _ _ (claim_of shape table key (capacity_of shape table) refl l);
+  find = λ shape table key l. the_program (standing (find_verb shape table key)) (taking (find_after shape table key)) _ _
+      (find_of shape table key (capacity_of shape table) refl l);
+  claim = λ shape table key l. the_program (standing (claim_key_verb shape table key)) (taking (claim_key_after shape table key)) _ _
+      (claim_of shape table key (capacity_of shape table) refl l);
 }

@@ -47,7 +47,8 @@ module _ (worker : ℕ) (places : List Place) (seen : List ℕ) where
 
   locks_from : (rest : ℕ) (held : List ℕ) → length held + rest ≡ length places
       → IsLock (lock_next places held) (lock_records worker places seen rest held)
-  locks_from zero held e = at_last (λ call. IsLock call (lock_records worker places seen zero held)) (length held) (length places) _ _ (omega arith) refl
+  locks_from zero held e =
+      at_last (λ call. IsLock call (lock_records worker places seen zero held)) (length held) (length places) _ _ (omega arith) refl
   locks_from (suc rest) held e =
       before_last (λ call. IsLock call (lock_records worker places seen (suc rest) held)) (length held) (length places) _ _ rest (omega arith) (
       word_then refl λ header.
@@ -93,7 +94,8 @@ module _ (shape : Shape) (state : TxnState) where
     install_is held counts nth (Some value) next l f =
         writes_is (txn_stands shape) (txn_takes shape) (word_at (place_at state nth)) (word_in (value_at state nth)) (place_at state nth).width
         (λ k. go (with_locks held counts) (Installing nth (InstallWord k))) (go (with_locks held counts) (Installing nth InstallCount)) next
-        (λ k. refl) (λ k found. if_in (on_install (with_locks held counts) nth) (k + 1 == (place_at state nth).width) (At InstallCount) (At (InstallWord (k + 1)))) f l
+        (λ k. refl)
+        (λ k found. if_in (on_install (with_locks held counts) nth) (k + 1 == (place_at state nth).width) (At InstallCount) (At (InstallWord (k + 1)))) f l
 
     -- one record: its words, the copy, the new version
     record_is : (held counts : List ℕ) (rest nth : ℕ) → 0 < (place_at state nth).width
@@ -122,7 +124,8 @@ module _ (shape : Shape) (state : TxnState) where
         (is_last (λ call. IsTxn call (publish state held)) nth (length state.writes) _ _ (omega arith) (publish_is held counts))
     records_from held counts (suc rest) nth e =
         record_is held counts (suc rest) nth (wide nth (omega arith))
-        (is_more (λ call. IsTxn call (replace_versions state held counts (publish state held) (suc rest) (nth + 1))) nth (length state.writes) _ _ rest (omega arith)
+        (is_more (λ call. IsTxn call (replace_versions state held counts (publish state held) (suc rest) (nth + 1))) nth (length state.writes) _ _ rest
+        (omega arith)
         (records_from held counts rest (nth + 1) (omega arith)))
 
     records_are : (held counts : List ℕ) (count : ℕ) → count ≡ length state.writes
@@ -142,35 +145,41 @@ module _ (shape : Shape) (state : TxnState) where
     checks_from : (held : List ℕ) (rest : ℕ) (counts : List ℕ) → length counts + rest ≡ length state.writes
         → IsTxn (next_check (with_locks held counts)) (check_slots state rest counts >>= after_check state held)
     checks_from held zero counts e =
-        at_last (λ call. IsTxn call (check_slots state zero counts >>= after_check state held)) (length counts) (length state.writes) _ _ (omega arith)
+        at_last (λ call. IsTxn call (check_slots state zero counts >>= after_check state held)) (length counts) (length state.writes) _ _
+        (omega arith)
         (records_are held counts (length state.writes) refl)
     checks_from held (suc rest) counts e =
         let s = with_locks held counts in let place = place_at state (length counts) in
-        before_last (λ call. IsTxn call (check_slots state (suc rest) counts >>= after_check state held)) (length counts) (length state.writes) _ _ rest
-        (omega arith) (
+        before_last (λ call. IsTxn call (check_slots state (suc rest) counts >>= after_check state held)) (length counts) (length state.writes) _ _
+        rest (omega arith) (
         word_then refl λ count.
         word_then refl λ header.
-        both (λ (now : Now SlotPlace SlotEnd) (p : Prog Checked). IsTxn (on_slot s now) (p >>= after_check state held)) (is_moved place.form header) _ _ _ _
+        both (λ (now : Now SlotPlace SlotEnd) (p : Prog Checked). IsTxn (on_slot s now) (p >>= after_check state held))
+        (is_moved place.form header) _ _ _ _
         (λ t. let l = length-append counts (count ∷ []) in checks_from held rest (counts ++ count ∷ []) (omega arith))
         (λ t. full_is held counts (length counts) header))
 
-    checks_are : (held : List ℕ) → IsTxn (go (with_locks held []) (Checking CheckCount)) (check_slots state (length state.writes) [] >>= after_check state held)
+    checks_are : (held : List ℕ)
+        → IsTxn (go (with_locks held []) (Checking CheckCount)) (check_slots state (length state.writes) [] >>= after_check state held)
     checks_are held =
         let t : (0 == length state.writes) ≡ false = grind (arith, nat_tests) in
         let s = with_locks held [] in
-        subst (λ b. IsTxn (if b then go s (Saving 0 []) else go s (Checking CheckCount)) (check_slots state (length state.writes) [] >>= after_check state held)) t
+        subst (λ b. IsTxn (if b then go s (Saving 0 []) else go s (Checking CheckCount)) (check_slots state (length state.writes) []
+        >>= after_check state held)) t
         (checks_from held (length state.writes) [] (omega arith))
 
     after_locks_is : state.counts ≡ [] → (end : LockEnd) → IsTxn (on_lock state (Over end)) (after_locks state end)
     after_locks_is fresh (lock_end.Held held) =
-        subst (λ counts. IsTxn (go (with_locks held counts) (Checking CheckCount)) (after_locks state (lock_end.Held held))) (sym fresh) (checks_are held)
+        subst (λ counts. IsTxn (go (with_locks held counts) (Checking CheckCount)) (after_locks state (lock_end.Held held))) (sym fresh)
+        (checks_are held)
     after_locks_is fresh (lock_end.Locked nth found) = refl
     after_locks_is fresh (lock_end.Newer nth found) = refl
 
     pub records_commit : state.counts ≡ [] → IsTxn (go state (Locking lock_begin)) (commit_records state)
     records_commit fresh =
         part_is (txn_stands shape) (txn_takes shape) (lock_verb state.worker (places state)) (lock_after (places state) state.seen) (on_lock state)
-        (λ place. refl) (λ place found. refl) _ (after_locks_is fresh) (At lock_begin) _ (locks_are state.worker (places state) state.seen (omega arith))
+        (λ place. refl) (λ place found. refl) _ (after_locks_is fresh) (At lock_begin) _
+        (locks_are state.worker (places state) state.seen (omega arith))
 
 -- 3. The commit from its asking on
 

@@ -90,7 +90,8 @@ module _ (place : Place) (seen : List ℕ) (wide : 0 < place.width) where
     cells_from zero cell e =
         cell_is zero cell (is_last (λ call. IsCells call (search_cells place seen cells zero (cell + 1))) cell cells.cells _ _ (omega arith) refl)
     cells_from (suc rest) cell e =
-        cell_is (suc rest) cell (is_more (λ call. IsCells call (search_cells place seen cells (suc rest) (cell + 1))) cell cells.cells _ _ rest (omega arith)
+        cell_is (suc rest) cell
+        (is_more (λ call. IsCells call (search_cells place seen cells (suc rest) (cell + 1))) cell cells.cells _ _ rest (omega arith)
         (cells_from rest (cell + 1) (omega arith)))
 
     cells_of : (count : ℕ) → count ≡ cells.cells → 0 < count → IsCells (At cell_begin) (search_cells place seen cells count 0)
@@ -128,7 +129,8 @@ module _ (sight : Sight) (seen : List ℕ) (has : SightHasAll sight) where
   horizon_is (TooOld worker entry horizon) = refl
   horizon_is NotPassed = refl
 
-  after_cells : (end : SearchEnd) → IsRead (on_cells (Over end)) (found_or (show_old sight.workers seen sight.workers 1 >>= λ end. Ret (reading_end end)) end)
+  after_cells : (end : SearchEnd)
+      → IsRead (on_cells (Over end)) (found_or (show_old sight.workers seen sight.workers 1 >>= λ end. Ret (reading_end end)) end)
   after_cells (Found value) = refl
   after_cells NotThere =
       part_is (standing (read_verb sight)) (taking (read_after sight seen)) (old_verb sight.workers) (old_after sight.workers seen) on_horizon
@@ -136,7 +138,8 @@ module _ (sight : Sight) (seen : List ℕ) (has : SightHasAll sight) where
       (old_of sight.workers seen sight.workers refl has.workers)
 
   after_ring : (end : SearchEnd) → IsRead (on_ring (Over end))
-      (found_or (search_cells sight.place seen sight.cells sight.cells.cells 0 >>= found_or (show_old sight.workers seen sight.workers 1 >>= λ end. Ret (reading_end end))) end)
+      (found_or (search_cells sight.place seen sight.cells sight.cells.cells 0
+      >>= found_or (show_old sight.workers seen sight.workers 1 >>= λ end. Ret (reading_end end))) end)
   after_ring (Found value) = refl
   after_ring NotThere =
       part_is (standing (read_verb sight)) (taking (read_after sight seen)) (cell_verb sight.cells) (cell_after sight.cells sight.place seen) on_cells
@@ -162,7 +165,8 @@ module _ (sight : Sight) (seen : List ℕ) (has : SightHasAll sight) where
   unsure_is : (header : ℕ) (value : List ℕ)
       → IsRead (At (ReadUnsure value header ring_begin)) (search_ring sight.place seen sight.place.ring 0 >>= found_or (recheck header value))
   unsure_is header value =
-      part_is (standing (read_verb sight)) (taking (read_after sight seen)) (ring_verb sight.place) (ring_after sight.place seen) (on_unsure value header)
+      part_is (standing (read_verb sight)) (taking (read_after sight seen)) (ring_verb sight.place) (ring_after sight.place seen)
+      (on_unsure value header)
       (λ place. refl) (λ place found. refl) _ (after_unsure header value) (At ring_begin) (search_ring sight.place seen sight.place.ring 0)
       (ring_of sight.place seen has.words sight.place.ring refl has.slots)
 

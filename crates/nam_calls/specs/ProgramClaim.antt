@@ -41,7 +41,7 @@ module _ (shape : Shape) (table key : ℕ) where
 pub record ClaimIsProgram : Type 0 where
   pub find : (shape : Shape) (table key : ℕ) → 0 < capacity_of shape table
       → IsTheProgram (standing (find_verb shape table key)) (taking (find_after shape table key)) (At find_begin)
-        (find_program shape table key)
+      (find_program shape table key)
   pub claim : (shape : Shape) (table key : ℕ) → 0 < capacity_of shape table
       → IsTheProgram (standing (claim_key_verb shape table key)) (taking (claim_key_after shape table key)) (At claim_key_begin)
-        (claim_program shape table key)
+      (claim_program shape table key)

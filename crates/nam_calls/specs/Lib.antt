@@ -28,3 +28,8 @@ pub mod Bound
 pub mod Left
 pub mod Fits
 pub mod TxnFits
+pub mod Grows
+pub mod Program
+pub mod ProgramRead
+pub mod ProgramClaim
+pub mod ProgramCommit

@@ -9,6 +9,7 @@
 mod client;
 mod horizon;
 mod index;
+mod laws_growth;
 mod lock;
 mod mover;
 mod overflow;
@@ -22,6 +23,9 @@ mod txn;
 pub use client::{Answer, Call, CallPlace, ClientState, Open, Scanned};
 pub use horizon::{CollectPlace, OldEnd};
 pub use index::{ClaimKeyEnd, ClaimKeyPlace, FindEnd};
+pub use laws_growth::{
+    claim_program_law, commit_program_law, logs_grow_law, read_program_law, session_logs_grow_law,
+};
 pub use lock::{LockEnd, LockPlace};
 pub use mover::{MoveAnswer, MovePlace};
 pub use overflow::{CellPlace, ClaimEnd, ClaimPlace, FillPlace, Version};

@@ -10,7 +10,7 @@ use nam_verbs::Now;
 use si_model::{Log, Snapshot, Value};
 
 /// A call of a client.
-#[derive(Debug, Drop)]
+#[derive(Debug, Drop, PartialEq, Eq)]
 pub enum Call {
     /// Begins try `nth` of a transaction.
     Begin { txn: u32, nth: u32 },
@@ -25,7 +25,7 @@ pub enum Call {
 }
 
 /// The answer to a client's call.
-#[derive(Debug, Drop)]
+#[derive(Debug, Drop, PartialEq, Eq)]
 pub enum Answer {
     /// The transaction is open, on the state after so many commits.
     Begun {

@@ -23,7 +23,7 @@ pub enum LockPlace {
 }
 
 /// How the locking ended.
-#[derive(Debug, Drop)]
+#[derive(Debug, Drop, PartialEq, Eq)]
 pub enum LockEnd {
     /// All records are locked; their headers were these.
     Held(ShortList<u64, 16>),

@@ -47,7 +47,7 @@ pub enum ReadPlace {
 }
 
 /// How a read ended.
-#[derive(Debug, Drop)]
+#[derive(Debug, Drop, PartialEq, Eq)]
 pub enum ReadingEnd {
     /// What the snapshot sees; a deletion has no value.
     Got(Option<Value>),

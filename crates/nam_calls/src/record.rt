@@ -14,7 +14,7 @@ pub enum CurrentPlace {
 }
 
 /// How the reading of a current version ended.
-#[derive(Debug, Drop)]
+#[derive(Debug, Drop, PartialEq, Eq)]
 pub enum CurrentEnd {
     /// The version is visible and whole; a deletion has no value.
     Found(Option<Value>),

@@ -60,7 +60,7 @@ pub enum RingPlace {
 }
 
 /// How a search of old versions ended.
-#[derive(Debug, Drop)]
+#[derive(Debug, Drop, PartialEq, Eq)]
 pub enum SearchEnd {
     /// The version that the snapshot sees; a deletion has no value.
     Found(Option<Value>),

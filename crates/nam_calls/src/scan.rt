@@ -19,7 +19,7 @@ pub enum ScanPlace {
 }
 
 /// What a scan found. After a key or a row its caller says how it goes on.
-#[derive(Debug, Drop)]
+#[derive(Debug, Drop, PartialEq, Eq)]
 pub enum ScanAnswer {
     /// The position bears a key of the range.
     Key {

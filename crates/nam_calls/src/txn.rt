@@ -10,7 +10,7 @@ use nam_layout::Place;
 use si_model::{Item, Key, Lock, Op, Snapshot, Value};
 
 /// A call of a transaction. Fields are counted from 1.
-#[derive(Debug, Drop)]
+#[derive(Debug, Drop, PartialEq, Eq)]
 pub enum TxnCall {
     /// Reads a key.
     Get {
@@ -128,7 +128,7 @@ pub enum TxnPlace {
 }
 
 /// The answer to a transaction's call.
-#[derive(Debug, Drop)]
+#[derive(Debug, Drop, PartialEq, Eq)]
 pub enum TxnAnswer {
     /// What a get or a guard found.
     Value(Option<Value>),

@@ -95,7 +95,7 @@ module _ (shape : Shape) (state : TxnState) where
         writes_is (txn_stands shape) (txn_takes shape) (word_at (place_at state nth)) (word_in (value_at state nth)) (place_at state nth).width
         (λ k. go (with_locks held counts) (Installing nth (InstallWord k))) (go (with_locks held counts) (Installing nth InstallCount)) next
         (λ k. refl)
-        (λ k found. if_in (on_install (with_locks held counts) nth) (k + 1 == (place_at state nth).width) (At InstallCount) (At (InstallWord (k + 1)))) f l
+        (λ k found. if_in (on_install (with_locks held counts) nth) (k + 1 == (place_at state nth).width) _ (At (InstallWord (k + 1)))) f l
 
     -- one record: its words, the copy, the new version
     record_is : (held counts : List ℕ) (rest nth : ℕ) → 0 < (place_at state nth).width
@@ -124,8 +124,8 @@ module _ (shape : Shape) (state : TxnState) where
         (is_last (λ call. IsTxn call (publish state held)) nth (length state.writes) _ _ (omega arith) (publish_is held counts))
     records_from held counts (suc rest) nth e =
         record_is held counts (suc rest) nth (wide nth (omega arith))
-        (is_more (λ call. IsTxn call (replace_versions state held counts (publish state held) (suc rest) (nth + 1))) nth (length state.writes) _ _ rest
-        (omega arith)
+        (is_more (λ call. IsTxn call (replace_versions state held counts (publish state held) (suc rest) (nth + 1))) nth (length state.writes) _ _
+        rest (omega arith)
         (records_from held counts rest (nth + 1) (omega arith)))
 
     records_are : (held counts : List ℕ) (count : ℕ) → count ≡ length state.writes

@@ -33,3 +33,5 @@ pub mod Program
 pub mod ProgramRead
 pub mod ProgramClaim
 pub mod ProgramCommit
+pub mod ProgramTidy
+pub mod ProgramCollect

@@ -5,6 +5,8 @@ ghost use Rattle.nam_calls.specs.Grows.{LogsGrow, SessionLogsGrow};
 ghost use Rattle.nam_calls.specs.ProgramRead.{ReadIsProgram};
 ghost use Rattle.nam_calls.specs.ProgramClaim.{ClaimIsProgram};
 ghost use Rattle.nam_calls.specs.ProgramCommit.{CommitIsProgram};
+ghost use Rattle.nam_calls.specs.ProgramTidy.{MoveIsProgram};
+ghost use Rattle.nam_calls.specs.ProgramCollect.{CollectIsProgram};
 
 /// What a client's log lists stands for good.
 ///
@@ -41,4 +43,19 @@ pub fn claim_program_law()
 /// Each written key has a position with data words.
 pub fn commit_program_law()
     ensures { CommitIsProgram }
+{}
+
+/// The move of a tidying is one straight program in the same way: it looks at the slot, claims a cell, copies the version
+/// there, and shows that it was moved, or gives the cell back.
+///
+/// The record has data words, and its bucket has cells.
+pub fn move_program_law()
+    ensures { MoveIsProgram }
+{}
+
+/// A snapshot, and the collection of a bucket after it, are each one straight program in the same way.
+///
+/// The store has workers, and the bucket has cells.
+pub fn collect_program_law()
+    ensures { CollectIsProgram }
 {}

@@ -24,7 +24,8 @@ pub use client::{Answer, Call, CallPlace, ClientState, Open, Scanned};
 pub use horizon::{CollectPlace, OldEnd};
 pub use index::{ClaimKeyEnd, ClaimKeyPlace, FindEnd};
 pub use laws_growth::{
-    claim_program_law, commit_program_law, logs_grow_law, read_program_law, session_logs_grow_law,
+    claim_program_law, collect_program_law, commit_program_law, logs_grow_law, move_program_law,
+    read_program_law, session_logs_grow_law,
 };
 pub use lock::{LockEnd, LockPlace};
 pub use mover::{MoveAnswer, MovePlace};

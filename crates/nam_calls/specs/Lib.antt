@@ -23,3 +23,4 @@ pub mod World
 pub mod Schedule
 pub mod Closed
 pub mod Bound
+pub mod Fits

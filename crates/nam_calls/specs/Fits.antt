@@ -1,5 +1,5 @@
 -- What holds of each place and of each end, and what it is that the number of verbs to come falls.
-use Rattle.std.specs.Prelude.{◌≡◌, ℕ, ◌<◌, ◌≤◌, List, length, Option, Some, None}
+use Rattle.std.specs.Prelude.{◌≡◌, ℕ, ◌<◌, ◌≤◌, List, length, Option, MatchOption}
 use Rattle.nam_verbs.specs.declared.now.Now.{Now}
 use Rattle.nam_verbs.specs.declared.now.Now.TheVariants.{At, Over}
 use Rattle.nam_catalog.specs.declared.shape.Shape.{Shape}
@@ -72,8 +72,7 @@ Any a = Unit {0}
 
 -- a value, where there is one, has so many words
 abbrev pub HasWidth : ℕ → Option (List ℕ) → Type 0
-HasWidth width None = Unit {0}
-HasWidth width (Some value) = length value ≡ width
+HasWidth width value = MatchOption value (Unit {0}) (λ v. length v ≡ width)
 
 -- workers count from 1
 abbrev pub IsOf : ℕ → ℕ → Type 0

@@ -24,3 +24,4 @@ pub mod Schedule
 pub mod Closed
 pub mod Bound
 pub mod Fits
+pub mod TxnFits

@@ -203,7 +203,7 @@ module _ (shape : Shape) where
     pub own_claimed : (key : Key) → writes_key ws key ≡ true → is_claimed cs key ≡ true
     own_claimed key e = written_claimed cs ws key fits.written e
 
-  own_wide : (ws : List Item) (key : Key) → AllByRecursion (IsWide (widths_of shape.tables)) ws → HasWidth (width_of shape key.table) (own_value ws key)
+  pub own_wide : (ws : List Item) (key : Key) → AllByRecursion (IsWide (widths_of shape.tables)) ws → HasWidth (width_of shape key.table) (own_value ws key)
   own_wide [] key all = tt
   own_wide (w ∷ ws) key all =
       by_test (HasWidth (width_of shape key.table)) (same_key (item_key w) key) w.value (own_value ws key)
@@ -213,7 +213,7 @@ module _ (shape : Shape) where
 -- 4. The records of a commit
 
   -- the record of a claimed key
-  record_placed : (cs : List Record) (key : Key) → AllByRecursion (IsPlaced shape) cs → is_claimed cs key ≡ true → IsPlaced shape (record_in cs key)
+  pub record_placed : (cs : List Record) (key : Key) → AllByRecursion (IsPlaced shape) cs → is_claimed cs key ≡ true → IsPlaced shape (record_in cs key)
   record_placed [] key all e = absurd (false≢true e)
   record_placed (c ∷ cs) key all e =
       by_test (IsPlaced shape) (same_key c.key key) c (record_in cs key) (λ f. all.0)

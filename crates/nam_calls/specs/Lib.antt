@@ -25,3 +25,4 @@ pub mod Closed
 pub mod Bound
 pub mod Fits
 pub mod TxnFits
+pub mod ClientFits

@@ -45,7 +45,7 @@ use Rattle.nam_calls.specs.Operations.{own_value}
 use Rattle.nam_calls.specs.TxnCalls.{txn_ask, txn_after, taken_at, taken_now}
 use Rattle.nam_calls.specs.Log.{with_locks}
 use Rattle.nam_calls.specs.Scan.{scan_skip, scan_read, scan_after, position_of, positions_left, scan_left}
-use Rattle.nam_calls.specs.Client.{go, new_locks, on_answer, on_call, stepped, gathered, scan_listed, on_skip, on_key, on_scan, counted, ask_txn, ask_scan, client_ask, on_begin, on_seek, on_move, on_snap, on_collect, take_txn, take_scan, call_after}
+use Rattle.nam_calls.specs.Client.{go, new_locks, on_answer, on_call, stepped, gathered, scan_listed, on_skip, on_key, on_scan, counted, ask_txn, ask_scan, client_ask, on_begin, on_seek, on_move, on_snap, on_collect, take_txn, take_scan, call_after, after_call, client_after}
 use Rattle.nam_calls.specs.Bound.{txn_left, scan_bound}
 use Rattle.nam_calls.specs.Fits.{Falls, Any, IsOf, MoveFits, CollectFits, CollectEnds}
 use Rattle.nam_calls.specs.TxnFits.{Begins, IsTableOf, StateFits, TxnPlaceFits, TxnFalls, TxnBegins, TxnCallFits, ScanFits, txn_call_bound}
@@ -240,14 +240,15 @@ module _ (shape : Shape) (limits : FitsLimits shape) where
   taken opened n (Some (Over answer)) h = (tt, h.1)
 
   pub client_falls : (client : ClientState) (place : CallPlace) (found : ℕ) → ClientFits shape client → client.call ≡ Some (At place)
-      → ClientFits shape (call_after shape client place found) × (client_left shape (call_after shape client place found) < client_left shape client)
+      → ClientFits shape (client_after shape client found) × (client_left shape (client_after shape client found) < client_left shape client)
   client_falls client place found fits e =
       let is : CallPlaceFits shape client.txn place = subst (NowFits shape client.txn) e fits.2 in
       let same : client_left shape client ≡ call_left shape client.txn place = ap (now_left shape client.txn) e in
       let after = call_after shape client place found in
       let h = call_falls client place found fits.0 fits.1 is in
       let t = taken after.txn _ after.call h.2 in
-      ((h.0, h.1, t.0), rw same t.1)
+      let goes : client_after shape client found ≡ after = ap (λ (call : Option (Now CallPlace Answer)). after_call shape client call found) e in
+      subst (λ (c : ClientState). ClientFits shape c × (client_left shape c < client_left shape client)) (sym goes) ((h.0, h.1, t.0), rw same t.1)
 
   -- 7. A call is asked
 

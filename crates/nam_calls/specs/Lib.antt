@@ -26,3 +26,4 @@ pub mod Bound
 pub mod Fits
 pub mod TxnFits
 pub mod ClientFits
+pub mod FallsLaw

@@ -28,3 +28,5 @@ pub mod Bound
 pub mod Left
 pub mod Fits
 pub mod TxnFits
+pub mod ClientFits
+pub mod FallsLaw

@@ -9,6 +9,7 @@
 mod client;
 mod horizon;
 mod index;
+mod laws_left;
 mod lock;
 mod mover;
 mod overflow;
@@ -22,6 +23,9 @@ mod txn;
 pub use client::{Answer, Call, CallPlace, ClientState, Open, Scanned};
 pub use horizon::{CollectPlace, OldEnd};
 pub use index::{ClaimKeyEnd, ClaimKeyPlace, FindEnd};
+pub use laws_left::{
+    cells_fall, client_falls, locks_fall, position_falls, read_falls, scan_falls, txn_falls,
+};
 pub use lock::{LockEnd, LockPlace};
 pub use mover::{MoveAnswer, MovePlace};
 pub use overflow::{CellPlace, ClaimEnd, ClaimPlace, FillPlace, Version};

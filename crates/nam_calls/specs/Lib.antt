@@ -30,3 +30,8 @@ pub mod Fits
 pub mod TxnFits
 pub mod ClientFits
 pub mod FallsLaw
+pub mod Grows
+pub mod Program
+pub mod ProgramRead
+pub mod ProgramClaim
+pub mod ProgramCommit

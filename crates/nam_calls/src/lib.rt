@@ -10,6 +10,7 @@ mod client;
 mod horizon;
 mod index;
 mod laws_left;
+mod laws_growth;
 mod lock;
 mod mover;
 mod overflow;
@@ -25,6 +26,8 @@ pub use horizon::{CollectPlace, OldEnd};
 pub use index::{ClaimKeyEnd, ClaimKeyPlace, FindEnd};
 pub use laws_left::{
     cells_fall, client_falls, locks_fall, position_falls, read_falls, scan_falls, txn_falls,
+pub use laws_growth::{
+    claim_program_law, commit_program_law, logs_grow_law, read_program_law, session_logs_grow_law,
 };
 pub use lock::{LockEnd, LockPlace};
 pub use mover::{MoveAnswer, MovePlace};

@@ -22,7 +22,7 @@ use Rattle.nam_calls.specs.declared.txn.TxnCall.TheVariants.{Get, Put, Add, Del,
 use Rattle.nam_calls.specs.declared.txn.TxnPlace.TheVariants.{Committing}
 use Rattle.nam_calls.specs.declared.txn.CommitPlace.TheVariants.{Locking}
 use Rattle.nam_calls.specs.declared.txn.TxnAnswer.TheVariants.{ReadOnly, Spent}
-use Rattle.nam_calls.specs.declared.txn.Stepped.{Stepped}
+use Rattle.nam_calls.specs.Txn.{Stepped}
 use Rattle.nam_calls.specs.Words.{width_of}
 use Rattle.nam_calls.specs.Lock.{lock_begin}
 use Rattle.nam_calls.specs.Txn.{at, answered}

@@ -25,7 +25,7 @@ use Rattle.nam_calls.specs.declared.txn.TxnCall.{TxnCall}
 use Rattle.nam_calls.specs.declared.txn.TxnCall.TheVariants.{Get, Put, Add, Del, Need, Guard, Commit}
 use Rattle.nam_calls.specs.declared.txn.TxnAnswer.{TxnAnswer}
 use Rattle.nam_calls.specs.declared.txn.TxnAnswer.TheVariants as txn_answer
-use Rattle.nam_calls.specs.declared.txn.Stepped.{Stepped}
+use Rattle.nam_calls.specs.Txn.{Stepped}
 use Rattle.nam_calls.specs.declared.scan.ScanPlace.{ScanPlace}
 use Rattle.nam_calls.specs.declared.scan.ScanPlace.TheVariants.{ScanKey, ScanRead}
 use Rattle.nam_calls.specs.declared.scan.ScanAnswer.{ScanAnswer}

@@ -24,7 +24,7 @@ use Rattle.nam_calls.specs.declared.txn.CommitPlace.{CommitPlace}
 use Rattle.nam_calls.specs.declared.txn.CommitPlace.TheVariants.{Locking, Checking, Returning, Saving, Copying, Installing, Publishing, Freeing}
 use Rattle.nam_calls.specs.declared.txn.TxnAnswer.{TxnAnswer}
 use Rattle.nam_calls.specs.declared.txn.TxnAnswer.TheVariants.{Committed, Locked, Newer, Full}
-use Rattle.nam_calls.specs.declared.txn.Stepped.{Stepped}
+use Rattle.nam_calls.specs.Txn.{Stepped}
 use Rattle.nam_calls.specs.Record.{words_begin, install_begin}
 use Rattle.nam_calls.specs.Ring.{slot_begin, copy_begin}
 use Rattle.nam_calls.specs.Lock.{nth_place}

@@ -45,41 +45,41 @@ module _ (shape : Shape) (table key : ℕ) where
   capacity = capacity_of shape table
 
   abbrev pub FindFalls : ℕ → Now ℕ FindEnd → Type 0
-  FindFalls = Falls (FindFits capacity) (FindEnds capacity) (find_left shape table key)
+  FindFalls = Falls (FindFits capacity) (FindEnds capacity) (find_left shape table)
 
   abbrev pub ClaimKeyFalls : ℕ → Now ClaimKeyPlace ClaimKeyEnd → Type 0
-  ClaimKeyFalls = Falls (ClaimKeyFits capacity) (ClaimKeyEnds capacity) (claim_key_left shape table key)
+  ClaimKeyFalls = Falls (ClaimKeyFits capacity) (ClaimKeyEnds capacity) (claim_key_left shape table)
 
   -- each position of a path is one of the table
   path_within : (passed : ℕ) → passed < capacity → on_path capacity key passed < capacity
   path_within passed l = omega arith
 
-  pub find_falls : (passed found : ℕ) → FindFits capacity passed → FindFalls (find_left shape table key passed) (find_after shape table key passed found)
+  pub find_falls : (passed found : ℕ) → FindFits capacity passed → FindFalls (find_left shape table passed) (find_after shape table key passed found)
   find_falls passed found l =
-      let n = find_left shape table key passed in
+      let n = find_left shape table passed in
       let r = path_within passed l in
       either (FindFalls n) (found == key_word key) (Over (found_key.At (on_path capacity key passed)))
       (if (found == 0) || (passed + 1 == capacity) then Over found_key.Absent else At (passed + 1))
       (r, omega arith)
       (by_test (FindFalls n) ((found == 0) || (passed + 1 == capacity)) (Over found_key.Absent) (At (passed + 1)) (λ e. (tt, omega arith)) (λ e. grind (arith, nat_tests)))
 
-  next_falls : (passed n : ℕ) → passed < capacity → 2 * (capacity - passed - 1) < n → ClaimKeyFalls n (claim_key_next shape table key passed)
+  next_falls : (passed n : ℕ) → passed < capacity → 2 * (capacity - passed - 1) < n → ClaimKeyFalls n (claim_key_next shape table passed)
   next_falls passed n l m =
       or_last (ClaimKeyFalls n) capacity passed (Over claimed_key.NoSpace) (At (KeyLook (passed + 1))) l (λ e. (tt, omega arith)) (λ e. (e, omega arith))
 
   pub claim_key_falls : (place : ClaimKeyPlace) (found : ℕ) → ClaimKeyFits capacity place
-      → ClaimKeyFalls (claim_key_left shape table key place) (claim_key_after shape table key place found)
+      → ClaimKeyFalls (claim_key_left shape table place) (claim_key_after shape table key place found)
   claim_key_falls (KeyLook passed) found l =
-      let n = claim_key_left shape table key (KeyLook passed) in
+      let n = claim_key_left shape table (KeyLook passed) in
       let r = path_within passed l in
       either (ClaimKeyFalls n) (found == key_word key) (Over (claimed_key.At (on_path capacity key passed)))
-      (if found == 0 then At (KeyTake passed) else claim_key_next shape table key passed)
+      (if found == 0 then At (KeyTake passed) else claim_key_next shape table passed)
       (r, omega arith)
-      (either (ClaimKeyFalls n) (found == 0) (At (KeyTake passed)) (claim_key_next shape table key passed) (l, omega arith) (next_falls passed n l (omega arith)))
+      (either (ClaimKeyFalls n) (found == 0) (At (KeyTake passed)) (claim_key_next shape table passed) (l, omega arith) (next_falls passed n l (omega arith)))
   claim_key_falls (KeyTake passed) found l =
-      let n = claim_key_left shape table key (KeyTake passed) in
+      let n = claim_key_left shape table (KeyTake passed) in
       let r = path_within passed l in
-      either (ClaimKeyFalls n) ((found == 0) || (found == key_word key)) (Over (claimed_key.At (on_path capacity key passed))) (claim_key_next shape table key passed)
+      either (ClaimKeyFalls n) ((found == 0) || (found == key_word key)) (Over (claimed_key.At (on_path capacity key passed))) (claim_key_next shape table passed)
       (r, omega arith) (next_falls passed n l (omega arith))
 
 -- 2. A position's words

@@ -24,7 +24,7 @@ use Rattle.nam_calls.specs.declared.txn.TxnPlace.{TxnPlace}
 use Rattle.nam_calls.specs.declared.txn.TxnPlace.TheVariants.{Finding, Reading, Claiming, Committing}
 use Rattle.nam_calls.specs.declared.txn.TxnAnswer.{TxnAnswer}
 use Rattle.nam_calls.specs.declared.txn.TxnAnswer.TheVariants.{TooOld, NoSpace, Declined, Astray}
-use Rattle.nam_calls.specs.declared.txn.Stepped.{Stepped}
+use Rattle.nam_calls.specs.Txn.{Stepped}
 use Rattle.nam_calls.specs.Words.{width_of, ring_of, capacity_of}
 use Rattle.nam_calls.specs.Index.{find_begin, claim_key_begin, find_left, claim_key_left}
 use Rattle.nam_calls.specs.Reading.{sight_of, read_begin, read_left}

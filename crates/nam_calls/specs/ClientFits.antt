@@ -71,7 +71,7 @@ module _ (shape : Shape) where
   call_left opened (Beginning txn nth at) = left_at shape.workers at
   call_left opened (InTxn at) = open_left opened at
   call_left opened (Scanning table low high at) = scan_left shape table low high at
-  call_left opened (Seeking table key passed) = find_left shape table key passed + move_most table
+  call_left opened (Seeking table key passed) = find_left shape table passed + move_most table
   call_left opened (Moving table key position at) = move_left (place_of shape table position) (cells_by shape (place_of shape table position)) at
   call_left opened (Snapping bucket at) = left_at shape.workers at + collect_most
   call_left opened (Collecting bucket prefix seen at) = collect_left (cells_of shape bucket) shape.workers at

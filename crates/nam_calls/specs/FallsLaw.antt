@@ -39,7 +39,8 @@ use Rattle.nam_calls.specs.Reading.{sight_of, read_begin, read_after, read_left}
 use Rattle.nam_calls.specs.TxnCalls.{txn_ask, txn_after}
 use Rattle.nam_calls.specs.Scan.{scan_begin, scan_skip, scan_read, scan_after, scan_left, position_of, positions_left}
 use Rattle.nam_calls.specs.Client.{client_ask, client_after}
-use Rattle.nam_calls.specs.Bound.{read_most, txn_left, scan_bound}
+use Rattle.nam_calls.specs.Reading.{read_most}
+use Rattle.nam_calls.specs.Bound.{txn_left, scan_bound}
 use Rattle.nam_calls.specs.Fits.{FallsTo, Falls, Any, IsOf, FindFits, FindEnds, ClaimKeyFits, ClaimKeyEnds, CurrentFits, CurrentEnds, WordsFit, WordsEnd, InstallFits, SlotEnds, CopyFits, RingFits, SearchEnds, CellFits, ClaimFits, ClaimEnds, FillFits, MoveFits, CollectFits, CollectEnds, OldEnds, SightFits, ReadFits, ReadEnds, LockFits, LockEnds, after_locks}
 use Rattle.nam_calls.specs.TxnFits.{IsTableOf, StateFits, TxnPlaceFits, TxnFalls, TxnBegins, TxnCallFits, txn_call_bound, ScanFits, ScanEnds, after_scan}
 use Rattle.nam_calls.specs.ClientFits.{ClientFits, client_left, CallFits, call_bound}
@@ -48,13 +49,13 @@ use Rattle.nam_calls.specs.ClientFits.{ClientFits, client_left, CallFits, call_b
 
 abbrev pub FindLaw : Type 0
 FindLaw = (shape : Shape) (table key passed found : ℕ) → FindFits (capacity_of shape table) passed
-    → Falls (FindFits (capacity_of shape table)) (FindEnds (capacity_of shape table)) (find_left shape table key) (find_left shape table key passed)
+    → Falls (FindFits (capacity_of shape table)) (FindEnds (capacity_of shape table)) (find_left shape table) (find_left shape table passed)
       (find_after shape table key passed found)
 
 abbrev pub ClaimKeyLaw : Type 0
 ClaimKeyLaw = (shape : Shape) (table key : ℕ) (at : ClaimKeyPlace) (found : ℕ) → ClaimKeyFits (capacity_of shape table) at
-    → Falls (ClaimKeyFits (capacity_of shape table)) (ClaimKeyEnds (capacity_of shape table)) (claim_key_left shape table key)
-      (claim_key_left shape table key at) (claim_key_after shape table key at found)
+    → Falls (ClaimKeyFits (capacity_of shape table)) (ClaimKeyEnds (capacity_of shape table)) (claim_key_left shape table)
+      (claim_key_left shape table at) (claim_key_after shape table key at found)
 
 abbrev pub CurrentLaw : Type 0
 CurrentLaw = (place : Place) → FitsPlace place → (seen : List ℕ) (at : CurrentPlace) (found : ℕ) → CurrentFits place at

@@ -28,7 +28,7 @@ use Rattle.nam_calls.specs.declared.txn.TxnPlace.TheVariants.{Finding, Reading, 
 use Rattle.nam_calls.specs.declared.txn.TxnAnswer.{TxnAnswer}
 use Rattle.nam_calls.specs.declared.txn.CommitPlace.{CommitPlace}
 use Rattle.nam_calls.specs.declared.txn.CommitPlace.TheVariants.{Locking, Checking, Returning, Saving, Copying, Installing, Publishing, Freeing}
-use Rattle.nam_calls.specs.declared.txn.Stepped.{Stepped}
+use Rattle.nam_calls.specs.Txn.{Stepped}
 use Rattle.nam_calls.specs.Words.{width_of, capacity_of}
 use Rattle.nam_calls.specs.Reading.{sight_of, read_begin, read_left}
 use Rattle.nam_calls.specs.Operations.{key_of, value_in}

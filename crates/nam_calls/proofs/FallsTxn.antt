@@ -31,7 +31,8 @@ use Rattle.nam_calls.specs.Reading.{sight_of, read_begin, read_left}
 use Rattle.nam_calls.specs.Operations.{key_of, reads, claims, holding, own_value, read_of, value_in, answer_of}
 use Rattle.nam_calls.specs.Txn.{at, answered, with_claim, with_op, with_own, ask_op, decided, valued, on_find, on_read, record_of, claimed, on_claim}
 use Rattle.nam_calls.specs.TxnCalls.{txn_after}
-use Rattle.nam_calls.specs.Bound.{read_most, claim_most, txn_left, op_bound}
+use Rattle.nam_calls.specs.Reading.{read_most}
+use Rattle.nam_calls.specs.Bound.{claim_most, txn_left, op_bound}
 use Rattle.nam_calls.specs.Fits.{HasWidth, ReadEnds}
 use Rattle.nam_calls.specs.TxnFits.{IsTableOf, StateFits, OpStands, TxnPlaceFits, TxnFalls, TxnBegins}
 use Rattle.nam_calls.proofs.FallsTests.{by_test, either}
@@ -84,9 +85,9 @@ module _ (shape : Shape) (limits : FitsLimits shape) where
     valued_falls n value wide l =
         let state' = record state { read = read_of op value } in
         either (TxnFalls shape n) (not (passes op (holding value))) (answered state' Declined)
-        (if claims op then at state' (Claiming op (claim_key_begin shape table (key_of op).key)) else answered state' (answer_of op value))
+        (if claims op then at state' (Claiming op claim_key_begin) else answered state' (answer_of op value))
         (fits, (tt, omega arith))
-        (by_test (TxnFalls shape n) (claims op) (at state' (Claiming op (claim_key_begin shape table (key_of op).key))) (answered state' (answer_of op value))
+        (by_test (TxnFalls shape n) (claims op) (at state' (Claiming op claim_key_begin)) (answered state' (answer_of op value))
           (λ e. let m = claims_take shape op (claims op) e in let c = least in (fits, ((stands, c, read_wide shape op value stands wide), omega arith)))
           (λ e. (fits, (tt, omega arith))))
 
@@ -129,7 +130,7 @@ module _ (shape : Shape) (limits : FitsLimits shape) where
 
   -- an operation is asked
   op_begins_at : (state : TxnState) (op : Op) → StateFits shape state → OpStands shape op → (e : reads op ≡ true)
-      → TxnBegins shape (op_bound shape op) (at state (Finding op (find_begin shape (key_of op).table (key_of op).key)))
+      → TxnBegins shape (op_bound shape op) (at state (Finding op find_begin))
   op_begins_at state (op.Get t k) fits stands e = let c = least state fits (op.Get t k) stands in (fits, ((stands, c), omega arith))
   op_begins_at state (op.Put t k v) fits stands e = absurd (false≢true e)
   op_begins_at state (op.Add t k f up by) fits stands e = let c = least state fits (op.Add t k f up by) stands in (fits, ((stands, c), omega arith))
@@ -139,7 +140,7 @@ module _ (shape : Shape) (limits : FitsLimits shape) where
   op_begins_at state (op.Scan t low high) fits stands e = absurd (false≢true e)
 
   op_claims_at : (state : TxnState) (op : Op) → StateFits shape state → OpStands shape op → reads op ≡ false
-      → TxnBegins shape (op_bound shape op) (at (record state { read = None }) (Claiming op (claim_key_begin shape (key_of op).table (key_of op).key)))
+      → TxnBegins shape (op_bound shape op) (at (record state { read = None }) (Claiming op claim_key_begin))
   op_claims_at state (op.Get t k) fits stands e = absurd (false≢true (sym e))
   op_claims_at state (op.Put t k v) fits stands e = let c = least state fits (op.Put t k v) stands in (fits, ((stands, c, tt), omega arith))
   op_claims_at state (op.Add t k f up by) fits stands e = absurd (false≢true (sym e))
@@ -161,8 +162,8 @@ module _ (shape : Shape) (limits : FitsLimits shape) where
       let own = own_value state.writes (key_of op) in
       let n = op_bound shape op in
       let state' = record state { read = None } in
-      let finding = at state' (Finding op (find_begin shape (key_of op).table (key_of op).key)) in
-      let claiming = at state' (Claiming op (claim_key_begin shape (key_of op).table (key_of op).key)) in
+      let finding = at state' (Finding op find_begin) in
+      let claiming = at state' (Claiming op claim_key_begin) in
       by_test (TxnBegins shape n) (writes_key state.writes (key_of op)) (with_own shape (record state { read = read_of op own }) op own) (if reads op then finding else claiming)
       (λ e. own_begins n (record state { read = read_of op own }) op own fits stands e (own_wide shape state.writes (key_of op) fits.wide))
       (λ e. by_test (TxnBegins shape n) (reads op) finding claiming (λ f. op_begins_at state' op fits stands f) (λ f. op_claims_at state op fits stands f))

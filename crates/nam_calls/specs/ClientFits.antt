@@ -1,10 +1,10 @@
--- What holds of a client and of the places of its calls, and how many verbs its call has to come.
-use Rattle.std.specs.Prelude.{◌≡◌, ℕ, ◌+◌, ◌-◌, ◌*◌, ◌<◌, ◌≤◌, List, length, Option, Some, None, IsSome}
+-- What holds of a client and of the places of its calls, and how many verbs a call takes.
+use Rattle.std.specs.Prelude.{◌≡◌, ℕ, ◌*◌, ◌<◌, length, Option, Some, None, IsSome}
 use Rattle.nam_verbs.specs.declared.now.Now.{Now}
 use Rattle.nam_verbs.specs.declared.now.Now.TheVariants.{At, Over}
 use Rattle.nam_catalog.specs.declared.shape.Shape.{Shape}
 use Rattle.nam_layout.specs.Place.{place_of, cells_of}
-use Rattle.nam_vector.specs.SnapPlace.{SnapFits, left_at}
+use Rattle.nam_vector.specs.SnapPlace.{SnapFits}
 use Rattle.nam_calls.specs.declared.txn.TxnPlace.{TxnPlace}
 use Rattle.nam_calls.specs.declared.txn.TxnCall.{TxnCall}
 use Rattle.nam_calls.specs.declared.client.Call.{Call}
@@ -14,14 +14,10 @@ use Rattle.nam_calls.specs.declared.client.CallPlace.{CallPlace}
 use Rattle.nam_calls.specs.declared.client.CallPlace.TheVariants.{Beginning, InTxn, Scanning, Seeking, Moving, Snapping, Collecting}
 use Rattle.nam_calls.specs.declared.client.Open.{Open}
 use Rattle.nam_calls.specs.declared.client.ClientState.{ClientState}
-use Rattle.nam_calls.specs.Words.{width_of, capacity_of, cells_by}
-use Rattle.nam_calls.specs.Index.{find_left}
-use Rattle.nam_calls.specs.Mover.{move_left}
-use Rattle.nam_calls.specs.Horizon.{collect_left}
-use Rattle.nam_calls.specs.Scan.{scan_left}
-use Rattle.nam_calls.specs.Bound.{txn_left, scan_bound, tidy_bound, collect_bound}
-use Rattle.nam_calls.specs.Fits.{Falls, Any, IsOf, FindFits, MoveFits, CollectFits}
-use Rattle.nam_calls.specs.TxnFits.{IsTableOf, StateFits, TxnPlaceFits, ScanFits, TxnCallFits, Begins, txn_call_bound}
+use Rattle.nam_calls.specs.Words.{capacity_of, cells_by}
+use Rattle.nam_calls.specs.Bound.{scan_bound, tidy_bound, collect_bound}
+use Rattle.nam_calls.specs.Fits.{IsOf, FindFits, MoveFits, CollectFits}
+use Rattle.nam_calls.specs.TxnFits.{IsTableOf, StateFits, TxnPlaceFits, ScanFits, TxnCallFits, txn_call_bound}
 
 module _ (shape : Shape) where
   -- 1. Places
@@ -54,36 +50,7 @@ module _ (shape : Shape) where
   abbrev pub ClientFits : ClientState → Type 0
   ClientFits client = IsOf shape.workers client.worker × OpenFits client.txn × NowFits client.txn client.call
 
-  -- 2. What is to come of a call
-
-  abbrev pub open_left : Option Open → TxnPlace → ℕ
-  open_left None at = 0
-  open_left (Some attempt) at = txn_left shape attempt.state at
-
-  -- a whole move in a bucket, and a whole collection
-  abbrev pub move_most : ℕ → ℕ
-  move_most table = 2 * shape.cells + 2 * width_of shape table + 9
-
-  abbrev pub collect_most : ℕ
-  collect_most = 2 * shape.workers + 3 * shape.cells
-
-  abbrev pub call_left : Option Open → CallPlace → ℕ
-  call_left opened (Beginning txn nth at) = left_at shape.workers at
-  call_left opened (InTxn at) = open_left opened at
-  call_left opened (Scanning table low high at) = scan_left shape table low high at
-  call_left opened (Seeking table key passed) = find_left shape table passed + move_most table
-  call_left opened (Moving table key position at) = move_left (place_of shape table position) (cells_by shape (place_of shape table position)) at
-  call_left opened (Snapping bucket at) = left_at shape.workers at + collect_most
-  call_left opened (Collecting bucket prefix seen at) = collect_left (cells_of shape bucket) shape.workers at
-
-  abbrev pub now_left : Option Open → Option (Now CallPlace Answer) → ℕ
-  now_left opened (Some (At place)) = call_left opened place
-  now_left opened _ = 0
-
-  abbrev pub client_left : ClientState → ℕ
-  client_left client = now_left client.txn client.call
-
-  -- 3. Calls
+  -- 2. Calls
 
   -- a call of a transaction, or a scan, is asked only where one is open
   abbrev pub CallFits : Option Open → Call → Type 0

@@ -1,5 +1,5 @@
 -- The number of verbs to come falls with each word taken, and what it is at the begin.
-use Rattle.std.specs.Prelude.{◌≡◌, ℕ, ◌+◌, ◌-◌, ◌*◌, ◌<◌, ◌≤◌, List, length, Some}
+use Rattle.std.specs.Prelude.{◌≡◌, ℕ, ◌+◌, ◌-◌, ◌*◌, ◌<◌, ◌≤◌, false, List, length, Some}
 use Rattle.nam_verbs.specs.declared.now.Now.TheVariants.{At}
 use Rattle.nam_catalog.specs.declared.shape.Shape.{Shape}
 use Rattle.nam_catalog.specs.Fits.{FitsLimits}
@@ -24,6 +24,7 @@ use Rattle.nam_calls.specs.declared.txn.TxnState.{TxnState}
 use Rattle.nam_calls.specs.declared.txn.TxnCall.{TxnCall}
 use Rattle.nam_calls.specs.declared.txn.TxnPlace.{TxnPlace}
 use Rattle.nam_calls.specs.declared.scan.ScanPlace.{ScanPlace}
+use Rattle.nam_calls.specs.declared.scan.ScanPlace.TheVariants.{ScanRead}
 use Rattle.nam_calls.specs.declared.client.Call.{Call}
 use Rattle.nam_calls.specs.declared.client.CallPlace.{CallPlace}
 use Rattle.nam_calls.specs.declared.client.ClientState.{ClientState}
@@ -43,7 +44,8 @@ use Rattle.nam_calls.specs.Reading.{read_most}
 use Rattle.nam_calls.specs.Bound.{txn_left, scan_bound}
 use Rattle.nam_calls.specs.Fits.{FallsTo, Falls, Any, IsOf, FindFits, FindEnds, ClaimKeyFits, ClaimKeyEnds, CurrentFits, CurrentEnds, WordsFit, WordsEnd, InstallFits, SlotEnds, CopyFits, RingFits, SearchEnds, CellFits, ClaimFits, ClaimEnds, FillFits, MoveFits, CollectFits, CollectEnds, OldEnds, SightFits, ReadFits, ReadEnds, LockFits, LockEnds, after_locks}
 use Rattle.nam_calls.specs.TxnFits.{IsTableOf, StateFits, TxnPlaceFits, TxnFalls, TxnBegins, TxnCallFits, txn_call_bound, ScanFits, ScanEnds, after_scan}
-use Rattle.nam_calls.specs.ClientFits.{ClientFits, client_left, CallFits, call_bound}
+use Rattle.nam_calls.specs.Left.{client_left}
+use Rattle.nam_calls.specs.ClientFits.{ClientFits, CallFits, call_bound}
 
 -- 1. Machines
 
@@ -135,26 +137,26 @@ TxnBeginsLaw = (shape : Shape) → FitsLimits shape → (state : TxnState) (call
 
 -- 4. A scan: it begins, takes a word, and goes on by its caller's choice after a key or a row
 
-pub record ScanFacts (shape : Shape) (table low high : ℕ) : Type 0 where
-  pub begins : ScanFits shape table (scan_begin shape table low high) × (scan_left shape table low high (scan_begin shape table low high) ≤ scan_bound shape table)
-  pub falls : (seen : List ℕ) (at : ScanPlace) (found : ℕ) → ScanFits shape table at
-      → FallsTo (ScanFits shape table) (ScanEnds shape table) (scan_left shape table low high) (after_scan shape table low high (position_of shape table low high at))
-        (scan_left shape table low high at) (scan_after shape table low high seen at found)
-  pub skips : (position n : ℕ) → position < capacity_of shape table → positions_left shape table low high position < n
-      → FallsTo (ScanFits shape table) (ScanEnds shape table) (scan_left shape table low high) (after_scan shape table low high position) n
-        (scan_skip shape table low high position)
-  pub reads : (position key n : ℕ) → position < capacity_of shape table
-      → read_left (sight_of shape table position) read_begin + positions_left shape table low high position < n
-      → FallsTo (ScanFits shape table) (ScanEnds shape table) (scan_left shape table low high) (after_scan shape table low high position) n
-        (scan_read shape table low high position key)
+pub record ScanFacts (shape : Shape) (table : ℕ) : Type 0 where
+  pub begins : ScanFits shape table scan_begin × (scan_left shape table scan_begin ≤ scan_bound shape table)
+  pub falls : (low high : ℕ) (seen : List ℕ) (at : ScanPlace) (found : ℕ) → ScanFits shape table at
+      → FallsTo (ScanFits shape table) (ScanEnds shape table) (scan_left shape table) (after_scan shape table (position_of at))
+        (scan_left shape table at) (scan_after shape table low high seen at found)
+  pub skips : (position n : ℕ) → position < capacity_of shape table → positions_left shape table (capacity_of shape table - position - 1) < n
+      → FallsTo (ScanFits shape table) (ScanEnds shape table) (scan_left shape table) (after_scan shape table position) n
+        (scan_skip shape table position)
+  pub reads : (position key n : ℕ) → position < capacity_of shape table → scan_left shape table (ScanRead position key read_begin) < n
+      → FallsTo (ScanFits shape table) (ScanEnds shape table) (scan_left shape table) (after_scan shape table position) n
+        (scan_read position key)
 
 abbrev pub ScanLaw : Type 0
-ScanLaw = (shape : Shape) → FitsLimits shape → (table low high : ℕ) → IsTableOf shape table → ScanFacts shape table low high
+ScanLaw = (shape : Shape) → FitsLimits shape → (table : ℕ) → IsTableOf shape table → ScanFacts shape table
 
 -- 5. A client
 
 abbrev pub ClientLaw : Type 0
-ClientLaw = (shape : Shape) → FitsLimits shape → (client : ClientState) (place : CallPlace) (found : ℕ) → ClientFits shape client → client.call ≡ Some (At place)
+ClientLaw = (shape : Shape) → FitsLimits shape → (client : ClientState) (place : CallPlace) (found : ℕ) → ClientFits shape client
+    → client.cut ≡ false → client.call ≡ Some (At place)
     → ClientFits shape (client_after shape client found) × (client_left shape (client_after shape client found) < client_left shape client)
 
 abbrev pub ClientBeginsLaw : Type 0

@@ -30,10 +30,10 @@ use Rattle.nam_calls.specs.declared.txn.CommitPlace.{CommitPlace}
 use Rattle.nam_calls.specs.declared.txn.CommitPlace.TheVariants.{Locking, Checking, Returning, Saving, Copying, Installing, Publishing, Freeing}
 use Rattle.nam_calls.specs.Txn.{Stepped}
 use Rattle.nam_calls.specs.Words.{width_of, capacity_of}
-use Rattle.nam_calls.specs.Reading.{sight_of, read_begin, read_left}
+use Rattle.nam_calls.specs.Reading.{sight_of, read_begin}
 use Rattle.nam_calls.specs.Operations.{key_of, value_in}
 use Rattle.nam_calls.specs.Commit.{records_of, place_at}
-use Rattle.nam_calls.specs.Scan.{positions_left}
+use Rattle.nam_calls.specs.Scan.{positions_left, scan_left}
 use Rattle.nam_calls.specs.Bound.{txn_left, op_bound, writes_bound}
 use Rattle.nam_calls.specs.Fits.{Falls, Any, HasWidth, IsOf, FindFits, ClaimKeyFits, ReadFits, WordsFit, WordsEnd, CopyFits, InstallFits, LockFits}
 
@@ -149,8 +149,7 @@ module _ (shape : Shape) where
   ScanEnds table _ = Unit {0}
 
   -- what follows a key or a row at this position: the read there, and the positions after it
-  abbrev pub after_scan : ℕ → ℕ → ℕ → ℕ → ScanAnswer → ℕ
-  after_scan table low high position (scan.Key key) =
-      read_left (sight_of shape table position) read_begin + positions_left shape table low high position
-  after_scan table low high position (scan.Row item) = positions_left shape table low high position
-  after_scan table low high position _ = 0
+  abbrev pub after_scan : ℕ → ℕ → ScanAnswer → ℕ
+  after_scan table position (scan.Key key) = scan_left shape table (ScanRead position key read_begin)
+  after_scan table position (scan.Row item) = positions_left shape table (capacity_of shape table - position - 1)
+  after_scan table position _ = 0

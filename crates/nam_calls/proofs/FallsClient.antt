@@ -45,11 +45,14 @@ use Rattle.nam_calls.specs.Operations.{own_value}
 use Rattle.nam_calls.specs.TxnCalls.{txn_ask, txn_after, taken_at, taken_now}
 use Rattle.nam_calls.specs.Log.{with_locks}
 use Rattle.nam_calls.specs.Scan.{scan_skip, scan_read, scan_after, position_of, positions_left, scan_left}
-use Rattle.nam_calls.specs.Client.{go, new_locks, on_answer, on_call, stepped, gathered, scan_listed, on_skip, on_key, on_scan, counted, ask_txn, ask_scan, client_ask, on_begin, on_seek, on_move, on_snap, on_collect, take_txn, take_scan, call_after, after_call, client_after}
+use Rattle.nam_calls.specs.Client.{counted, ask_txn, ask_scan, client_ask, on_begin, on_seek, on_move, on_snap, on_collect, take_txn, take_scan, call_after, after_call, client_after}
+use Rattle.nam_calls.specs.Telling.{new_locks, on_answer, on_call, stepped}
+use Rattle.nam_calls.specs.ScanCall.{gathered, on_skip, on_scan}
+use Rattle.nam_calls.specs.Left.{open_left, call_left, left_of, client_left}
 use Rattle.nam_calls.specs.Bound.{txn_left, scan_bound}
 use Rattle.nam_calls.specs.Fits.{Falls, Any, IsOf, MoveFits, CollectFits, CollectEnds}
 use Rattle.nam_calls.specs.TxnFits.{Begins, IsTableOf, StateFits, TxnPlaceFits, TxnFalls, TxnBegins, TxnCallFits, ScanFits, txn_call_bound}
-use Rattle.nam_calls.specs.ClientFits.{OpenFits, OpenPlaceFits, CallPlaceFits, NowFits, ClientFits, call_left, now_left, client_left, CallFits, call_bound, open_bound}
+use Rattle.nam_calls.specs.ClientFits.{OpenFits, OpenPlaceFits, CallPlaceFits, NowFits, ClientFits, CallFits, call_bound, open_bound}
 use Rattle.nam_calls.proofs.FallsTests.{either, by_test, or_last}
 use Rattle.nam_calls.proofs.FallsMachines.{FindFalls, find_falls}
 use Rattle.nam_calls.proofs.FallsCells.{MoveFalls, move_falls}
@@ -85,12 +88,12 @@ module _ (shape : Shape) (limits : FitsLimits shape) where
   -- 2. A client has taken a word, or has asked a call
 
   -- the call is at a place or answered
-  abbrev NowFalls : Option Open → ℕ → Option (Now CallPlace Answer) → Type 0
-  NowFalls opened n None = ⊥
-  NowFalls opened n (Some now) = Falls (CallPlaceFits shape opened) Any (call_left shape opened) n now
+  abbrev NowFalls : ClientState → ℕ → Option (Now CallPlace Answer) → Type 0
+  NowFalls client n None = ⊥
+  NowFalls client n (Some now) = Falls (CallPlaceFits shape client.txn) Any (call_left shape client) n now
 
   abbrev ClientFalls : ℕ → ClientState → Type 0
-  ClientFalls n client = IsOf shape.workers client.worker × OpenFits shape client.txn × NowFalls client.txn n client.call
+  ClientFalls n client = IsOf shape.workers client.worker × OpenFits shape client.txn × NowFalls client n client.call
 
   -- 3. Calls of a transaction
 
@@ -128,7 +131,7 @@ module _ (shape : Shape) (limits : FitsLimits shape) where
   begins_falls state n (Over answer) h = (h, omega arith)
 
   take_txn_falls : (client : ClientState) (at : TxnPlace) (opened : Option Open) (found : ℕ) → IsOf shape.workers client.worker → OpenFits shape opened → OpenPlaceFits shape opened at
-      → ClientFalls (call_left shape opened (InTxn at)) (take_txn shape client at opened found)
+      → ClientFalls (open_left shape opened at) (take_txn shape client at opened found)
   take_txn_falls client at None found w f p = absurd p
   take_txn_falls client at (Some attempt) found w f p =
       stepped_falls client attempt (length (taken_at attempt.state at)) _ (txn_after shape attempt.state at found) w (txn_falls shape limits attempt.state at found f p)
@@ -145,42 +148,42 @@ module _ (shape : Shape) (limits : FitsLimits shape) where
 
   module _ (attempt : Open) (fits : StateFits shape attempt.state) (table low high : ℕ) (is : IsTableOf shape table) where
     on_skip_falls : (client : ClientState) (position n : ℕ) (now : Now ScanPlace ScanAnswer) → Runs client.worker client.txn
-        → ScanFalls shape limits table low high is position n now → ClientFalls n (on_skip shape client attempt table low high now)
+        → ScanFalls shape limits table is position n now → ClientFalls n (on_skip client attempt table low high now)
     on_skip_falls client position n (At place) r h = (r.0, r.1, ((r.2, is, h.0), h.1))
     on_skip_falls client position n (Over end) r h = (r.0, fits, (tt, omega arith))
 
     skipped : (client : ClientState) (position key n : ℕ) (value : Option (List ℕ)) → Runs client.worker client.txn → position < capacity_of shape table
-        → positions_left shape table low high position < n
-        → ClientFalls n (on_skip shape (gathered client position key value) attempt table low high (scan_skip shape table low high position))
+        → positions_left shape table (capacity_of shape table - position - 1) < n
+        → ClientFalls n (on_skip (gathered client position key value) attempt table low high (scan_skip shape table position))
     skipped client position key n value r l m =
         on_skip_falls (gathered client position key value) position n _ (gathered_keeps Runs client position key value r)
-        (scan_skip_falls shape limits table low high is position n l m)
+        (scan_skip_falls shape limits table is position n l m)
 
     on_scan_falls : (client : ClientState) (position n : ℕ) (now : Now ScanPlace ScanAnswer) → Runs client.worker client.txn → position < capacity_of shape table
-        → ScanFalls shape limits table low high is position n now → ClientFalls n (on_scan shape client attempt table low high position now)
+        → ScanFalls shape limits table is position n now → ClientFalls n (on_scan shape client attempt table low high position now)
     on_scan_falls client position n (At place) r l h = (r.0, r.1, ((r.2, is, h.0), h.1))
     on_scan_falls client position n (Over (scan_answer.Key key)) r l h =
         let own = key_at table key in
         either (ClientFalls n) (writes_key attempt.state.writes own)
-        (on_skip shape (gathered client position key (own_value attempt.state.writes own)) attempt table low high (scan_skip shape table low high position))
-        (on_skip shape client attempt table low high (scan_read shape table low high position key))
+        (on_skip (gathered client position key (own_value attempt.state.writes own)) attempt table low high (scan_skip shape table position))
+        (on_skip client attempt table low high (scan_read position key))
         (skipped client position key n (own_value attempt.state.writes own) r l (let m = h.1 in omega arith))
-        (on_skip_falls client position n (scan_read shape table low high position key) r (scan_read_falls shape limits table low high is position key n l h.1))
+        (on_skip_falls client position n (scan_read position key) r (scan_read_falls shape limits table is position key n l h.1))
     on_scan_falls client position n (Over (scan_answer.Row item)) r l h = skipped client position item.key n item.value r l h.1
     on_scan_falls client position n (Over scan_answer.Done) r l h = (r.0, fits, (tt, h.1))
     on_scan_falls client position n (Over (scan_answer.TooOld worker entry horizon)) r l h = (r.0, tt, (tt, h.1))
     on_scan_falls client position n (Over scan_answer.Astray) r l h = (r.0, tt, (tt, h.1))
 
-  scan_within : (table low high : ℕ) (at : ScanPlace) → ScanFits shape table at → position_of shape table low high at < capacity_of shape table
-  scan_within table low high (ScanKey position) l = l
-  scan_within table low high (ScanRead position key at) l = l.0
+  scan_within : (table : ℕ) (at : ScanPlace) → ScanFits shape table at → position_of at < capacity_of shape table
+  scan_within table (ScanKey position) l = l
+  scan_within table (ScanRead position key at) l = l.0
 
   take_scan_falls : (client : ClientState) (table low high : ℕ) (at : ScanPlace) (opened : Option Open) (found : ℕ) → Runs client.worker client.txn → Runs client.worker opened
-      → IsTableOf shape table → ScanFits shape table at → ClientFalls (scan_left shape table low high at) (take_scan shape client table low high at opened found)
+      → IsTableOf shape table → ScanFits shape table at → ClientFalls (scan_left shape table at) (take_scan shape client table low high at opened found)
   take_scan_falls client table low high at None found r o is p = absurd (cc)
   take_scan_falls client table low high at (Some attempt) found r o is p =
-      on_scan_falls attempt o.1 table low high is client (position_of shape table low high at) _ _ r (scan_within table low high at p)
-      (scan_falls shape limits table low high is attempt.state.seen at found p)
+      on_scan_falls attempt o.1 table low high is client (position_of at) _ _ r (scan_within table at p)
+      (scan_falls shape limits table is low high attempt.state.seen at found p)
 
   -- 5. The other calls
 
@@ -220,7 +223,7 @@ module _ (shape : Shape) (limits : FitsLimits shape) where
     collect_goes bucket prefix seen n (Over known) l e h = (w, f, (tt, h.1))
 
   pub call_falls : (client : ClientState) (place : CallPlace) (found : ℕ) → IsOf shape.workers client.worker → OpenFits shape client.txn → CallPlaceFits shape client.txn place
-      → ClientFalls (call_left shape client.txn place) (call_after shape client place found)
+      → ClientFalls (call_left shape client place) (call_after shape client place found)
   call_falls client (Beginning txn nth at) found w f p = on_begin_falls client w f txn nth _ _ (snap_falls shape.workers limits.least_workers at found p)
   call_falls client (InTxn at) found w f p = take_txn_falls client at client.txn found w f p
   call_falls client (Scanning table low high at) found w f p = take_scan_falls client table low high at client.txn found (w, f, p.0) (w, f, p.0) p.1 p.2
@@ -234,21 +237,34 @@ module _ (shape : Shape) (limits : FitsLimits shape) where
 
   -- 6. A word is taken
 
-  taken : (opened : Option Open) (n : ℕ) (call : Option (Now CallPlace Answer)) → NowFalls opened n call → NowFits shape opened call × (now_left shape opened call < n)
-  taken opened n None h = absurd h
-  taken opened n (Some (At place)) h = h
-  taken opened n (Some (Over answer)) h = (tt, h.1)
+  taken : (client : ClientState) (n : ℕ) (call : Option (Now CallPlace Answer)) → NowFalls client n call
+      → NowFits shape client.txn call × (left_of shape client call < n)
+  taken client n None h = absurd h
+  taken client n (Some (At place)) h = h
+  taken client n (Some (Over answer)) h = (tt, h.1)
 
-  pub client_falls : (client : ClientState) (place : CallPlace) (found : ℕ) → ClientFits shape client → client.call ≡ Some (At place)
+  -- where a client is cut off nothing is to come
+  unless_cut : (cut : Bool) (left n : ℕ) → left ≤ n → (if cut then 0 else left) ≤ n
+  unless_cut true left n l = omega arith
+  unless_cut false left n l = l
+
+  left_within : (client : ClientState) (n : ℕ) → left_of shape client client.call ≤ n → client_left shape client ≤ n
+  left_within client n l = unless_cut client.cut (left_of shape client client.call) n l
+
+  pub client_falls : (client : ClientState) (place : CallPlace) (found : ℕ) → ClientFits shape client → client.cut ≡ false → client.call ≡ Some (At place)
       → ClientFits shape (client_after shape client found) × (client_left shape (client_after shape client found) < client_left shape client)
-  client_falls client place found fits e =
+  client_falls client place found fits runs e =
       let is : CallPlaceFits shape client.txn place = subst (NowFits shape client.txn) e fits.2 in
-      let same : client_left shape client ≡ call_left shape client.txn place = ap (now_left shape client.txn) e in
+      let goes_on : client_left shape client ≡ left_of shape client client.call =
+          ap (λ (cut : Bool). if cut then 0 else left_of shape client client.call) runs in
+      let same : client_left shape client ≡ call_left shape client place = goes_on ∙ ap (left_of shape client) e in
       let after = call_after shape client place found in
       let h = call_falls client place found fits.0 fits.1 is in
-      let t = taken after.txn _ after.call h.2 in
+      let t = taken after (call_left shape client place) after.call h.2 in
+      let l = left_within after (left_of shape after after.call) (omega arith) in
+      let m : client_left shape after < call_left shape client place = let m = t.1 in omega arith in
       let goes : client_after shape client found ≡ after = ap (λ (call : Option (Now CallPlace Answer)). after_call shape client call found) e in
-      subst (λ (c : ClientState). ClientFits shape c × (client_left shape c < client_left shape client)) (sym goes) ((h.0, h.1, t.0), rw same t.1)
+      subst (λ (c : ClientState). ClientFits shape c × (client_left shape c < client_left shape client)) (sym goes) ((h.0, h.1, t.0), rw same m)
 
   -- 7. A call is asked
 
@@ -256,7 +272,9 @@ module _ (shape : Shape) (limits : FitsLimits shape) where
   ClientBegins n client = IsOf shape.workers client.worker × OpenFits shape client.txn × NowFits shape client.txn client.call × (client_left shape client ≤ n)
 
   begun : (client : ClientState) (n : ℕ) → ClientFalls (n + 1) client → ClientBegins n client
-  begun client n h = let t = taken client.txn (n + 1) client.call h.2 in (h.0, h.1, t.0, let m = t.1 in omega arith)
+  begun client n h =
+      let t = taken client (n + 1) client.call h.2 in
+      (h.0, h.1, t.0, left_within client n (let m = t.1 in omega arith))
 
   ask_falls : (client : ClientState) (call : TxnCall) (attempt : Open) → IsOf shape.workers client.worker → StateFits shape attempt.state → TxnCallFits shape call
       → ClientBegins (txn_call_bound shape attempt.state call) (stepped client attempt 0 (txn_ask shape attempt.state call))
@@ -267,13 +285,13 @@ module _ (shape : Shape) (limits : FitsLimits shape) where
       begun (stepped client attempt 0 step) n (stepped_falls client attempt 0 (n + 1) step w (b.0, begins_falls step.state n step.call b.1))
 
   counted_falls : (client : ClientState) (call : TxnCall) (attempt : Open) → IsOf shape.workers client.worker → StateFits shape attempt.state → TxnCallFits shape call
-      → ClientBegins (txn_call_bound shape attempt.state call) (stepped client (counted shape attempt call) 0 (txn_ask shape attempt.state call))
-  counted_falls client (Get t k) attempt w f c = ask_falls client (Get t k) (counted shape attempt (Get t k)) w f c
-  counted_falls client (Put t k v) attempt w f c = ask_falls client (Put t k v) (counted shape attempt (Put t k v)) w f c
-  counted_falls client (Add t k i up by) attempt w f c = ask_falls client (Add t k i up by) (counted shape attempt (Add t k i up by)) w f c
-  counted_falls client (Del t k) attempt w f c = ask_falls client (Del t k) (counted shape attempt (Del t k)) w f c
-  counted_falls client (Need t k i least) attempt w f c = ask_falls client (Need t k i least) (counted shape attempt (Need t k i least)) w f c
-  counted_falls client (Guard t k) attempt w f c = ask_falls client (Guard t k) (counted shape attempt (Guard t k)) w f c
+      → ClientBegins (txn_call_bound shape attempt.state call) (stepped client (counted attempt call) 0 (txn_ask shape attempt.state call))
+  counted_falls client (Get t k) attempt w f c = ask_falls client (Get t k) (counted attempt (Get t k)) w f c
+  counted_falls client (Put t k v) attempt w f c = ask_falls client (Put t k v) (counted attempt (Put t k v)) w f c
+  counted_falls client (Add t k i up by) attempt w f c = ask_falls client (Add t k i up by) (counted attempt (Add t k i up by)) w f c
+  counted_falls client (Del t k) attempt w f c = ask_falls client (Del t k) (counted attempt (Del t k)) w f c
+  counted_falls client (Need t k i least) attempt w f c = ask_falls client (Need t k i least) (counted attempt (Need t k i least)) w f c
+  counted_falls client (Guard t k) attempt w f c = ask_falls client (Guard t k) (counted attempt (Guard t k)) w f c
   counted_falls client Commit attempt w f c = ask_falls client Commit attempt w f c
 
   ask_txn_falls : (client : ClientState) (call : TxnCall) (opened : Option Open) → IsSome opened → IsOf shape.workers client.worker → OpenFits shape opened → TxnCallFits shape call
@@ -285,13 +303,13 @@ module _ (shape : Shape) (limits : FitsLimits shape) where
       → ClientBegins (scan_bound shape table) (ask_scan shape client table low high opened)
   ask_scan_falls client table low high None some w f is = absurd (cc)
   ask_scan_falls client table low high (Some attempt) some w f is =
-      let b = scan_begins shape limits table low high is in (w, f, (refl, is, b.0), b.1)
+      let b = scan_begins shape limits table is in (w, f, (refl, is, b.0), unless_cut client.cut _ _ b.1)
 
   -- the call needs an open transaction, and one is open
   pub client_begins : (client : ClientState) (call : Call) → ClientFits shape client → CallFits shape client.txn call
       → ClientFits shape (client_ask shape client call) × (client_left shape (client_ask shape client call) ≤ call_bound shape client call)
-  client_begins client (Begin txn nth) fits c = let l = limits.least_workers in ((fits.0, fits.1, l), omega arith)
+  client_begins client (Begin txn nth) fits c = let l = limits.least_workers in ((fits.0, fits.1, l), unless_cut client.cut _ _ (omega arith))
   client_begins client (Txn call) fits c = let b = ask_txn_falls client call client.txn c.0 fits.0 fits.1 c.1 in ((b.0, b.1, b.2), b.3)
   client_begins client (Scan table low high) fits c = let b = ask_scan_falls client table low high client.txn c.0 fits.0 fits.1 c.1 in ((b.0, b.1, b.2), b.3)
-  client_begins client (Tidy table key) fits c = let l = has_capacity shape limits table c in ((fits.0, fits.1, (c, l)), omega arith)
-  client_begins client (Collect bucket) fits c = let l = limits.least_workers in ((fits.0, fits.1, (c, l)), omega arith)
+  client_begins client (Tidy table key) fits c = let l = has_capacity shape limits table c in ((fits.0, fits.1, (c, l)), unless_cut client.cut _ _ (omega arith))
+  client_begins client (Collect bucket) fits c = let l = limits.least_workers in ((fits.0, fits.1, (c, l)), unless_cut client.cut _ _ (omega arith))

@@ -1,5 +1,5 @@
 -- How many verbs a commit begins with, and what each call of a transaction begins with.
-use Rattle.std.proofs.Common.{◌≡◌, ℕ, zero, suc, ◌+◌, ◌-◌, ◌*◌, ◌<◌, ◌≤◌, List, [], ◌∷◌, ◌++◌, length, take, drop, refl, sym, ◌∙◌, ap, subst, arith, cond, Bool, true, false, not, Option, Some, None}
+use Rattle.std.proofs.Common.{◌≡◌, ◌+◌, ◌*◌, ◌≤◌, List, [], ◌∷◌, ◌++◌, length, take, refl, ◌∙◌, ap, arith, true, None}
 use Rattle.std.specs.Prelude.{◌==◌, if◌then◌else◌, map}
 use Rattle.std.specs.List.{AllByRecursion}
 use Rattle.std.proofs.lemmas.Bool.{false≢true}
@@ -22,11 +22,10 @@ use Rattle.nam_calls.specs.declared.txn.TxnCall.TheVariants.{Get, Put, Add, Del,
 use Rattle.nam_calls.specs.declared.txn.TxnPlace.TheVariants.{Committing}
 use Rattle.nam_calls.specs.declared.txn.CommitPlace.TheVariants.{Locking}
 use Rattle.nam_calls.specs.declared.txn.TxnAnswer.TheVariants.{ReadOnly, Spent}
-use Rattle.nam_calls.specs.Txn.{Stepped}
 use Rattle.nam_calls.specs.Words.{width_of}
 use Rattle.nam_calls.specs.Lock.{lock_begin}
 use Rattle.nam_calls.specs.Txn.{at, answered}
-use Rattle.nam_calls.specs.Commit.{record_in, records_of, places, ask_commit}
+use Rattle.nam_calls.specs.Commit.{record_in, records_of, ask_commit}
 use Rattle.nam_calls.specs.TxnCalls.{txn_ask}
 use Rattle.nam_calls.specs.Bound.{installs_most, writes_bound, commit_left}
 use Rattle.nam_calls.specs.TxnFits.{is_claimed, IsPlaced, StateFits, TxnCallFits, TxnBegins, commit_bound, txn_call_bound}
@@ -76,10 +75,10 @@ module _ (shape : Shape) (limits : FitsLimits shape) where
       (if state.last == greatest_number shape.form then answered none Spent else at state' (Committing (Locking lock_begin)))
       (λ e. (fits, tt))
       (λ e. by_test (TxnBegins shape n) (state.last == greatest_number shape.form) (answered none Spent) (at state' (Committing (Locking lock_begin)))
-        (λ f. (fits, tt))
-        (λ f. let some : 1 ≤ length state.writes = grind (arith, nat_tests) in
-              let r = records_length shape state fits in
-              (fits, ((refl, some, (omega arith, refl)), commit_figure state fits))))
+      (λ f. (fits, tt))
+      (λ f. let some : 1 ≤ length state.writes = grind (arith, nat_tests) in
+      let r = records_length shape state fits in
+      (fits, ((refl, some, (omega arith, refl)), commit_figure state fits))))
 
   -- a call is asked
   pub txn_begins : (state : TxnState) (call : TxnCall) → StateFits shape state → TxnCallFits shape call

@@ -1,6 +1,6 @@
 -- The verbs to come fall in the machines of a bucket's cells, and in a move.
-use Rattle.std.proofs.Common.{◌≡◌, ℕ, ◌+◌, ◌-◌, ◌*◌, ◌<◌, ◌≤◌, List, [], ◌∷◌, ◌++◌, length, length-append, refl, sym, arith, cond, Bool, true, false, Option, Some, None}
-use Rattle.std.specs.Prelude.{◌==◌, if◌then◌else◌}
+use Rattle.std.proofs.Common.{◌≡◌, ℕ, ◌+◌, ◌-◌, ◌*◌, ◌<◌, ◌≤◌, List, [], length, arith, Some, None}
+use Rattle.std.specs.Prelude.{if◌then◌else◌}
 use Rattle.nam_verbs.specs.declared.now.Now.{Now}
 use Rattle.nam_verbs.specs.declared.now.Now.TheVariants.{At, Over}
 use Rattle.nam_layout.specs.declared.field.Place.{Place}
@@ -22,7 +22,7 @@ use Rattle.nam_calls.specs.declared.mover.MovePlace.TheVariants.{MoveCount, Move
 use Rattle.nam_calls.specs.declared.mover.MoveAnswer.{MoveAnswer}
 use Rattle.nam_calls.specs.declared.mover.MoveAnswer.TheVariants as answer
 use Rattle.nam_calls.specs.Stamps.{is_deleted, without_moved, written}
-use Rattle.nam_calls.specs.Overflow.{cell_after, cell_left, cells_left, next_cell, claim_begin, claim_next, claim_after, claim_left, fill_begin, fill_after, fill_left}
+use Rattle.nam_calls.specs.Overflow.{cell_after, cell_left, cells_left, next_cell, claim_next, claim_after, claim_left, fill_begin, fill_after, fill_left}
 use Rattle.nam_calls.specs.Mover.{on_claim, on_fill, move_after, move_left}
 use Rattle.nam_calls.specs.Fits.{Falls, Any, SearchEnds, CellFits, ClaimFits, ClaimEnds, FillFits, MoveFits}
 use Rattle.nam_calls.proofs.FallsTests.{either, or_last, one_more, later_row, wide_or_none}

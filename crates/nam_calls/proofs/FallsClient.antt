@@ -1,5 +1,5 @@
 -- The verbs to come fall in each call of a client, and how many a call begins with.
-use Rattle.std.proofs.Common.{◌≡◌, ℕ, zero, suc, ◌+◌, ◌-◌, ◌*◌, ◌<◌, ◌≤◌, List, [], ◌∷◌, ◌++◌, length, length-append, refl, sym, ◌∙◌, ap, subst, arith, cond, Bool, true, false, Option, Some, None}
+use Rattle.std.proofs.Common.{◌≡◌, ℕ, ◌+◌, ◌-◌, ◌<◌, ◌≤◌, List, [], ◌∷◌, ◌++◌, length, length-append, refl, sym, ◌∙◌, ap, subst, arith, Bool, true, false, Option, Some, None}
 use Rattle.std.specs.Prelude.{◌==◌, if◌then◌else◌, slice_index, IsSome}
 use Rattle.nam_verbs.specs.declared.now.Now.{Now}
 use Rattle.nam_verbs.specs.declared.now.Now.TheVariants.{At, Over}
@@ -37,26 +37,25 @@ use Rattle.nam_calls.specs.declared.client.CallPlace.{CallPlace}
 use Rattle.nam_calls.specs.declared.client.CallPlace.TheVariants.{Beginning, InTxn, Scanning, Seeking, Moving, Snapping, Collecting}
 use Rattle.nam_calls.specs.declared.client.Open.{Open}
 use Rattle.nam_calls.specs.declared.client.ClientState.{ClientState}
-use Rattle.nam_calls.specs.Words.{width_of, capacity_of, cells_by}
-use Rattle.nam_calls.specs.Index.{find_after}
-use Rattle.nam_calls.specs.Mover.{move_after, move_left}
-use Rattle.nam_calls.specs.Horizon.{collect_after, collect_left}
+use Rattle.nam_calls.specs.Words.{capacity_of, cells_by}
+use Rattle.nam_calls.specs.Mover.{move_left}
+use Rattle.nam_calls.specs.Horizon.{collect_left}
 use Rattle.nam_calls.specs.Operations.{own_value}
 use Rattle.nam_calls.specs.TxnCalls.{txn_ask, txn_after, taken_at, taken_now}
 use Rattle.nam_calls.specs.Log.{with_locks}
-use Rattle.nam_calls.specs.Scan.{scan_skip, scan_read, scan_after, position_of, positions_left, scan_left}
+use Rattle.nam_calls.specs.Scan.{scan_skip, scan_read, position_of, positions_left, scan_left}
 use Rattle.nam_calls.specs.Client.{counted, ask_txn, ask_scan, client_ask, on_begin, on_seek, on_move, on_snap, on_collect, take_txn, take_scan, call_after, after_call, client_after}
 use Rattle.nam_calls.specs.Telling.{new_locks, on_answer, on_call, stepped}
 use Rattle.nam_calls.specs.ScanCall.{gathered, on_skip, on_scan}
-use Rattle.nam_calls.specs.Left.{open_left, call_left, left_of, client_left}
+use Rattle.nam_calls.specs.Left.{open_left, move_most, collect_most, call_left, left_of, client_left}
 use Rattle.nam_calls.specs.Bound.{txn_left, scan_bound}
 use Rattle.nam_calls.specs.Fits.{Falls, Any, IsOf, MoveFits, CollectFits, CollectEnds}
-use Rattle.nam_calls.specs.TxnFits.{Begins, IsTableOf, StateFits, TxnPlaceFits, TxnFalls, TxnBegins, TxnCallFits, ScanFits, txn_call_bound}
+use Rattle.nam_calls.specs.TxnFits.{Begins, IsTableOf, StateFits, TxnPlaceFits, TxnFalls, TxnCallFits, ScanFits, txn_call_bound}
 use Rattle.nam_calls.specs.ClientFits.{OpenFits, OpenPlaceFits, CallPlaceFits, NowFits, ClientFits, CallFits, call_bound, open_bound}
-use Rattle.nam_calls.proofs.FallsTests.{either, by_test, or_last}
+use Rattle.nam_calls.proofs.FallsTests.{either, or_last}
 use Rattle.nam_calls.proofs.FallsMachines.{FindFalls, find_falls}
-use Rattle.nam_calls.proofs.FallsCells.{MoveFalls, move_falls}
-use Rattle.nam_calls.proofs.FallsRead.{CollectFalls, collect_falls}
+use Rattle.nam_calls.proofs.FallsCells.{move_falls}
+use Rattle.nam_calls.proofs.FallsRead.{collect_falls}
 use Rattle.nam_calls.proofs.FallsKeys.{has_capacity, place_fits, width_is, bucket_within}
 use Rattle.nam_calls.proofs.FallsTxn.{txn_falls}
 use Rattle.nam_calls.proofs.FallsBegins.{txn_begins}
@@ -81,7 +80,7 @@ module _ (workers : ℕ) (least : 1 ≤ workers) where
       either (SnapFalls (workers - at)) (found == slice_index seen at) (if at + 1 == workers then Over (snap_end.Done seen) else At (Second seen (at + 1)))
       (Over (snap_end.Again (at + 1) (slice_index seen at) found))
       (or_last (SnapFalls (workers - at)) workers at (Over (snap_end.Done seen)) (At (Second seen (at + 1))) l.1
-        (λ e. (l.0, let m = l.1 in omega arith)) (λ e. ((l.0, e), omega arith)))
+      (λ e. (l.0, let m = l.1 in omega arith)) (λ e. ((l.0, e), omega arith)))
       (tt, let m = l.1 in omega arith)
 
 module _ (shape : Shape) (limits : FitsLimits shape) where
@@ -195,14 +194,14 @@ module _ (shape : Shape) (limits : FitsLimits shape) where
     on_begin_falls txn nth n (Over (snap_end.Again worker first second)) h = (w, f, (tt, h.1))
 
     on_seek_falls : (table key n : ℕ) (now : Now ℕ FindEnd) → IsTableOf shape table → FindFalls shape table key n now
-        → ClientFalls (n + (2 * shape.cells + 2 * width_of shape table + 9)) (on_seek shape client table key now)
+        → ClientFalls (n + move_most shape table) (on_seek shape client table key now)
     on_seek_falls table key n (At passed) is h = (w, f, ((is, h.0), let m = h.1 in omega arith))
     on_seek_falls table key n (Over (found_key.At position)) is h =
         let e = width_is shape limits table position is h.0 in (w, f, ((is, h.0, tt), let m = h.1 in omega arith))
     on_seek_falls table key n (Over found_key.Absent) is h = (w, f, (tt, omega arith))
 
     on_snap_falls : (bucket n : ℕ) (now : Now SnapPlace SnapEnd) → bucket < shape.buckets → SnapFalls shape.workers limits.least_workers n now
-        → ClientFalls (n + (2 * shape.workers + 3 * shape.cells)) (on_snap shape client bucket now)
+        → ClientFalls (n + collect_most shape) (on_snap shape client bucket now)
     on_snap_falls bucket n (At place) l h = (w, f, ((l, h.0), let m = h.1 in omega arith))
     on_snap_falls bucket n (Over (snap_end.Done seen)) l h = let e = limits.least_workers in (w, f, ((l, h.0, e), let m = h.1 in omega arith))
     on_snap_falls bucket n (Over (snap_end.Again worker first second)) l h = (w, f, (tt, omega arith))
@@ -230,7 +229,7 @@ module _ (shape : Shape) (limits : FitsLimits shape) where
   call_falls client (Seeking table key passed) found w f p = on_seek_falls client w f table key _ _ p.0 (find_falls shape table key passed found p.1)
   call_falls client (Moving table key position at) found w f p = move_goes client w f table key position _ _ p.0 p.1
       (move_falls (place_of shape table position) (cells_by shape (place_of shape table position)) (place_fits shape limits table position p.0 p.1)
-        (cells_within_limits shape (bucket_of shape (place_of shape table position).row) limits (bucket_within shape limits table position p.0 p.1)) at found p.2)
+      (cells_within_limits shape (bucket_of shape (place_of shape table position).row) limits (bucket_within shape limits table position p.0 p.1)) at found p.2)
   call_falls client (Snapping bucket at) found w f p = on_snap_falls client w f bucket _ _ p.0 (snap_falls shape.workers limits.least_workers at found p.1)
   call_falls client (Collecting bucket prefix seen at) found w f p = collect_goes client w f bucket prefix seen _ _ p.0 p.1
       (collect_falls (cells_of shape bucket) shape.workers (cells_within_limits shape bucket limits p.0) seen at found p.2)
@@ -256,15 +255,15 @@ module _ (shape : Shape) (limits : FitsLimits shape) where
   client_falls client place found fits runs e =
       let is : CallPlaceFits shape client.txn place = subst (NowFits shape client.txn) e fits.2 in
       let goes_on : client_left shape client ≡ left_of shape client client.call =
-          ap (λ (cut : Bool). if cut then 0 else left_of shape client client.call) runs in
+      ap (λ (cut : Bool). if cut then 0 else left_of shape client client.call) runs in
       let same : client_left shape client ≡ call_left shape client place = goes_on ∙ ap (left_of shape client) e in
       let after = call_after shape client place found in
       let h = call_falls client place found fits.0 fits.1 is in
       let t = taken after (call_left shape client place) after.call h.2 in
-      let l = left_within after (left_of shape after after.call) (omega arith) in
-      let m : client_left shape after < call_left shape client place = let m = t.1 in omega arith in
+      let within = left_within after (left_of shape after after.call) (omega arith) in
+      let less : client_left shape after < call_left shape client place = let m = t.1 in omega arith in
       let goes : client_after shape client found ≡ after = ap (λ (call : Option (Now CallPlace Answer)). after_call shape client call found) e in
-      subst (λ (c : ClientState). ClientFits shape c × (client_left shape c < client_left shape client)) (sym goes) ((h.0, h.1, t.0), rw same m)
+      subst (λ (c : ClientState). ClientFits shape c × (client_left shape c < client_left shape client)) (sym goes) ((h.0, h.1, t.0), rw same less)
 
   -- 7. A call is asked
 

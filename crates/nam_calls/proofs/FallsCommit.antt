@@ -1,6 +1,6 @@
 -- The verbs to come fall in a commit, and how many it begins with.
-use Rattle.std.proofs.Common.{◌≡◌, ℕ, zero, suc, ◌+◌, ◌-◌, ◌*◌, ◌<◌, ◌≤◌, List, [], ◌∷◌, ◌++◌, length, take, drop, length-append, refl, sym, ◌∙◌, ap, subst, arith, cond, Bool, true, false, Option, Some, None}
-use Rattle.std.specs.Prelude.{◌==◌, if◌then◌else◌, map, slice_index_or}
+use Rattle.std.proofs.Common.{◌≡◌, ℕ, zero, suc, ◌+◌, ◌-◌, ◌*◌, ◌<◌, ◌≤◌, List, [], ◌∷◌, ◌++◌, length, take, drop, length-append, refl, sym, ◌∙◌, ap, subst, arith, Option, Some, None}
+use Rattle.std.specs.Prelude.{◌==◌}
 use Rattle.std.proofs.lemmas.Bool.Decides.{nat_tests}
 use Rattle.std.proofs.lemmas.List.{length-take}
 use Rattle.nam_verbs.specs.declared.now.Now.{Now}
@@ -24,16 +24,15 @@ use Rattle.nam_calls.specs.declared.txn.CommitPlace.{CommitPlace}
 use Rattle.nam_calls.specs.declared.txn.CommitPlace.TheVariants.{Locking, Checking, Returning, Saving, Copying, Installing, Publishing, Freeing}
 use Rattle.nam_calls.specs.declared.txn.TxnAnswer.{TxnAnswer}
 use Rattle.nam_calls.specs.declared.txn.TxnAnswer.TheVariants.{Committed, Locked, Newer, Full}
-use Rattle.nam_calls.specs.Txn.{Stepped}
 use Rattle.nam_calls.specs.Record.{words_begin, install_begin}
 use Rattle.nam_calls.specs.Ring.{slot_begin, copy_begin}
 use Rattle.nam_calls.specs.Lock.{nth_place}
 use Rattle.nam_calls.specs.Txn.{answered}
 use Rattle.nam_calls.specs.Commit.{records_of, lock_at, places, place_at, value_at, go, on_lock, next_check, on_slot, on_return, on_words, on_copy, on_install, next_free, commit_after}
-use Rattle.nam_calls.specs.Bound.{installs_most, publish_most, written_from, rest_from, commit_left}
+use Rattle.nam_calls.specs.Bound.{installs_most, publish_most, rest_from, commit_left}
 use Rattle.nam_calls.specs.Fits.{LockFits}
 use Rattle.nam_calls.specs.TxnFits.{StateFits, CommitPlaceFits, CommitFits, TxnFalls}
-use Rattle.nam_calls.proofs.FallsTests.{by_test, either}
+use Rattle.nam_calls.proofs.FallsTests.{by_test}
 use Rattle.nam_calls.proofs.FallsMachines.{WordsFall, words_fall, InstallFalls, install_falls, SlotFalls, slot_falls, CopyFalls, copy_falls}
 use Rattle.nam_calls.proofs.FallsLocks.{LockFalls, lock_falls, UnlockFalls, unlock_falls}
 use Rattle.nam_calls.proofs.FallsKeys.{places_length, writes_within, nth_fits}
@@ -97,7 +96,7 @@ module _ (shape : Shape) (limits : FitsLimits shape) (state : TxnState) (fits : 
   nth_is : (nth : ℕ) → nth < writes → FitsPlace (place_at state nth)
   nth_is nth l = let w = within in nth_fits shape state fits are limits nth (omega arith)
 
--- 3. Each step
+  -- 3. Each step
 
   abbrev after_locks : ℕ
   after_locks = 2 * writes + rest_from state 0

@@ -1,15 +1,15 @@
 -- Tables, the keys that a transaction claims, and the records of its commit.
-use Rattle.std.proofs.Common.{◌≡◌, ℕ, zero, suc, ◌+◌, ◌-◌, ◌*◌, ◌<◌, ◌≤◌, List, [], ◌∷◌, ◌++◌, length, refl, sym, ◌∙◌, ap, subst, arith, cond, inl, inr, Bool, true, false, not, Option, Some, None}
-use Rattle.std.specs.Prelude.{◌==◌, if◌then◌else◌, map, filter, replicate, slice_index, slice_index_or, MatchOption}
-use Rattle.std.specs.List.{All, AllByRecursion}
+use Rattle.std.proofs.Common.{◌≡◌, ℕ, zero, suc, ◌+◌, ◌-◌, ◌<◌, ◌≤◌, List, [], ◌∷◌, length, refl, sym, ◌∙◌, ap, subst, arith, inl, inr, Bool, true, false, not, Option, Some, None}
+use Rattle.std.specs.Prelude.{if◌then◌else◌, map, filter, replicate, slice_index, slice_index_or}
+use Rattle.std.specs.List.{AllByRecursion}
 use Rattle.std.proofs.lemmas.Bool.{cases_Bool, false≢true}
 use Rattle.std.proofs.lemmas.List.{length-set, length-replicate, length-map, length-append}
-use Rattle.std.proofs.lemmas.List.Elements.{recursion_from_All, All-get_or}
+use Rattle.std.proofs.lemmas.List.Elements.{recursion_from_All}
 use Rattle.si_model.specs.declared.row.Key.{Key}
 use Rattle.si_model.specs.declared.row.Item.{Item}
 use Rattle.si_model.specs.declared.op.Op.{Op}
 use Rattle.si_model.specs.declared.op.Op.TheVariants.{Get, Put, Add, Del, Need, Guard, Scan}
-use Rattle.si_model.specs.Rows.{key_at, same_key, item_key, item_at, writes_key, overlay}
+use Rattle.si_model.specs.Rows.{key_at, same_key, item_key, item_at, writes_key}
 use Rattle.si_model.specs.Evaluation.{field_of, with_field, changed, wrote, guarded, writes_after, guards_after, unwritten}
 use Rattle.si_model.specs.EvaluationLaws.{IsWide}
 use Rattle.si_model.proofs.EvaluationLemmas.{same_key-refl, same_key_says}
@@ -17,12 +17,11 @@ use Rattle.si_model.proofs.ListLemmas.{All-append, All-map}
 use Rattle.nam_catalog.specs.declared.shape.Table.{Table}
 use Rattle.nam_catalog.specs.declared.shape.Shape.{Shape}
 use Rattle.nam_catalog.specs.Fits.{FitsTable, FitsLimits}
-use Rattle.nam_catalog.specs.Tables.{widths_of, capacities_of, rings_of}
-use Rattle.nam_layout.specs.declared.field.Place.{Place}
+use Rattle.nam_catalog.specs.Tables.{widths_of, capacities_of}
 use Rattle.nam_layout.specs.Rows.{row_of}
-use Rattle.nam_layout.specs.RowLaw.{IsPosition, IsRowOf}
-use Rattle.nam_layout.specs.Place.{place_of, cells_of, bucket_of}
-use Rattle.nam_layout.specs.PlaceFits.{FitsPlace, FitsCells}
+use Rattle.nam_layout.specs.RowLaw.{IsRowOf}
+use Rattle.nam_layout.specs.Place.{place_of, bucket_of}
+use Rattle.nam_layout.specs.PlaceFits.{FitsPlace}
 use Rattle.nam_layout.proofs.PositionLemmas.{position_is_row}
 use Rattle.nam_layout.proofs.LimitLemmas.{place_within_limits, cells_within_limits}
 use Rattle.nam_calls.specs.declared.txn.Record.{Record}
@@ -32,7 +31,7 @@ use Rattle.nam_calls.specs.Reading.{sight_of}
 use Rattle.nam_calls.specs.Operations.{key_of, holding, own_value}
 use Rattle.nam_calls.specs.Txn.{with_claim}
 use Rattle.nam_calls.specs.Commit.{record_in, commit_keys, records_of, places, place_at, no_record, record_at}
-use Rattle.nam_calls.specs.Fits.{HasWidth, IsOf, SightFits}
+use Rattle.nam_calls.specs.Fits.{HasWidth, SightFits}
 use Rattle.nam_calls.specs.TxnFits.{is_claimed, IsTableOf, IsPlaced, KeysFit, StateFits, OpStands}
 use Rattle.nam_calls.proofs.FallsTests.{by_test, either}
 
@@ -159,13 +158,16 @@ module _ (shape : Shape) where
   -- one more key is claimed
   pub claim_fits : (worker : ℕ) (cs : List Record) (ws : List Item) (gs : List Key) (r : Record) → KeysFit shape worker cs ws gs → IsPlaced shape r
       → KeysFit shape worker (with_claim cs r) ws gs × (is_claimed (with_claim cs r) r.key ≡ true)
-  claim_fits worker cs ws gs r fits new = (record {
-    worker_is = fits.worker_is;
-    placed = placed_more cs r fits.placed new;
-    written = all_claimed item_key cs r ws fits.written;
-    guarded = all_claimed (λ (k : Key). k) cs r gs fits.guarded;
-    wide = fits.wide;
-  }, claimed_now cs r)
+  claim_fits worker cs ws gs r fits new = (
+    record {
+      worker_is = fits.worker_is;
+      placed = placed_more cs r fits.placed new;
+      written = all_claimed item_key cs r ws fits.written;
+      guarded = all_claimed (λ (k : Key). k) cs r gs fits.guarded;
+      wide = fits.wide;
+    },
+    claimed_now cs r,
+  )
 
   module _ (worker : ℕ) (cs : List Record) (ws : List Item) (gs : List Key) (fits : KeysFit shape worker cs ws gs) where
     write_fits : (key : Key) (value : Option (List ℕ)) → is_claimed cs key ≡ true → HasWidth (width_of shape key.table) value
@@ -210,7 +212,7 @@ module _ (shape : Shape) where
       (λ e. subst (λ (k : Key). HasWidth (width_of shape k.table) w.value) (same_key_says (item_key w) key e) all.0)
       (λ e. own_wide ws key all.1)
 
--- 4. The records of a commit
+  -- 4. The records of a commit
 
   -- the record of a claimed key
   pub record_placed : (cs : List Record) (key : Key) → AllByRecursion (IsPlaced shape) cs → is_claimed cs key ≡ true → IsPlaced shape (record_in cs key)
@@ -229,8 +231,8 @@ module _ (shape : Shape) where
     records_placed =
         let P : Key → Type 0 = λ key. is_claimed state.claims key ≡ true in
         let keys : AllByRecursion P (commit_keys state) =
-            All-append P (map item_key state.writes) (unwritten state.writes state.guards) (All-map item_key P state.writes fits.written)
-            (all_filter P (λ key. not (writes_key state.writes key)) state.guards fits.guarded) in
+        All-append P (map item_key state.writes) (unwritten state.writes state.guards) (All-map item_key P state.writes fits.written)
+        (all_filter P (λ key. not (writes_key state.writes key)) state.guards fits.guarded) in
         All-map (record_in state.claims) (IsPlaced shape) (commit_keys state) (each_placed state.claims fits.placed (commit_keys state) keys)
 
     -- how many records there are

@@ -1,5 +1,5 @@
 -- The verbs to come fall in the machines of locks.
-use Rattle.std.proofs.Common.{◌≡◌, ℕ, ◌+◌, ◌-◌, ◌*◌, ◌<◌, ◌≤◌, List, [], ◌∷◌, ◌++◌, length, length-append, refl, sym, arith, cond, Bool, true, false}
+use Rattle.std.proofs.Common.{◌≡◌, ℕ, ◌+◌, ◌-◌, ◌<◌, ◌≤◌, List, [], ◌∷◌, ◌++◌, length, length-append, arith}
 use Rattle.std.specs.Prelude.{◌==◌, if◌then◌else◌}
 use Rattle.std.proofs.lemmas.Bool.Decides.{nat_tests}
 use Rattle.nam_verbs.specs.declared.now.Now.{Now}
@@ -44,8 +44,8 @@ module _ (places : List Place) (rest : ℕ) (enough : length places ≤ rest) wh
       let long : length all ≡ length held + 1 = length-append held (header ∷ []) in
       either (LockFalls n) (found == header) (lock_next places all) (give_back places held 0 found)
       (by_test (LockFalls n) (length all == length places) (Over (Held all)) (At (Peek all))
-        (λ e. let f : length all ≡ length places = grind (arith, nat_tests) in (f, omega arith))
-        (λ e. let f : length all < length places = grind (arith, nat_tests) in (f, omega arith)))
+      (λ e. let f : length all ≡ length places = grind (arith, nat_tests) in (f, omega arith))
+      (λ e. let f : length all < length places = grind (arith, nat_tests) in (f, omega arith)))
       (give_back_falls held 0 found n l (omega arith) (omega arith))
   lock_falls seen (GiveBack held given found) word l = give_back_falls held (given + 1) found _ l.0 (let m = l.1 in omega arith) (let m = l.1 in omega arith)
 

@@ -1,13 +1,12 @@
 -- The verbs to come fall in each machine.
-use Rattle.std.proofs.Common.{◌≡◌, ℕ, ◌+◌, ◌-◌, ◌*◌, ◌%◌, ◌<◌, ◌≤◌, List, [], ◌∷◌, ◌++◌, length, length-append, refl, sym, ap, arith, cond, Bool, true, false, not, ◌&&◌, ◌||◌, Option, Some, None}
-use Rattle.std.specs.Prelude.{◌==◌, if◌then◌else◌, nat_lt, slice_index}
+use Rattle.std.proofs.Common.{ℕ, ◌+◌, ◌-◌, ◌*◌, ◌<◌, List, [], arith, ◌||◌, Some, None}
+use Rattle.std.specs.Prelude.{◌==◌, if◌then◌else◌}
 use Rattle.std.proofs.lemmas.Bool.Decides.{nat_tests}
 use Rattle.nam_verbs.specs.declared.now.Now.{Now}
 use Rattle.nam_verbs.specs.declared.now.Now.TheVariants.{At, Over}
 use Rattle.nam_catalog.specs.declared.shape.Shape.{Shape}
 use Rattle.nam_layout.specs.declared.field.Place.{Place}
-use Rattle.nam_layout.specs.declared.field.Cells.{Cells}
-use Rattle.nam_layout.specs.PlaceFits.{FitsPlace, FitsCells}
+use Rattle.nam_layout.specs.PlaceFits.{FitsPlace}
 use Rattle.nam_calls.specs.declared.index.FindEnd.{FindEnd}
 use Rattle.nam_calls.specs.declared.index.FindEnd.TheVariants as found_key
 use Rattle.nam_calls.specs.declared.index.ClaimKeyPlace.{ClaimKeyPlace}

@@ -1,7 +1,6 @@
 -- The verbs to come fall in a scan, and how many it begins with.
-use Rattle.std.proofs.Common.{◌≡◌, ℕ, zero, suc, ◌+◌, ◌-◌, ◌*◌, ◌<◌, ◌≤◌, List, refl, sym, ◌∙◌, ap, subst, arith, cond, Bool, true, false, Option, Some, None}
+use Rattle.std.proofs.Common.{◌≡◌, ℕ, suc, ◌+◌, ◌-◌, ◌*◌, ◌<◌, ◌≤◌, List, refl, subst, arith}
 use Rattle.std.proofs.Math.Nat.{suc-mul}
-use Rattle.std.specs.Prelude.{◌==◌, if◌then◌else◌}
 use Rattle.nam_verbs.specs.declared.now.Now.{Now}
 use Rattle.nam_verbs.specs.declared.now.Now.TheVariants.{At, Over}
 use Rattle.nam_catalog.specs.declared.shape.Shape.{Shape}
@@ -12,9 +11,9 @@ use Rattle.nam_calls.specs.declared.reading.ReadingEnd.TheVariants as read_end
 use Rattle.nam_calls.specs.declared.scan.ScanPlace.{ScanPlace}
 use Rattle.nam_calls.specs.declared.scan.ScanPlace.TheVariants.{ScanKey, ScanRead}
 use Rattle.nam_calls.specs.declared.scan.ScanAnswer.{ScanAnswer}
-use Rattle.nam_calls.specs.declared.scan.ScanAnswer.TheVariants.{Key, Row, Done, TooOld, Astray}
-use Rattle.nam_calls.specs.Words.{width_of, capacity_of}
-use Rattle.nam_calls.specs.Reading.{sight_of, read_begin, read_left, read_most}
+use Rattle.nam_calls.specs.declared.scan.ScanAnswer.TheVariants.{Key, Done}
+use Rattle.nam_calls.specs.Words.{capacity_of}
+use Rattle.nam_calls.specs.Reading.{sight_of, read_begin, read_most}
 use Rattle.nam_calls.specs.Scan.{in_range, scan_begin, scan_skip, scan_read, on_scan_read, scan_after, position_of, positions_left, scan_left}
 use Rattle.nam_calls.specs.Bound.{scan_bound}
 use Rattle.nam_calls.specs.Fits.{FallsTo, HasWidth}

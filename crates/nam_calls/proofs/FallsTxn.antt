@@ -1,8 +1,7 @@
 -- The verbs to come fall in each call of a transaction, and how many a call begins with.
-use Rattle.std.proofs.Common.{◌≡◌, ℕ, zero, suc, ◌+◌, ◌-◌, ◌*◌, ◌<◌, ◌≤◌, List, [], ◌∷◌, ◌++◌, length, take, drop, refl, sym, ◌∙◌, ap, subst, arith, cond, inl, inr, Bool, true, false, not, Option, Some, None}
-use Rattle.std.specs.Prelude.{◌==◌, if◌then◌else◌, map}
+use Rattle.std.proofs.Common.{◌≡◌, ℕ, ◌+◌, ◌*◌, ◌<◌, ◌≤◌, List, refl, sym, subst, arith, Bool, true, false, not, Option, None}
+use Rattle.std.specs.Prelude.{if◌then◌else◌}
 use Rattle.std.proofs.lemmas.Bool.{false≢true}
-use Rattle.std.proofs.lemmas.Bool.Decides.{nat_tests}
 use Rattle.nam_verbs.specs.declared.now.Now.{Now}
 use Rattle.nam_verbs.specs.declared.now.Now.TheVariants.{At, Over}
 use Rattle.si_model.specs.declared.op.Op.{Op}
@@ -22,18 +21,16 @@ use Rattle.nam_calls.specs.declared.reading.ReadingEnd.TheVariants as read_end
 use Rattle.nam_calls.specs.declared.txn.TxnState.{TxnState}
 use Rattle.nam_calls.specs.declared.txn.TxnPlace.{TxnPlace}
 use Rattle.nam_calls.specs.declared.txn.TxnPlace.TheVariants.{Finding, Reading, Claiming, Committing}
-use Rattle.nam_calls.specs.declared.txn.TxnAnswer.{TxnAnswer}
-use Rattle.nam_calls.specs.declared.txn.TxnAnswer.TheVariants.{TooOld, NoSpace, Declined, Astray}
-use Rattle.nam_calls.specs.Txn.{Stepped}
+use Rattle.nam_calls.specs.declared.txn.TxnAnswer.TheVariants.{Declined}
 use Rattle.nam_calls.specs.Words.{width_of, ring_of, capacity_of}
-use Rattle.nam_calls.specs.Index.{find_begin, claim_key_begin, find_left, claim_key_left}
+use Rattle.nam_calls.specs.Index.{find_begin, claim_key_begin}
 use Rattle.nam_calls.specs.Reading.{sight_of, read_begin, read_left}
 use Rattle.nam_calls.specs.Operations.{key_of, reads, claims, holding, own_value, read_of, value_in, answer_of}
-use Rattle.nam_calls.specs.Txn.{at, answered, with_claim, with_op, with_own, ask_op, decided, valued, on_find, on_read, record_of, claimed, on_claim}
+use Rattle.nam_calls.specs.Txn.{at, answered, with_claim, with_op, with_own, ask_op, valued, on_find, on_read, record_of, on_claim}
 use Rattle.nam_calls.specs.TxnCalls.{txn_after}
 use Rattle.nam_calls.specs.Reading.{read_most}
 use Rattle.nam_calls.specs.Bound.{claim_most, txn_left, op_bound}
-use Rattle.nam_calls.specs.Fits.{HasWidth, ReadEnds}
+use Rattle.nam_calls.specs.Fits.{HasWidth}
 use Rattle.nam_calls.specs.TxnFits.{IsTableOf, StateFits, OpStands, TxnPlaceFits, TxnFalls, TxnBegins}
 use Rattle.nam_calls.proofs.FallsTests.{by_test, either}
 use Rattle.nam_calls.proofs.FallsMachines.{FindFalls, find_falls, ClaimKeyFalls, claim_key_falls}
@@ -88,8 +85,8 @@ module _ (shape : Shape) (limits : FitsLimits shape) where
         (if claims op then at state' (Claiming op claim_key_begin) else answered state' (answer_of op value))
         (fits, (tt, omega arith))
         (by_test (TxnFalls shape n) (claims op) (at state' (Claiming op claim_key_begin)) (answered state' (answer_of op value))
-          (λ e. let m = claims_take shape op (claims op) e in let c = least in (fits, ((stands, c, read_wide shape op value stands wide), omega arith)))
-          (λ e. (fits, (tt, omega arith))))
+        (λ e. let m = claims_take shape op (claims op) e in let c = least in (fits, ((stands, c, read_wide shape op value stands wide), omega arith)))
+        (λ e. (fits, (tt, omega arith))))
 
     on_find_falls : (n : ℕ) (now : Now ℕ FindEnd) → FindFalls shape table (key_of op).key n now
         → TxnFalls shape (n + (read_most shape table + claim_most shape op)) (on_find shape state op now)
@@ -153,9 +150,11 @@ module _ (shape : Shape) (limits : FitsLimits shape) where
       → HasWidth (width_of shape (key_of op).table) value → TxnBegins shape n (with_own shape state op value)
   own_begins n state op value fits stands e wide =
       either (TxnBegins shape n) (not (passes op (holding value))) (answered state Declined) (answered (with_op shape state op value) (answer_of op value))
-      (fits, tt)
-      (op_fits shape state.worker state.claims state.writes state.guards fits op value stands
-        (own_claimed shape state.worker state.claims state.writes state.guards fits (key_of op) e) wide, tt)
+      (fits, tt) (
+        op_fits shape state.worker state.claims state.writes state.guards fits op value stands
+            (own_claimed shape state.worker state.claims state.writes state.guards fits (key_of op) e) wide,
+        tt,
+      )
 
   pub op_begins : (state : TxnState) (op : Op) → StateFits shape state → OpStands shape op → TxnBegins shape (op_bound shape op) (ask_op shape state op)
   op_begins state op fits stands =

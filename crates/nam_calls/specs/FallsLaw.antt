@@ -1,5 +1,5 @@
 -- The number of verbs to come falls with each word taken, and what it is at the begin.
-use Rattle.std.specs.Prelude.{◌≡◌, ℕ, ◌+◌, ◌-◌, ◌*◌, ◌<◌, ◌≤◌, false, List, length, Some}
+use Rattle.std.specs.Prelude.{◌≡◌, ℕ, ◌+◌, ◌-◌, ◌<◌, ◌≤◌, false, List, length, Some}
 use Rattle.nam_verbs.specs.declared.now.Now.TheVariants.{At}
 use Rattle.nam_catalog.specs.declared.shape.Shape.{Shape}
 use Rattle.nam_catalog.specs.Fits.{FitsLimits}
@@ -52,12 +52,12 @@ use Rattle.nam_calls.specs.ClientFits.{ClientFits, CallFits, call_bound}
 abbrev pub FindLaw : Type 0
 FindLaw = (shape : Shape) (table key passed found : ℕ) → FindFits (capacity_of shape table) passed
     → Falls (FindFits (capacity_of shape table)) (FindEnds (capacity_of shape table)) (find_left shape table) (find_left shape table passed)
-      (find_after shape table key passed found)
+    (find_after shape table key passed found)
 
 abbrev pub ClaimKeyLaw : Type 0
 ClaimKeyLaw = (shape : Shape) (table key : ℕ) (at : ClaimKeyPlace) (found : ℕ) → ClaimKeyFits (capacity_of shape table) at
     → Falls (ClaimKeyFits (capacity_of shape table)) (ClaimKeyEnds (capacity_of shape table)) (claim_key_left shape table)
-      (claim_key_left shape table at) (claim_key_after shape table key at found)
+    (claim_key_left shape table at) (claim_key_after shape table key at found)
 
 abbrev pub CurrentLaw : Type 0
 CurrentLaw = (place : Place) → FitsPlace place → (seen : List ℕ) (at : CurrentPlace) (found : ℕ) → CurrentFits place at
@@ -141,18 +141,18 @@ pub record ScanFacts (shape : Shape) (table : ℕ) : Type 0 where
   pub begins : ScanFits shape table scan_begin × (scan_left shape table scan_begin ≤ scan_bound shape table)
   pub falls : (low high : ℕ) (seen : List ℕ) (at : ScanPlace) (found : ℕ) → ScanFits shape table at
       → FallsTo (ScanFits shape table) (ScanEnds shape table) (scan_left shape table) (after_scan shape table (position_of at))
-        (scan_left shape table at) (scan_after shape table low high seen at found)
+      (scan_left shape table at) (scan_after shape table low high seen at found)
   pub skips : (position n : ℕ) → position < capacity_of shape table → positions_left shape table (capacity_of shape table - position - 1) < n
       → FallsTo (ScanFits shape table) (ScanEnds shape table) (scan_left shape table) (after_scan shape table position) n
-        (scan_skip shape table position)
+      (scan_skip shape table position)
   pub reads : (position key n : ℕ) → position < capacity_of shape table → scan_left shape table (ScanRead position key read_begin) < n
       → FallsTo (ScanFits shape table) (ScanEnds shape table) (scan_left shape table) (after_scan shape table position) n
-        (scan_read position key)
+      (scan_read position key)
 
 abbrev pub ScanLaw : Type 0
 ScanLaw = (shape : Shape) → FitsLimits shape → (table : ℕ) → IsTableOf shape table → ScanFacts shape table
 
--- 5. A client
+-- 5. A client, which takes a word only where it isn't cut off
 
 abbrev pub ClientLaw : Type 0
 ClientLaw = (shape : Shape) → FitsLimits shape → (client : ClientState) (place : CallPlace) (found : ℕ) → ClientFits shape client

@@ -2,7 +2,6 @@
 use Rattle.std.specs.Prelude.{◌≡◌, ℕ, ◌<◌, ◌≤◌, List, length, Option, MatchOption}
 use Rattle.nam_verbs.specs.declared.now.Now.{Now}
 use Rattle.nam_verbs.specs.declared.now.Now.TheVariants.{At, Over}
-use Rattle.nam_catalog.specs.declared.shape.Shape.{Shape}
 use Rattle.nam_layout.specs.declared.field.Place.{Place}
 use Rattle.nam_layout.specs.declared.field.Cells.{Cells}
 use Rattle.nam_layout.specs.PlaceFits.{FitsPlace, FitsCells}
@@ -49,7 +48,6 @@ use Rattle.nam_calls.specs.declared.reading.ReadPlace.{ReadPlace}
 use Rattle.nam_calls.specs.declared.reading.ReadPlace.TheVariants.{ReadCurrent, ReadUnsure, ReadRecheck, ReadRing, ReadCells, ReadHorizon}
 use Rattle.nam_calls.specs.declared.reading.ReadingEnd.{ReadingEnd}
 use Rattle.nam_calls.specs.declared.reading.ReadingEnd.TheVariants.{Got, Passed, Astray}
-use Rattle.nam_calls.specs.Words.{capacity_of}
 
 -- 1. Falling
 

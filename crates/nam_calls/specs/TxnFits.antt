@@ -1,5 +1,5 @@
 -- What holds of a transaction and of the places of its calls, of a scan, and of a client.
-use Rattle.std.specs.Prelude.{◌≡◌, ℕ, ◌+◌, ◌-◌, ◌*◌, ◌<◌, ◌≤◌, Bool, true, false, if◌then◌else◌, List, [], ◌∷◌, length, map, Option, Some, None}
+use Rattle.std.specs.Prelude.{◌≡◌, ℕ, ◌+◌, ◌-◌, ◌*◌, ◌<◌, ◌≤◌, Bool, true, false, if◌then◌else◌, List, [], ◌∷◌, length, map}
 use Rattle.std.specs.List.{AllByRecursion}
 use Rattle.nam_verbs.specs.declared.now.Now.{Now}
 use Rattle.nam_verbs.specs.declared.now.Now.TheVariants.{At, Over}
@@ -14,7 +14,6 @@ use Rattle.nam_catalog.specs.declared.shape.Shape.{Shape}
 use Rattle.nam_catalog.specs.Tables.{widths_of}
 use Rattle.nam_layout.specs.RowLaw.{IsPosition}
 use Rattle.nam_layout.specs.Place.{place_of}
-use Rattle.nam_calls.specs.declared.reading.ReadPlace.{ReadPlace}
 use Rattle.nam_calls.specs.declared.scan.ScanPlace.{ScanPlace}
 use Rattle.nam_calls.specs.declared.scan.ScanPlace.TheVariants.{ScanKey, ScanRead}
 use Rattle.nam_calls.specs.declared.scan.ScanAnswer.{ScanAnswer}
@@ -25,7 +24,6 @@ use Rattle.nam_calls.specs.declared.txn.TxnCall.{TxnCall}
 use Rattle.nam_calls.specs.declared.txn.TxnCall.TheVariants.{Get, Put, Add, Del, Need, Guard, Commit}
 use Rattle.nam_calls.specs.declared.txn.TxnPlace.{TxnPlace}
 use Rattle.nam_calls.specs.declared.txn.TxnPlace.TheVariants.{Finding, Reading, Claiming, Committing}
-use Rattle.nam_calls.specs.declared.txn.TxnAnswer.{TxnAnswer}
 use Rattle.nam_calls.specs.declared.txn.CommitPlace.{CommitPlace}
 use Rattle.nam_calls.specs.declared.txn.CommitPlace.TheVariants.{Locking, Checking, Returning, Saving, Copying, Installing, Publishing, Freeing}
 use Rattle.nam_calls.specs.Txn.{Stepped}

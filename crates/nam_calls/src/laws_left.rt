@@ -52,7 +52,8 @@ pub fn scan_falls()
     ensures { ScanLaw }
 {}
 
-/// The same for each call of a client.
+/// The same for each call of a client that isn't cut off: a word leaves fewer verbs to come, and a call begins with no
+/// more than its bound.
 pub fn client_falls()
     ensures falls { ClientLaw }
     ensures begins { ClientBeginsLaw }

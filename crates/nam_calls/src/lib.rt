@@ -24,11 +24,11 @@ mod txn;
 pub use client::{Answer, Call, CallPlace, ClientState, Open, Scanned};
 pub use horizon::{CollectPlace, OldEnd};
 pub use index::{ClaimKeyEnd, ClaimKeyPlace, FindEnd};
-pub use laws_left::{
-    cells_fall, client_falls, locks_fall, position_falls, read_falls, scan_falls, txn_falls,
-};
 pub use laws_growth::{
     claim_program_law, commit_program_law, logs_grow_law, read_program_law, session_logs_grow_law,
+};
+pub use laws_left::{
+    cells_fall, client_falls, locks_fall, position_falls, read_falls, scan_falls, txn_falls,
 };
 pub use lock::{LockEnd, LockPlace};
 pub use mover::{MoveAnswer, MovePlace};

@@ -37,13 +37,16 @@ use Rattle.nam_calls.proofs.FallsTxn.{op_begins}
 record_key : (cs : List Record) (key : Key) → is_claimed cs key ≡ true → (record_in cs key).key ≡ key
 record_key [] key e = absurd (false≢true e)
 record_key (c ∷ cs) key e =
-    by_test (λ (r : Record). r.key ≡ key) (same_key c.key key) c (record_in cs key) (λ f. same_key_says c.key key f) (λ f. record_key cs key (rw f at e))
+    by_test (λ (r : Record). r.key ≡ key) (same_key c.key key) c (record_in cs key) (λ f. same_key_says c.key key f)
+    (λ f. record_key cs key (rw f at e))
 
 module _ (shape : Shape) (limits : FitsLimits shape) where
-  record_width : (cs : List Record) (key : Key) → AllByRecursion (IsPlaced shape) cs → is_claimed cs key ≡ true → (record_in cs key).place.width ≡ width_of shape key.table
+  record_width : (cs : List Record) (key : Key) → AllByRecursion (IsPlaced shape) cs → is_claimed cs key ≡ true
+      → (record_in cs key).place.width ≡ width_of shape key.table
   record_width cs key placed e =
       let p = record_placed shape cs key placed e in
-      ap (λ (p : Place). p.width) p.2 ∙ width_is shape limits (record_in cs key).key.table p.0 p.1.0 p.1.1 ∙ ap (λ (k : Key). width_of shape k.table) (record_key cs key e)
+      ap (λ (p : Place). p.width) p.2 ∙ width_is shape limits (record_in cs key).key.table p.0 p.1.0 p.1.1 ∙ ap (λ (k : Key). width_of shape k.table)
+      (record_key cs key e)
 
   abbrev places_in : List Record → List Key → List Place
   places_in cs keys = map (λ (r : Record). r.place) (map (record_in cs) keys)
@@ -63,7 +66,8 @@ module _ (shape : Shape) (limits : FitsLimits shape) where
   commit_figure state fits =
       let w = writes_take state.claims state.writes (unwritten state.writes state.guards) fits.placed fits.written in
       let r = records_length shape state fits in
-      let p : length (map (λ (r : Record). r.place) (records_of state)) ≡ length (records_of state) = length-map (records_of state) (λ (r : Record). r.place) in
+      let p : length (map (λ (r : Record). r.place) (records_of state)) ≡ length (records_of state) = length-map (records_of state)
+      (λ (r : Record). r.place) in
       omega arith
 
   commit_begins : (state : TxnState) → StateFits shape state → TxnBegins shape (commit_bound shape state) (ask_commit shape state)

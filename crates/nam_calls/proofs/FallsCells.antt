@@ -36,24 +36,31 @@ module _ (cells : Cells) (place : Place) (fits : FitsPlace place) where
 
   next_cell_falls : (cell n : ℕ) → cell < cells.cells → cells_left cells place cell < n → CellFalls n (next_cell cells cell)
   next_cell_falls cell n l m =
-      or_last (CellFalls n) cells.cells cell (Over NotThere) (At (CellTag (cell + 1))) l (λ e. (tt, omega arith)) (λ e. (e, rw (later_row cells.cells cell (place.width + 5) e) m))
+      or_last (CellFalls n) cells.cells cell (Over NotThere) (At (CellTag (cell + 1))) l (λ e. (tt, omega arith))
+      (λ e. (e, rw (later_row cells.cells cell (place.width + 5) e) m))
 
-  pub cell_falls : (seen : List ℕ) (at : CellPlace) (found : ℕ) → CellFits cells place at → CellFalls (cell_left cells place at) (cell_after cells place seen at found)
+  pub cell_falls : (seen : List ℕ) (at : CellPlace) (found : ℕ) → CellFits cells place at
+      → CellFalls (cell_left cells place at) (cell_after cells place seen at found)
   cell_falls seen (CellTag cell) found l =
-      either (CellFalls (cell_left cells place (CellTag cell))) _ (At (CellOwner cell found)) (next_cell cells cell) (l, omega arith) (next_cell_falls cell _ l (omega arith))
+      either (CellFalls (cell_left cells place (CellTag cell))) _ (At (CellOwner cell found)) (next_cell cells cell) (l, omega arith)
+      (next_cell_falls cell _ l (omega arith))
   cell_falls seen (CellOwner cell tag) found l =
-      either (CellFalls (cell_left cells place (CellOwner cell tag))) _ (At (CellBegin cell tag)) (next_cell cells cell) (l, omega arith) (next_cell_falls cell _ l (omega arith))
+      either (CellFalls (cell_left cells place (CellOwner cell tag))) _ (At (CellBegin cell tag)) (next_cell cells cell) (l, omega arith)
+      (next_cell_falls cell _ l (omega arith))
   cell_falls seen (CellBegin cell tag) found l =
-      either (CellFalls (cell_left cells place (CellBegin cell tag))) _ (At (CellEnding cell tag found)) (next_cell cells cell) (l, omega arith) (next_cell_falls cell _ l (omega arith))
+      either (CellFalls (cell_left cells place (CellBegin cell tag))) _ (At (CellEnding cell tag found)) (next_cell cells cell) (l, omega arith)
+      (next_cell_falls cell _ l (omega arith))
   cell_falls seen (CellEnding cell tag header) found l =
       let w = fits.least_width in
       either (CellFalls (cell_left cells place (CellEnding cell tag header))) _ (next_cell cells cell) (At (CellWords cell tag header []))
       (next_cell_falls cell _ l (omega arith)) ((l, omega arith), omega arith)
   cell_falls seen (CellWords cell tag header got) found l =
       one_more (λ at. CellFits cells place at × (cell_left cells place at < cell_left cells place (CellWords cell tag header got)))
-      place.width got found (CellWords cell tag header) (CellAgain cell tag header) l.1 (λ e m. ((l.0, m), omega arith)) (λ e m. ((l.0, m), omega arith))
+      place.width got found (CellWords cell tag header) (CellAgain cell tag header) l.1 (λ e m. ((l.0, m), omega arith))
+      (λ e m. ((l.0, m), omega arith))
   cell_falls seen (CellAgain cell tag header value) found l =
-      either (CellFalls (cell_left cells place (CellAgain cell tag header value))) _ (Over (Found (if is_deleted place.form header then None else Some value))) (next_cell cells cell)
+      either (CellFalls (cell_left cells place (CellAgain cell tag header value))) _
+      (Over (Found (if is_deleted place.form header then None else Some value))) (next_cell cells cell)
       (wide_or_none place.width (is_deleted place.form header) value l.1, omega arith) (next_cell_falls cell _ l.0 (omega arith))
 
 -- 2. The claim of a cell and its filling
@@ -63,13 +70,16 @@ module _ (cells : Cells) where
   ClaimFalls = Falls (ClaimFits cells) (ClaimEnds cells) (claim_left cells)
 
   claim_next_falls : (cell n : ℕ) → cell < cells.cells → (cells.cells - cell - 1) * 2 < n → ClaimFalls n (claim_next cells cell)
-  claim_next_falls cell n l m = or_last (ClaimFalls n) cells.cells cell (Over NoRoom) (At (ClaimLook (cell + 1))) l (λ e. (tt, omega arith)) (λ e. (e, omega arith))
+  claim_next_falls cell n l m =
+      or_last (ClaimFalls n) cells.cells cell (Over NoRoom) (At (ClaimLook (cell + 1))) l (λ e. (tt, omega arith)) (λ e. (e, omega arith))
 
   pub claim_falls : (at : ClaimPlace) (found : ℕ) → ClaimFits cells at → ClaimFalls (claim_left cells at) (claim_after cells at found)
   claim_falls (ClaimLook cell) found l =
-      either (ClaimFalls (claim_left cells (ClaimLook cell))) _ (At (ClaimTake cell found)) (claim_next cells cell) (l, omega arith) (claim_next_falls cell _ l (omega arith))
+      either (ClaimFalls (claim_left cells (ClaimLook cell))) _ (At (ClaimTake cell found)) (claim_next cells cell) (l, omega arith)
+      (claim_next_falls cell _ l (omega arith))
   claim_falls (ClaimTake cell tag) found l =
-      either (ClaimFalls (claim_left cells (ClaimTake cell tag))) _ (Over (Claimed cell (written tag))) (claim_next cells cell) (l, omega arith) (claim_next_falls cell _ l (omega arith))
+      either (ClaimFalls (claim_left cells (ClaimTake cell tag))) _ (Over (Claimed cell (written tag))) (claim_next cells cell) (l, omega arith)
+      (claim_next_falls cell _ l (omega arith))
 
 module _ (width : ℕ) (least : 1 ≤ width) where
   abbrev pub FillFalls : ℕ → Now FillPlace (Unit {0}) → Type 0
@@ -79,7 +89,8 @@ module _ (width : ℕ) (least : 1 ≤ width) where
   fill_falls FillOwner l = (tt, omega arith)
   fill_falls FillBegin l = (tt, omega arith)
   fill_falls FillEnding l = (omega arith, omega arith)
-  fill_falls (FillWord nth) l = or_last (FillFalls (width - nth)) width nth (Over tt) (At (FillWord (nth + 1))) l (λ e. (tt, omega arith)) (λ e. (e, omega arith))
+  fill_falls (FillWord nth) l =
+      or_last (FillFalls (width - nth)) width nth (Over tt) (At (FillWord (nth + 1))) l (λ e. (tt, omega arith)) (λ e. (e, omega arith))
 
 -- 3. A move
 
@@ -94,14 +105,16 @@ module _ (place : Place) (cells : Cells) (fits : FitsPlace place) (room : FitsCe
   on_claim_falls slot header ending n (Over NoRoom) l h = (tt, omega arith)
 
   on_fill_falls : (slot header cell tag n : ℕ) (version : Version) (now : Now FillPlace (Unit {0})) → slot < place.ring → cell < cells.cells
-      → length version.value ≡ place.width → FillFalls place.width fits.least_width n now → MoveFalls (n + 3) (on_fill slot header cell tag version now)
+      → length version.value ≡ place.width → FillFalls place.width fits.least_width n now
+      → MoveFalls (n + 3) (on_fill slot header cell tag version now)
   on_fill_falls slot header cell tag n version (At at) l m e h = ((l, m, e, h.0), omega arith)
   on_fill_falls slot header cell tag n version (Over done) l m e h = ((l, m), omega arith)
 
   pub move_falls : (at : MovePlace) (found : ℕ) → MoveFits place cells at → MoveFalls (move_left place cells at) (move_after place cells at found)
   move_falls MoveCount found l = (slot_within place fits found, omega arith)
   move_falls (MoveHead slot) found l =
-      either (MoveFalls (move_left place cells (MoveHead slot))) _ (Over answer.Nothing) (At (MoveEnding slot found)) (tt, omega arith) (l, omega arith)
+      either (MoveFalls (move_left place cells (MoveHead slot))) _ (Over answer.Nothing) (At (MoveEnding slot found)) (tt, omega arith)
+      (l, omega arith)
   move_falls (MoveEnding slot header) found l = let c = room.least_cells in ((l, c), omega arith)
   move_falls (MoveClaim slot header ending at) found l = on_claim_falls slot header ending _ _ l.0 (claim_falls cells at found l.1)
   move_falls (MoveWords slot header ending cell tag got) found l =

@@ -39,7 +39,8 @@ use Rattle.nam_calls.proofs.FallsKeys.{places_length, writes_within, nth_fits}
 
 -- 1. What copies and installs take
 
-one_install : (xs : List Place) (nth : ℕ) → nth < length xs → installs_most (drop nth xs) ≡ 3 * (nth_place xs nth).width + 5 + installs_most (drop (suc nth) xs)
+one_install : (xs : List Place) (nth : ℕ) → nth < length xs
+    → installs_most (drop nth xs) ≡ 3 * (nth_place xs nth).width + 5 + installs_most (drop (suc nth) xs)
 one_install [] nth l = absurd (omega arith)
 one_install (x ∷ xs) zero l = refl
 one_install (x ∷ xs) (suc nth) l = one_install xs nth (omega arith)
@@ -56,14 +57,16 @@ installs_least (x ∷ xs) = let r = installs_least xs in omega arith
 
 -- 2. A commit goes on, or is answered
 
-goes : (shape : Shape) (state : TxnState) (n : ℕ) (place : CommitPlace) → StateFits shape state → state.records ≡ records_of state → 1 ≤ length state.writes
+goes : (shape : Shape) (state : TxnState) (n : ℕ) (place : CommitPlace) → StateFits shape state → state.records ≡ records_of state
+    → 1 ≤ length state.writes
     → CommitPlaceFits shape state place → commit_left state place < n → TxnFalls shape n (go state place)
 goes shape state n place fits are some at l = (fits, ((are, some, at), l))
 
 ends : (shape : Shape) (state : TxnState) (n : ℕ) (answer : TxnAnswer) → StateFits shape state → 0 < n → TxnFalls shape n (answered state answer)
 ends shape state n answer fits l = (fits, (tt, l))
 
-module _ (shape : Shape) (limits : FitsLimits shape) (state : TxnState) (fits : StateFits shape state) (are : state.records ≡ records_of state) (some : 1 ≤ length state.writes) where
+module _ (shape : Shape) (limits : FitsLimits shape) (state : TxnState) (fits : StateFits shape state) (are : state.records ≡ records_of state)
+    (some : 1 ≤ length state.writes) where
   abbrev writes : ℕ
   writes = length state.writes
 
@@ -104,33 +107,43 @@ module _ (shape : Shape) (limits : FitsLimits shape) (state : TxnState) (fits : 
   enough : length (places state) ≤ after_locks
   enough = let w = within in let e = as_many in let l = rest_least in omega arith
 
-  on_lock_falls : (n : ℕ) (now : Now LockPlace LockEnd) → length state.counts ≡ 0 → LockFalls (places state) after_locks enough n now → TxnFalls shape n (on_lock state now)
+  on_lock_falls : (n : ℕ) (now : Now LockPlace LockEnd) → length state.counts ≡ 0 → LockFalls (places state) after_locks enough n now
+      → TxnFalls shape n (on_lock state now)
   on_lock_falls n (At place) none h = goes shape state n (Locking place) fits are some (subst (λ m. LockFits m place) as_many h.0, none) h.1
-  on_lock_falls n (Over (lock_end.Held headers)) none h = goes shape (record state { held = headers }) n (Checking slot_begin) fits are some (h.0 ∙ as_many, omega arith) (let m = h.1 in omega arith)
+  on_lock_falls n (Over (lock_end.Held headers)) none h =
+      goes shape (record state { held = headers }) n (Checking slot_begin) fits are some (h.0 ∙ as_many, omega arith) (let m = h.1 in omega arith)
   on_lock_falls n (Over (lock_end.Locked nth found)) none h = ends shape state n (Locked (lock_at state nth found)) fits h.1
   on_lock_falls n (Over (lock_end.Newer nth found)) none h = ends shape state n (Newer (lock_at state nth found)) fits h.1
 
   -- the words of a written record are to be read
-  saving : (nth n : ℕ) → length state.held ≡ records → length state.counts ≡ writes → nth < writes → rest_from state nth < n → TxnFalls shape n (go state (Saving nth words_begin))
+  saving : (nth n : ℕ) → length state.held ≡ records → length state.counts ≡ writes → nth < writes → rest_from state nth < n
+      → TxnFalls shape n (go state (Saving nth words_begin))
   saving nth n held counts l m =
       let w = (nth_is nth l).least_width in
       let r = rest_is nth l in
       goes shape state n (Saving nth words_begin) fits are some (held, counts, l, omega arith) (omega arith)
 
   on_words_falls : (nth n : ℕ) (now : Now (List ℕ) (List ℕ)) → length state.held ≡ records → length state.counts ≡ writes → (l : nth < writes)
-      → WordsFall (place_at state nth) (nth_is nth l) n now → TxnFalls shape (n + (2 * (place_at state nth).width + 5) + rest_from state (nth + 1)) (on_words state nth now)
-  on_words_falls nth n (At got) held counts l h = goes shape state _ (Saving nth got) fits are some (held, counts, l, h.0) (let m = h.1 in omega arith)
-  on_words_falls nth n (Over old) held counts l h = goes shape state _ (Copying nth old copy_begin) fits are some (held, counts, l, h.0, tt) (let m = h.1 in omega arith)
+      → WordsFall (place_at state nth) (nth_is nth l) n now
+      → TxnFalls shape (n + (2 * (place_at state nth).width + 5) + rest_from state (nth + 1)) (on_words state nth now)
+  on_words_falls nth n (At got) held counts l h =
+      goes shape state _ (Saving nth got) fits are some (held, counts, l, h.0) (let m = h.1 in omega arith)
+  on_words_falls nth n (Over old) held counts l h =
+      goes shape state _ (Copying nth old copy_begin) fits are some (held, counts, l, h.0, tt) (let m = h.1 in omega arith)
 
   install_begins : (nth n : ℕ) (value : Option (List ℕ)) → length state.held ≡ records → length state.counts ≡ writes → nth < writes
       → (place_at state nth).width + 2 + rest_from state (nth + 1) < n → TxnFalls shape n (go state (Installing nth (install_begin value)))
   install_begins nth n None held counts l m = goes shape state n (Installing nth InstallCount) fits are some (held, counts, l, tt) (omega arith)
-  install_begins nth n (Some value) held counts l m = let w = (nth_is nth l).least_width in goes shape state n (Installing nth (InstallWord 0)) fits are some (held, counts, l, omega arith) (omega arith)
+  install_begins nth n (Some value) held counts l m =
+      let w = (nth_is nth l).least_width in
+      goes shape state n (Installing nth (InstallWord 0)) fits are some (held, counts, l, omega arith) (omega arith)
 
-  on_copy_falls : (nth n : ℕ) (old : List ℕ) (now : Now CopyPlace (Unit {0})) → length state.held ≡ records → length state.counts ≡ writes → (l : nth < writes)
+  on_copy_falls : (nth n : ℕ) (old : List ℕ) (now : Now CopyPlace (Unit {0})) → length state.held ≡ records → length state.counts ≡ writes
+      → (l : nth < writes)
       → length old ≡ (place_at state nth).width → CopyFalls (place_at state nth) (nth_is nth l) n now
       → TxnFalls shape (n + ((place_at state nth).width + 2) + rest_from state (nth + 1)) (on_copy state nth old now)
-  on_copy_falls nth n old (At place) held counts l wide h = goes shape state _ (Copying nth old place) fits are some (held, counts, l, wide, h.0) (let m = h.1 in omega arith)
+  on_copy_falls nth n old (At place) held counts l wide h =
+      goes shape state _ (Copying nth old place) fits are some (held, counts, l, wide, h.0) (let m = h.1 in omega arith)
   on_copy_falls nth n old (Over done) held counts l wide h = install_begins nth _ (value_at state nth) held counts l (let m = h.1 in omega arith)
 
   publishing : (n : ℕ) → length state.held ≡ records → length state.counts ≡ writes → publish_most state < n → TxnFalls shape n (go state Publishing)
@@ -138,7 +151,8 @@ module _ (shape : Shape) (limits : FitsLimits shape) (state : TxnState) (fits : 
 
   on_install_falls : (nth n : ℕ) (now : Now InstallPlace (Unit {0})) → length state.held ≡ records → length state.counts ≡ writes → (l : nth < writes)
       → InstallFalls (place_at state nth) (nth_is nth l) n now → TxnFalls shape (n + rest_from state (nth + 1)) (on_install state nth now)
-  on_install_falls nth n (At place) held counts l h = goes shape state _ (Installing nth place) fits are some (held, counts, l, h.0) (let m = h.1 in omega arith)
+  on_install_falls nth n (At place) held counts l h =
+      goes shape state _ (Installing nth place) fits are some (held, counts, l, h.0) (let m = h.1 in omega arith)
   on_install_falls nth n (Over done) held counts l h =
       by_test (TxnFalls shape (n + rest_from state (nth + 1))) (nth + 1 == writes) (go state Publishing) (go state (Saving (nth + 1) words_begin))
       (λ e. publishing _ held counts (let m = h.1 in omega arith))
@@ -149,25 +163,32 @@ module _ (shape : Shape) (limits : FitsLimits shape) (state : TxnState) (fits : 
   next_free_falls nth n held counts l m r =
       by_test (TxnFalls shape n) (nth == records) (answered state (Committed (state.last + 1))) (go state (Freeing nth))
       (λ e. ends shape state n (Committed (state.last + 1)) fits (omega arith))
-      (λ e. let k : nth < records = grind (arith, nat_tests) in let a = as_many in goes shape state n (Freeing nth) fits are some (held, counts, l, k) (omega arith))
+      (λ e. let k : nth < records = grind (arith, nat_tests) in let a = as_many in goes shape state n (Freeing nth) fits are some
+      (held, counts, l, k) (omega arith))
 
-  on_return_falls : (full : Lock) (n : ℕ) (now : Now ℕ (Unit {0})) → length state.held ≡ records → UnlockFalls (places state) n now → TxnFalls shape n (on_return state full now)
-  on_return_falls full n (At given) held h = goes shape state n (Returning given full) fits are some (held, let e = as_many in let l = h.0 in omega arith) h.1
+  on_return_falls : (full : Lock) (n : ℕ) (now : Now ℕ (Unit {0})) → length state.held ≡ records → UnlockFalls (places state) n now
+      → TxnFalls shape n (on_return state full now)
+  on_return_falls full n (At given) held h =
+      goes shape state n (Returning given full) fits are some (held, let e = as_many in let l = h.0 in omega arith) h.1
   on_return_falls full n (Over done) held h = ends shape state n (Full full) fits h.1
 
 -- 4. The slots: each that is free brings a count
 
-module _ (shape : Shape) (limits : FitsLimits shape) (state : TxnState) (fits : StateFits shape state) (are : state.records ≡ records_of state) (some : 1 ≤ length state.writes) where
+module _ (shape : Shape) (limits : FitsLimits shape) (state : TxnState) (fits : StateFits shape state) (are : state.records ≡ records_of state)
+    (some : 1 ≤ length state.writes) where
   checked_falls : (n count : ℕ) → length state.held ≡ length state.records → length state.counts < length state.writes → 0 < n
-      → TxnFalls shape (n + (2 * (length state.writes - length state.counts - 1) + rest_from state 0)) (next_check (record state { counts = state.counts ++ count ∷ [] }))
+      → TxnFalls shape (n + (2 * (length state.writes - length state.counts - 1) + rest_from state 0))
+      (next_check (record state { counts = state.counts ++ count ∷ [] }))
   checked_falls n count held l m =
       let all = state.counts ++ count ∷ [] in
       let long : length all ≡ length state.counts + 1 = length-append state.counts (count ∷ []) in
       let state' = record state { counts = all } in
       let most = n + (2 * (length state.writes - length state.counts - 1) + rest_from state 0) in
       by_test (TxnFalls shape most) (length all == length state.writes) (go state' (Saving 0 words_begin)) (go state' (Checking slot_begin))
-      (λ e. let f : length all ≡ length state.writes = grind (arith, nat_tests) in saving shape limits state' fits are some 0 most held f some (omega arith))
-      (λ e. let f : length all < length state.writes = grind (arith, nat_tests) in goes shape state' most (Checking slot_begin) fits are some (held, f) (omega arith))
+      (λ e. let f : length all ≡ length state.writes = grind (arith, nat_tests) in saving shape limits state' fits are some 0 most held f some
+      (omega arith))
+      (λ e. let f : length all < length state.writes = grind (arith, nat_tests) in goes shape state' most (Checking slot_begin) fits are some
+      (held, f) (omega arith))
 
   on_slot_falls : (place : Place) (is : FitsPlace place) (n : ℕ) (now : Now SlotPlace SlotEnd) → length state.held ≡ length state.records
       → length state.counts < length state.writes → SlotFalls place is n now

@@ -45,9 +45,11 @@ module _ {A : Type 0} (P : A → Type 0) where
 
   pub all_filter : (f : A → Bool) (xs : List A) → AllByRecursion P xs → AllByRecursion P (filter f xs)
   all_filter f [] all = tt
-  all_filter f (x ∷ xs) all = by_test (AllByRecursion P) (f x) (x ∷ filter f xs) (filter f xs) (λ e. (all.0, all_filter f xs all.1)) (λ e. all_filter f xs all.1)
+  all_filter f (x ∷ xs) all =
+      by_test (AllByRecursion P) (f x) (x ∷ filter f xs) (filter f xs) (λ e. (all.0, all_filter f xs all.1)) (λ e. all_filter f xs all.1)
 
-pub place_of_nth : (rs : List Record) (nth : ℕ) → slice_index_or (map (λ (r : Record). r.place) rs) nth no_place ≡ (slice_index_or rs nth no_record).place
+pub place_of_nth : (rs : List Record) (nth : ℕ)
+    → slice_index_or (map (λ (r : Record). r.place) rs) nth no_place ≡ (slice_index_or rs nth no_record).place
 place_of_nth [] nth = refl
 place_of_nth (r ∷ rs) zero = refl
 place_of_nth (r ∷ rs) (suc nth) = place_of_nth rs nth
@@ -55,7 +57,8 @@ place_of_nth (r ∷ rs) (suc nth) = place_of_nth rs nth
 -- 2. Tables
 
 module _ (shape : Shape) (limits : FitsLimits shape) where
-  capacity_least : (tables : List Table) (table : ℕ) → AllByRecursion FitsTable tables → table < length tables → 1 ≤ slice_index (capacities_of tables) table
+  capacity_least : (tables : List Table) (table : ℕ) → AllByRecursion FitsTable tables → table < length tables
+      → 1 ≤ slice_index (capacities_of tables) table
   capacity_least [] table all l = absurd (omega arith)
   capacity_least (t ∷ ts) zero all l = all.0.least_capacity
   capacity_least (t ∷ ts) (suc table) all l = capacity_least ts table all.1 (omega arith)
@@ -123,7 +126,8 @@ claimed_now (c ∷ cs) r =
     (λ e. if_later (same_key c.key r.key) (is_claimed (with_claim cs r) r.key) (claimed_now cs r))
 
 -- a key that the write set writes is claimed where all of its keys are
-written_claimed : (cs : List Record) (ws : List Item) (key : Key) → AllByRecursion (λ item. is_claimed cs (item_key item) ≡ true) ws → writes_key ws key ≡ true
+written_claimed : (cs : List Record) (ws : List Item) (key : Key) → AllByRecursion (λ item. is_claimed cs (item_key item) ≡ true) ws
+    → writes_key ws key ≡ true
     → is_claimed cs key ≡ true
 written_claimed cs [] key all e = absurd (false≢true e)
 written_claimed cs (w ∷ ws) key all e = elim (cases_Bool (same_key (item_key w) key)) [
@@ -138,7 +142,8 @@ all_wrote P (w ∷ ws) i all new =
 
 all_guarded : (P : Key → Type 0) (gs : List Key) (key : Key) → AllByRecursion P gs → P key → AllByRecursion P (guarded gs key)
 all_guarded P [] key all new = (new, tt)
-all_guarded P (g ∷ gs) key all new = either (AllByRecursion P) (same_key g key) (g ∷ gs) (g ∷ guarded gs key) all (all.0, all_guarded P gs key all.1 new)
+all_guarded P (g ∷ gs) key all new =
+    either (AllByRecursion P) (same_key g key) (g ∷ gs) (g ∷ guarded gs key) all (all.0, all_guarded P gs key all.1 new)
 
 all_claimed : {A : Type 0} (key : A → Key) (cs : List Record) (r : Record) (xs : List A) → AllByRecursion (λ x. is_claimed cs (key x) ≡ true) xs
     → AllByRecursion (λ x. is_claimed (with_claim cs r) (key x) ≡ true) xs
@@ -150,7 +155,8 @@ field_width width f n None wide = length-set (replicate width 0) (f - 1) n ∙ l
 field_width width f n (Some v) wide = length-set v (f - 1) n ∙ wide
 
 module _ (shape : Shape) where
-  placed_more : (cs : List Record) (r : Record) → AllByRecursion (IsPlaced shape) cs → IsPlaced shape r → AllByRecursion (IsPlaced shape) (with_claim cs r)
+  placed_more : (cs : List Record) (r : Record) → AllByRecursion (IsPlaced shape) cs → IsPlaced shape r
+      → AllByRecursion (IsPlaced shape) (with_claim cs r)
   placed_more [] r all new = (new, tt)
   placed_more (c ∷ cs) r all new =
       either (AllByRecursion (IsPlaced shape)) (same_key c.key r.key) (c ∷ cs) (c ∷ with_claim cs r) all (all.0, placed_more cs r all.1 new)
@@ -190,7 +196,8 @@ module _ (shape : Shape) where
     }
 
     -- an operation's write and guard, of a claimed key
-    pub op_fits : (op : Op) (value : Option (List ℕ)) → OpStands shape op → is_claimed cs (key_of op) ≡ true → HasWidth (width_of shape (key_of op).table) value
+    pub op_fits : (op : Op) (value : Option (List ℕ)) → OpStands shape op → is_claimed cs (key_of op) ≡ true
+        → HasWidth (width_of shape (key_of op).table) value
         → KeysFit shape worker cs (writes_after (widths_of shape.tables) op (holding value) ws) (guards_after op gs)
     op_fits (Get t k) value stands claimed wide = fits
     op_fits (Put t k v) value stands claimed wide = write_fits (key_at t k) (Some v) claimed stands.0.1
@@ -205,7 +212,8 @@ module _ (shape : Shape) where
     pub own_claimed : (key : Key) → writes_key ws key ≡ true → is_claimed cs key ≡ true
     own_claimed key e = written_claimed cs ws key fits.written e
 
-  pub own_wide : (ws : List Item) (key : Key) → AllByRecursion (IsWide (widths_of shape.tables)) ws → HasWidth (width_of shape key.table) (own_value ws key)
+  pub own_wide : (ws : List Item) (key : Key) → AllByRecursion (IsWide (widths_of shape.tables)) ws
+      → HasWidth (width_of shape key.table) (own_value ws key)
   own_wide [] key all = tt
   own_wide (w ∷ ws) key all =
       by_test (HasWidth (width_of shape key.table)) (same_key (item_key w) key) w.value (own_value ws key)
@@ -215,7 +223,8 @@ module _ (shape : Shape) where
   -- 4. The records of a commit
 
   -- the record of a claimed key
-  pub record_placed : (cs : List Record) (key : Key) → AllByRecursion (IsPlaced shape) cs → is_claimed cs key ≡ true → IsPlaced shape (record_in cs key)
+  pub record_placed : (cs : List Record) (key : Key) → AllByRecursion (IsPlaced shape) cs → is_claimed cs key ≡ true
+      → IsPlaced shape (record_in cs key)
   record_placed [] key all e = absurd (false≢true e)
   record_placed (c ∷ cs) key all e =
       by_test (IsPlaced shape) (same_key c.key key) c (record_in cs key) (λ f. all.0)
@@ -249,7 +258,8 @@ module _ (shape : Shape) where
       writes_within = let e = records_length in let f = ap (λ (rs : List Record). length rs) are in omega arith
 
       pub record_is_placed : (nth : ℕ) → nth < length state.records → IsPlaced shape (record_at state nth)
-      record_is_placed nth l = all_at (IsPlaced shape) no_record state.records nth (subst (AllByRecursion (IsPlaced shape)) (sym are) records_placed) l
+      record_is_placed nth l =
+          all_at (IsPlaced shape) no_record state.records nth (subst (AllByRecursion (IsPlaced shape)) (sym are) records_placed) l
 
       pub nth_fits : FitsLimits shape → (nth : ℕ) → nth < length state.records → FitsPlace (place_at state nth)
       nth_fits limits nth l =

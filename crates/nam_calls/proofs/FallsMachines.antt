@@ -60,11 +60,13 @@ module _ (shape : Shape) (table key : ℕ) where
       either (FindFalls n) (found == key_word key) (Over (found_key.At (on_path capacity key passed)))
       (if (found == 0) || (passed + 1 == capacity) then Over found_key.Absent else At (passed + 1))
       (r, omega arith)
-      (by_test (FindFalls n) ((found == 0) || (passed + 1 == capacity)) (Over found_key.Absent) (At (passed + 1)) (λ e. (tt, omega arith)) (λ e. grind (arith, nat_tests)))
+      (by_test (FindFalls n) ((found == 0) || (passed + 1 == capacity)) (Over found_key.Absent) (At (passed + 1)) (λ e. (tt, omega arith))
+      (λ e. grind (arith, nat_tests)))
 
   next_falls : (passed n : ℕ) → passed < capacity → 2 * (capacity - passed - 1) < n → ClaimKeyFalls n (claim_key_next shape table passed)
   next_falls passed n l m =
-      or_last (ClaimKeyFalls n) capacity passed (Over claimed_key.NoSpace) (At (KeyLook (passed + 1))) l (λ e. (tt, omega arith)) (λ e. (e, omega arith))
+      or_last (ClaimKeyFalls n) capacity passed (Over claimed_key.NoSpace) (At (KeyLook (passed + 1))) l (λ e. (tt, omega arith))
+      (λ e. (e, omega arith))
 
   pub claim_key_falls : (place : ClaimKeyPlace) (found : ℕ) → ClaimKeyFits capacity place
       → ClaimKeyFalls (claim_key_left shape table place) (claim_key_after shape table key place found)
@@ -74,11 +76,13 @@ module _ (shape : Shape) (table key : ℕ) where
       either (ClaimKeyFalls n) (found == key_word key) (Over (claimed_key.At (on_path capacity key passed)))
       (if found == 0 then At (KeyTake passed) else claim_key_next shape table passed)
       (r, omega arith)
-      (either (ClaimKeyFalls n) (found == 0) (At (KeyTake passed)) (claim_key_next shape table passed) (l, omega arith) (next_falls passed n l (omega arith)))
+      (either (ClaimKeyFalls n) (found == 0) (At (KeyTake passed)) (claim_key_next shape table passed) (l, omega arith)
+      (next_falls passed n l (omega arith)))
   claim_key_falls (KeyTake passed) found l =
       let n = claim_key_left shape table (KeyTake passed) in
       let r = path_within passed l in
-      either (ClaimKeyFalls n) ((found == 0) || (found == key_word key)) (Over (claimed_key.At (on_path capacity key passed))) (claim_key_next shape table passed)
+      either (ClaimKeyFalls n) ((found == 0) || (found == key_word key)) (Over (claimed_key.At (on_path capacity key passed)))
+      (claim_key_next shape table passed)
       (r, omega arith) (next_falls passed n l (omega arith))
 
 -- 2. A position's words
@@ -87,32 +91,38 @@ module _ (place : Place) (fits : FitsPlace place) where
   abbrev pub CurrentFalls : ℕ → Now CurrentPlace CurrentEnd → Type 0
   CurrentFalls = Falls (CurrentFits place) (CurrentEnds place) (current_left place)
 
-  pub current_falls : (seen : List ℕ) (at : CurrentPlace) (found : ℕ) → CurrentFits place at → CurrentFalls (current_left place at) (current_after place seen at found)
+  pub current_falls : (seen : List ℕ) (at : CurrentPlace) (found : ℕ) → CurrentFits place at
+      → CurrentFalls (current_left place at) (current_after place seen at found)
   current_falls seen CurrentHead found l =
       let w = fits.least_width in
       let n = current_left place CurrentHead in
       either (CurrentFalls n) _ (if is_deleted place.form found then Over (current.Found None) else At (CurrentWords found [])) (Over current.GoOld)
-      (either (CurrentFalls n) _ (Over (current.Found None)) (At (CurrentWords found [])) (tt, omega arith) (omega arith, omega arith)) (tt, omega arith)
+      (either (CurrentFalls n) _ (Over (current.Found None)) (At (CurrentWords found [])) (tt, omega arith) (omega arith, omega arith))
+      (tt, omega arith)
   current_falls seen (CurrentWords header got) found l =
       one_more (λ at. CurrentFits place at × (current_left place at < current_left place (CurrentWords header got)))
       place.width got found (CurrentWords header) (CurrentAgain header) l (λ e m. (m, omega arith)) (λ e m. (m, omega arith))
   current_falls seen (CurrentAgain header value) found l =
-      either (CurrentFalls 1) _ (if is_locked place.form header || is_locked place.form found then Over (current.Unsure value header) else Over (current.Found (Some value)))
+      either (CurrentFalls 1) _
+      (if is_locked place.form header || is_locked place.form found then Over (current.Unsure value header) else Over (current.Found (Some value)))
       (Over current.GoOld)
-      (either (CurrentFalls 1) _ (Over (current.Unsure value header)) (Over (current.Found (Some value))) (l, omega arith) (l, omega arith)) (tt, omega arith)
+      (either (CurrentFalls 1) _ (Over (current.Unsure value header)) (Over (current.Found (Some value))) (l, omega arith) (l, omega arith))
+      (tt, omega arith)
 
   abbrev pub WordsFall : ℕ → Now (List ℕ) (List ℕ) → Type 0
   WordsFall = Falls (WordsFit place) (WordsEnd place) (words_left place)
 
   pub words_fall : (got : List ℕ) (found : ℕ) → WordsFit place got → WordsFall (words_left place got) (words_after place got found)
-  words_fall got found l = one_more (WordsFall (words_left place got)) place.width got found At Over l (λ e m. (m, omega arith)) (λ e m. (m, omega arith))
+  words_fall got found l =
+      one_more (WordsFall (words_left place got)) place.width got found At Over l (λ e m. (m, omega arith)) (λ e m. (m, omega arith))
 
   abbrev pub InstallFalls : ℕ → Now InstallPlace (Unit {0}) → Type 0
   InstallFalls = Falls (InstallFits place) Any (install_left place)
 
   pub install_falls : (at : InstallPlace) → InstallFits place at → InstallFalls (install_left place at) (install_after place at)
   install_falls (InstallWord nth) l =
-      or_last (InstallFalls (install_left place (InstallWord nth))) place.width nth (At InstallCount) (At (InstallWord (nth + 1))) l (λ e. (tt, omega arith)) (λ e. (e, omega arith))
+      or_last (InstallFalls (install_left place (InstallWord nth))) place.width nth (At InstallCount) (At (InstallWord (nth + 1))) l
+      (λ e. (tt, omega arith)) (λ e. (e, omega arith))
   install_falls InstallCount l = (tt, omega arith)
   install_falls InstallHead l = (tt, omega arith)
 
@@ -124,7 +134,8 @@ module _ (place : Place) (fits : FitsPlace place) where
 
   pub slot_falls : (at : SlotPlace) (found : ℕ) → SlotFalls (slot_left at) (slot_after place at found)
   slot_falls CheckCount found = (tt, omega arith)
-  slot_falls (CheckHead count) found = either (SlotFalls 1) _ (Over (Free count)) (Over (NotMoved (slot_of place count) found)) (tt, omega arith) (slot_within count, omega arith)
+  slot_falls (CheckHead count) found =
+      either (SlotFalls 1) _ (Over (Free count)) (Over (NotMoved (slot_of place count) found)) (tt, omega arith) (slot_within count, omega arith)
 
   abbrev pub CopyFalls : ℕ → Now CopyPlace (Unit {0}) → Type 0
   CopyFalls = Falls (CopyFits place) Any (copy_left place)
@@ -133,7 +144,8 @@ module _ (place : Place) (fits : FitsPlace place) where
   copy_falls CopyMark l = (tt, omega arith)
   copy_falls CopyEnding l = let w = fits.least_width in (omega arith, omega arith)
   copy_falls (CopyWord nth) l =
-      or_last (CopyFalls (copy_left place (CopyWord nth))) place.width nth (At CopyHead) (At (CopyWord (nth + 1))) l (λ e. (tt, omega arith)) (λ e. (e, omega arith))
+      or_last (CopyFalls (copy_left place (CopyWord nth))) place.width nth (At CopyHead) (At (CopyWord (nth + 1))) l (λ e. (tt, omega arith))
+      (λ e. (e, omega arith))
   copy_falls CopyHead l = (tt, omega arith)
 
   abbrev pub RingFalls : ℕ → Now RingPlace SearchEnd → Type 0
@@ -141,11 +153,13 @@ module _ (place : Place) (fits : FitsPlace place) where
 
   next_slot_falls : (slot n : ℕ) → slot < place.ring → slots_left place slot < n → RingFalls n (next_slot place slot)
   next_slot_falls slot n l m =
-      or_last (RingFalls n) place.ring slot (Over NotThere) (At (SlotHead (slot + 1))) l (λ e. (tt, omega arith)) (λ e. (e, rw (later_row place.ring slot (place.width + 3) e) m))
+      or_last (RingFalls n) place.ring slot (Over NotThere) (At (SlotHead (slot + 1))) l (λ e. (tt, omega arith))
+      (λ e. (e, rw (later_row place.ring slot (place.width + 3) e) m))
 
   pub ring_falls : (seen : List ℕ) (at : RingPlace) (found : ℕ) → RingFits place at → RingFalls (ring_left place at) (ring_after place seen at found)
   ring_falls seen (SlotHead slot) found l =
-      either (RingFalls (ring_left place (SlotHead slot))) _ (next_slot place slot) (At (SlotEnding slot found)) (next_slot_falls slot _ l (omega arith)) (l, omega arith)
+      either (RingFalls (ring_left place (SlotHead slot))) _ (next_slot place slot) (At (SlotEnding slot found))
+      (next_slot_falls slot _ l (omega arith)) (l, omega arith)
   ring_falls seen (SlotEnding slot header) found l =
       let w = fits.least_width in
       either (RingFalls (ring_left place (SlotEnding slot header))) _ (next_slot place slot) (At (SlotWords slot header []))
@@ -154,5 +168,6 @@ module _ (place : Place) (fits : FitsPlace place) where
       one_more (λ at. RingFits place at × (ring_left place at < ring_left place (SlotWords slot header got)))
       place.width got found (SlotWords slot header) (SlotAgain slot header) l.1 (λ e m. ((l.0, m), omega arith)) (λ e m. ((l.0, m), omega arith))
   ring_falls seen (SlotAgain slot header value) found l =
-      either (RingFalls (ring_left place (SlotAgain slot header value))) _ (Over (Found (if is_deleted place.form header then None else Some value))) (next_slot place slot)
+      either (RingFalls (ring_left place (SlotAgain slot header value))) _ (Over (Found (if is_deleted place.form header then None else Some value)))
+      (next_slot place slot)
       (wide_or_none place.width (is_deleted place.form header) value l.1, omega arith) (next_slot_falls slot _ l.0 (omega arith))

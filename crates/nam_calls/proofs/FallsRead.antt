@@ -52,15 +52,18 @@ module _ (cells : Cells) (workers : ℕ) (room : FitsCells cells) where
   pub collect_falls : (seen : List ℕ) (at : CollectPlace) (found : ℕ) → CollectFits cells workers at
       → CollectFalls (collect_left cells workers at) (collect_after cells workers seen at found)
   collect_falls seen (HorizonLook known) found l =
-      either (CollectFalls (collect_left cells workers (HorizonLook known))) _ (At (HorizonRaise known found)) (entry_known workers (known ++ found ∷ []))
+      either (CollectFalls (collect_left cells workers (HorizonLook known))) _ (At (HorizonRaise known found))
+      (entry_known workers (known ++ found ∷ []))
       (l, omega arith) (entry_falls known found _ l (omega arith))
   collect_falls seen (HorizonRaise known expected) found l =
       entry_falls known (if found == expected then slice_index seen (length known) else found) _ l (omega arith)
   collect_falls seen (CollectTag known cell) found l =
-      either (CollectFalls (collect_left cells workers (CollectTag known cell))) _ (At (CollectEnding known cell found)) (collect_next cells known cell)
+      either (CollectFalls (collect_left cells workers (CollectTag known cell))) _ (At (CollectEnding known cell found))
+      (collect_next cells known cell)
       (l, omega arith) (next_falls known cell _ l.0 l.1 (omega arith))
   collect_falls seen (CollectEnding known cell tag) found l =
-      either (CollectFalls (collect_left cells workers (CollectEnding known cell tag))) _ (At (CollectFree known cell tag)) (collect_next cells known cell)
+      either (CollectFalls (collect_left cells workers (CollectEnding known cell tag))) _ (At (CollectFree known cell tag))
+      (collect_next cells known cell)
       (l, omega arith) (next_falls known cell _ l.0 l.1 (omega arith))
   collect_falls seen (CollectFree known cell tag) found l = next_falls known cell _ l.0 l.1 (omega arith)
 
@@ -73,7 +76,8 @@ module _ (workers : ℕ) where
   pub old_falls : (seen : List ℕ) (worker found : ℕ) → IsOf workers worker → OldFalls (old_left workers worker) (old_after workers seen worker found)
   old_falls seen worker found l =
       let n = old_left workers worker in
-      either (OldFalls n) _ (Over (TooOld worker (slice_index seen (worker - 1)) found)) (if worker == workers then Over NotPassed else At (worker + 1))
+      either (OldFalls n) _ (Over (TooOld worker (slice_index seen (worker - 1)) found))
+      (if worker == workers then Over NotPassed else At (worker + 1))
       (l, omega arith)
       (by_test (OldFalls n) (worker == workers) (Over NotPassed) (At (worker + 1)) (λ e. (tt, omega arith)) (λ e. grind (arith, nat_tests)))
 
@@ -92,7 +96,8 @@ module _ (sight : Sight) (fits : SightFits sight) where
   on_current_falls n (Over current.GoOld) h =
       let r = all_rows sight.place.ring (sight.place.width + 3) fits.place.least_ring in (fits.place.least_ring, omega arith)
 
-  on_unsure_falls : (value : List ℕ) (header n : ℕ) (now : Now RingPlace SearchEnd) → length value ≡ sight.place.width → RingFalls sight.place fits.place n now
+  on_unsure_falls : (value : List ℕ) (header n : ℕ) (now : Now RingPlace SearchEnd) → length value ≡ sight.place.width
+      → RingFalls sight.place fits.place n now
       → ReadFalls (n + (1 + old_versions_left sight)) (on_unsure value header now)
   on_unsure_falls value header n (At at) e h = ((e, h.0), omega arith)
   on_unsure_falls value header n (Over (Found old)) e h = (h.0, omega arith)
@@ -105,7 +110,8 @@ module _ (sight : Sight) (fits : SightFits sight) where
   on_ring_falls n (Over NotThere) h =
       let r = all_rows sight.cells.cells (sight.place.width + 5) fits.cells.least_cells in (fits.cells.least_cells, omega arith)
 
-  on_cells_falls : (n : ℕ) (now : Now CellPlace SearchEnd) → CellFalls sight.cells sight.place fits.place n now → ReadFalls (n + sight.workers) (on_cells now)
+  on_cells_falls : (n : ℕ) (now : Now CellPlace SearchEnd) → CellFalls sight.cells sight.place fits.place n now
+      → ReadFalls (n + sight.workers) (on_cells now)
   on_cells_falls n (At at) h = (h.0, omega arith)
   on_cells_falls n (Over (Found old)) h = (h.0, omega arith)
   on_cells_falls n (Over NotThere) h = let w = fits.workers in ((omega arith, w), omega arith)
@@ -120,7 +126,8 @@ module _ (sight : Sight) (fits : SightFits sight) where
   read_falls seen (ReadUnsure value header at) found l = on_unsure_falls value header _ _ l.0 (ring_falls sight.place fits.place seen at found l.1)
   read_falls seen (ReadRecheck value header) found l =
       let r = all_rows sight.place.ring (sight.place.width + 3) fits.place.least_ring in
-      either (ReadFalls (1 + old_versions_left sight)) _ (Over (Got (Some value))) (At (ReadRing ring_begin)) (l, omega arith) (fits.place.least_ring, omega arith)
+      either (ReadFalls (1 + old_versions_left sight)) _ (Over (Got (Some value))) (At (ReadRing ring_begin)) (l, omega arith)
+      (fits.place.least_ring, omega arith)
   read_falls seen (ReadRing at) found l = on_ring_falls _ _ (ring_falls sight.place fits.place seen at found l)
   read_falls seen (ReadCells at) found l = on_cells_falls _ _ (cell_falls sight.cells sight.place fits.place seen at found l)
   read_falls seen (ReadHorizon worker) found l = on_horizon_falls _ _ (old_falls sight.workers seen worker found l)

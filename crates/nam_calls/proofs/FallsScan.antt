@@ -34,7 +34,8 @@ module _ (shape : Shape) (limits : FitsLimits shape) (table : ℕ) (is : IsTable
   position_figure : (position : ℕ) → position < capacity_of shape table
       → positions_left shape table (capacity_of shape table - position - 1) + (1 + read_most shape table)
       ≡ positions_left shape table (capacity_of shape table - position)
-  position_figure position l = first_row (capacity_of shape table - position) (1 + read_most shape table) (capacity_of shape table - position - 1) _ (omega arith) refl
+  position_figure position l =
+      first_row (capacity_of shape table - position) (1 + read_most shape table) (capacity_of shape table - position - 1) _ (omega arith) refl
 
   -- the position is left
   pub scan_skip_falls : (position n : ℕ) → position < capacity_of shape table
@@ -63,10 +64,12 @@ module _ (shape : Shape) (limits : FitsLimits shape) (table : ℕ) (is : IsTable
   scan_falls low high seen (ScanKey position) found l =
       let f = position_figure position l in
       let r = read_figure shape limits table position is l in
-      either (ScanFalls position (scan_left shape table (ScanKey position))) (in_range low high found) (Over (Key (found - 1))) (scan_skip shape table position)
+      either (ScanFalls position (scan_left shape table (ScanKey position))) (in_range low high found) (Over (Key (found - 1)))
+      (scan_skip shape table position)
       (tt, omega arith) (scan_skip_falls position _ l (omega arith))
   scan_falls low high seen (ScanRead position key at) found l =
-      on_scan_read_falls position key _ _ l.0 (read_falls (sight_of shape table position) (sight_fits shape limits table position is l.0) seen at found l.1)
+      on_scan_read_falls position key _ _ l.0
+      (read_falls (sight_of shape table position) (sight_fits shape limits table position is l.0) seen at found l.1)
 
   -- a scan begins
   pub scan_begins : ScanFits shape table scan_begin × (scan_left shape table scan_begin ≤ scan_bound shape table)

@@ -49,7 +49,8 @@ read_wide shape (op.Need t k f least) value stands wide = wide
 read_wide shape (op.Guard t k) value stands wide = wide
 read_wide shape (op.Scan t low high) value stands wide = absurd (false≢true (sym stands.1))
 
-claims_take : (shape : Shape) (op : Op) (b : Bool) → b ≡ true → (if b then 2 * capacity_of shape (key_of op).table else 0) ≡ 2 * capacity_of shape (key_of op).table
+claims_take : (shape : Shape) (op : Op) (b : Bool) → b ≡ true
+    → (if b then 2 * capacity_of shape (key_of op).table else 0) ≡ 2 * capacity_of shape (key_of op).table
 claims_take shape op true e = refl
 claims_take shape op false e = absurd (false≢true e)
 
@@ -60,12 +61,14 @@ figure_of w w' r r' cells workers n e f g = rw (← e, ← f) (omega arith)
 
 module _ (shape : Shape) (limits : FitsLimits shape) where
   -- a whole read at a position of a table
-  pub read_figure : (table position : ℕ) → IsTableOf shape table → position < capacity_of shape table → read_left (sight_of shape table position) read_begin + 1 ≡ read_most shape table
+  pub read_figure : (table position : ℕ) → IsTableOf shape table → position < capacity_of shape table
+      → read_left (sight_of shape table position) read_begin + 1 ≡ read_most shape table
   read_figure table position is l =
       let w = width_is shape limits table position is l in
       let r = ring_is shape limits table position is l in
       let b = read_begins (sight_of shape table position) (sight_fits shape limits table position is l) in
-      figure_of (sight_of shape table position).place.width (width_of shape table) (sight_of shape table position).place.ring (ring_of shape table) shape.cells shape.workers
+      figure_of (sight_of shape table position).place.width (width_of shape table) (sight_of shape table position).place.ring
+      (ring_of shape table) shape.cells shape.workers
       (read_left (sight_of shape table position) read_begin) w r b
 
   module _ (state : TxnState) (fits : StateFits shape state) (op : Op) (stands : OpStands shape op) where
@@ -78,7 +81,8 @@ module _ (shape : Shape) (limits : FitsLimits shape) where
     least : 1 ≤ capacity_of shape table
     least = has_capacity shape limits table is_table
 
-    valued_falls : (n : ℕ) (value : Option (List ℕ)) → HasWidth (width_of shape table) value → claim_most shape op < n → TxnFalls shape n (valued shape state op value)
+    valued_falls : (n : ℕ) (value : Option (List ℕ)) → HasWidth (width_of shape table) value → claim_most shape op < n
+        → TxnFalls shape n (valued shape state op value)
     valued_falls n value wide l =
         let state' = record state { read = read_of op value } in
         either (TxnFalls shape n) (not (passes op (holding value))) (answered state' Declined)
@@ -120,7 +124,8 @@ module _ (shape : Shape) (limits : FitsLimits shape) where
       on_find_falls state fits op p.0 _ _ (find_falls shape (key_of op).table (key_of op).key passed found p.1)
   txn_falls state (Reading op position at) found fits p =
       on_read_falls state fits op p.0 position _ _ p.1
-      (read_falls (sight_of shape (key_of op).table position) (sight_fits shape limits (key_of op).table position (is_table state fits op p.0) p.1) state.seen at found p.2)
+      (read_falls (sight_of shape (key_of op).table position)
+      (sight_fits shape limits (key_of op).table position (is_table state fits op p.0) p.1) state.seen at found p.2)
   txn_falls state (Claiming op at) found fits p =
       on_claim_falls state fits op p.0 _ _ p.2 (claim_key_falls shape (key_of op).table (key_of op).key at found p.1)
   txn_falls state (Committing at) found fits p = commit_falls shape limits state fits at found p
@@ -146,23 +151,28 @@ module _ (shape : Shape) (limits : FitsLimits shape) where
   op_claims_at state (op.Guard t k) fits stands e = absurd (false≢true (sym e))
   op_claims_at state (op.Scan t low high) fits stands e = absurd (false≢true (sym stands.1))
 
-  own_begins : (n : ℕ) (state : TxnState) (op : Op) (value : Option (List ℕ)) → StateFits shape state → OpStands shape op → writes_key state.writes (key_of op) ≡ true
+  own_begins : (n : ℕ) (state : TxnState) (op : Op) (value : Option (List ℕ)) → StateFits shape state → OpStands shape op
+      → writes_key state.writes (key_of op) ≡ true
       → HasWidth (width_of shape (key_of op).table) value → TxnBegins shape n (with_own shape state op value)
   own_begins n state op value fits stands e wide =
-      either (TxnBegins shape n) (not (passes op (holding value))) (answered state Declined) (answered (with_op shape state op value) (answer_of op value))
+      either (TxnBegins shape n) (not (passes op (holding value))) (answered state Declined)
+      (answered (with_op shape state op value) (answer_of op value))
       (fits, tt) (
         op_fits shape state.worker state.claims state.writes state.guards fits op value stands
             (own_claimed shape state.worker state.claims state.writes state.guards fits (key_of op) e) wide,
         tt,
       )
 
-  pub op_begins : (state : TxnState) (op : Op) → StateFits shape state → OpStands shape op → TxnBegins shape (op_bound shape op) (ask_op shape state op)
+  pub op_begins : (state : TxnState) (op : Op) → StateFits shape state → OpStands shape op
+      → TxnBegins shape (op_bound shape op) (ask_op shape state op)
   op_begins state op fits stands =
       let own = own_value state.writes (key_of op) in
       let n = op_bound shape op in
       let state' = record state { read = None } in
       let finding = at state' (Finding op find_begin) in
       let claiming = at state' (Claiming op claim_key_begin) in
-      by_test (TxnBegins shape n) (writes_key state.writes (key_of op)) (with_own shape (record state { read = read_of op own }) op own) (if reads op then finding else claiming)
+      by_test (TxnBegins shape n) (writes_key state.writes (key_of op)) (with_own shape (record state { read = read_of op own }) op own)
+      (if reads op then finding else claiming)
       (λ e. own_begins n (record state { read = read_of op own }) op own fits stands e (own_wide shape state.writes (key_of op) fits.wide))
-      (λ e. by_test (TxnBegins shape n) (reads op) finding claiming (λ f. op_begins_at state' op fits stands f) (λ f. op_claims_at state op fits stands f))
+      (λ e. by_test (TxnBegins shape n) (reads op) finding claiming (λ f. op_begins_at state' op fits stands f)
+      (λ f. op_claims_at state op fits stands f))

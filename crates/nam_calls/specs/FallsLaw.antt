@@ -72,7 +72,8 @@ InstallLaw = (place : Place) → FitsPlace place → (at : InstallPlace) → Ins
     → Falls (InstallFits place) Any (install_left place) (install_left place at) (install_after place at)
 
 abbrev pub SlotLaw : Type 0
-SlotLaw = (place : Place) → FitsPlace place → (at : SlotPlace) (found : ℕ) → Falls Any (SlotEnds place) slot_left (slot_left at) (slot_after place at found)
+SlotLaw =
+    (place : Place) → FitsPlace place → (at : SlotPlace) (found : ℕ) → Falls Any (SlotEnds place) slot_left (slot_left at) (slot_after place at found)
 
 abbrev pub CopyLaw : Type 0
 CopyLaw = (place : Place) → FitsPlace place → (at : CopyPlace) → CopyFits place at
@@ -91,7 +92,9 @@ ClaimLaw = (cells : Cells) (at : ClaimPlace) (found : ℕ) → ClaimFits cells a
     → Falls (ClaimFits cells) (ClaimEnds cells) (claim_left cells) (claim_left cells at) (claim_after cells at found)
 
 abbrev pub FillLaw : Type 0
-FillLaw = (width : ℕ) → 1 ≤ width → (at : FillPlace) → FillFits width at → Falls (FillFits width) Any (fill_left width) (fill_left width at) (fill_after width at)
+FillLaw =
+    (width : ℕ) → 1 ≤ width → (at : FillPlace) → FillFits width at → Falls (FillFits width) Any (fill_left width) (fill_left width at)
+    (fill_after width at)
 
 abbrev pub MoveLaw : Type 0
 MoveLaw = (place : Place) (cells : Cells) → FitsPlace place → FitsCells cells → (at : MovePlace) (found : ℕ) → MoveFits place cells at
@@ -99,7 +102,8 @@ MoveLaw = (place : Place) (cells : Cells) → FitsPlace place → FitsCells cell
 
 abbrev pub CollectLaw : Type 0
 CollectLaw = (cells : Cells) (workers : ℕ) → FitsCells cells → (seen : List ℕ) (at : CollectPlace) (found : ℕ) → CollectFits cells workers at
-    → Falls (CollectFits cells workers) (CollectEnds workers) (collect_left cells workers) (collect_left cells workers at) (collect_after cells workers seen at found)
+    → Falls (CollectFits cells workers) (CollectEnds workers) (collect_left cells workers) (collect_left cells workers at)
+    (collect_after cells workers seen at found)
 
 abbrev pub OldLaw : Type 0
 OldLaw = (workers : ℕ) (seen : List ℕ) (worker found : ℕ) → IsOf workers worker
@@ -108,7 +112,8 @@ OldLaw = (workers : ℕ) (seen : List ℕ) (worker found : ℕ) → IsOf workers
 -- what follows the locks takes at least one verb for each record
 abbrev pub LockLaw : Type 0
 LockLaw = (places : List Place) (rest : ℕ) → length places ≤ rest → (seen : List ℕ) (at : LockPlace) (found : ℕ) → LockFits (length places) at
-    → FallsTo (LockFits (length places)) (LockEnds (length places)) (lock_left places rest) (after_locks rest) (lock_left places rest at) (lock_after places seen at found)
+    → FallsTo (LockFits (length places)) (LockEnds (length places)) (lock_left places rest) (after_locks rest) (lock_left places rest at)
+    (lock_after places seen at found)
 
 abbrev pub UnlockLaw : Type 0
 UnlockLaw = (places : List Place) (given : ℕ) → given < length places
@@ -128,7 +133,8 @@ ReadBeginsLaw = (shape : Shape) → FitsLimits shape → (table position : ℕ) 
 -- 3. A transaction, its commit included
 
 abbrev pub TxnLaw : Type 0
-TxnLaw = (shape : Shape) → FitsLimits shape → (state : TxnState) (place : TxnPlace) (found : ℕ) → StateFits shape state → TxnPlaceFits shape state place
+TxnLaw =
+    (shape : Shape) → FitsLimits shape → (state : TxnState) (place : TxnPlace) (found : ℕ) → StateFits shape state → TxnPlaceFits shape state place
     → TxnFalls shape (txn_left shape state place) (txn_after shape state place found)
 
 abbrev pub TxnBeginsLaw : Type 0

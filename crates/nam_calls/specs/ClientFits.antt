@@ -38,8 +38,8 @@ module _ (shape : Shape) where
   CallPlaceFits opened (Scanning table low high at) = IsSome opened × IsTableOf shape table × ScanFits shape table at
   CallPlaceFits opened (Seeking table key passed) = IsTableOf shape table × FindFits (capacity_of shape table) passed
   CallPlaceFits opened (Moving table key position at) =
-      IsTableOf shape table × (position < capacity_of shape table) × MoveFits (place_of shape table position)
-      (cells_by shape (place_of shape table position)) at
+      IsTableOf shape table × (position < capacity_of shape table)
+      × MoveFits (place_of shape table position) (cells_by shape (place_of shape table position)) at
   CallPlaceFits opened (Snapping bucket at) = (bucket < shape.buckets) × SnapFits shape.workers at
   CallPlaceFits opened (Collecting bucket prefix seen at) =
       (bucket < shape.buckets) × (length seen ≡ shape.workers) × CollectFits (cells_of shape bucket) shape.workers at

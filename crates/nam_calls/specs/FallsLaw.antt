@@ -36,11 +36,10 @@ use Rattle.nam_calls.specs.Overflow.{cell_after, cell_left, claim_after, claim_l
 use Rattle.nam_calls.specs.Mover.{move_after, move_left}
 use Rattle.nam_calls.specs.Horizon.{collect_after, collect_left, old_after, old_left}
 use Rattle.nam_calls.specs.Lock.{lock_after, lock_left, unlock_after, unlock_left}
-use Rattle.nam_calls.specs.Reading.{sight_of, read_begin, read_after, read_left}
+use Rattle.nam_calls.specs.Reading.{sight_of, read_begin, read_after, read_left, read_most}
 use Rattle.nam_calls.specs.TxnCalls.{txn_ask, txn_after}
 use Rattle.nam_calls.specs.Scan.{scan_begin, scan_skip, scan_read, scan_after, scan_left, position_of, positions_left}
 use Rattle.nam_calls.specs.Client.{client_ask, client_after}
-use Rattle.nam_calls.specs.Reading.{read_most}
 use Rattle.nam_calls.specs.Bound.{txn_left, scan_bound}
 use Rattle.nam_calls.specs.Fits.{FallsTo, Falls, Any, IsOf, FindFits, FindEnds, ClaimKeyFits, ClaimKeyEnds, CurrentFits, CurrentEnds, WordsFit, WordsEnd, InstallFits, SlotEnds, CopyFits, RingFits, SearchEnds, CellFits, ClaimFits, ClaimEnds, FillFits, MoveFits, CollectFits, CollectEnds, OldEnds, SightFits, ReadFits, ReadEnds, LockFits, LockEnds, after_locks}
 use Rattle.nam_calls.specs.TxnFits.{IsTableOf, StateFits, TxnPlaceFits, TxnFalls, TxnBegins, TxnCallFits, txn_call_bound, ScanFits, ScanEnds, after_scan}

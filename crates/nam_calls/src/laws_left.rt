@@ -1,6 +1,8 @@
 //! Verbs to come: fewer with each word taken, and how many there are at the begin.
 
-ghost use Rattle.nam_calls.specs.FallsLaw.{FindLaw, ClaimKeyLaw, CurrentLaw, WordsLaw, InstallLaw, SlotLaw, CopyLaw, RingLaw, CellLaw, ClaimLaw, FillLaw, MoveLaw, CollectLaw, OldLaw, LockLaw, UnlockLaw, ReadLaw, ReadBeginsLaw, TxnLaw, TxnBeginsLaw, ScanLaw, ClientLaw, ClientBeginsLaw};
+ghost use Rattle.nam_calls.specs.FallsLaw.{FindLaw, ClaimKeyLaw, CurrentLaw, WordsLaw, InstallLaw, SlotLaw, CopyLaw, RingLaw};
+ghost use Rattle.nam_calls.specs.FallsLaw.{CellLaw, ClaimLaw, FillLaw, MoveLaw, CollectLaw, OldLaw, LockLaw, UnlockLaw};
+ghost use Rattle.nam_calls.specs.FallsLaw.{ReadLaw, ReadBeginsLaw, TxnLaw, TxnBeginsLaw, ScanLaw, ClientLaw, ClientBeginsLaw};
 
 /// The machines of a key and of a position: at each place that fits, each word leads to a place that fits with fewer
 /// verbs to come, or to an end that fits, as a value of the position's width.

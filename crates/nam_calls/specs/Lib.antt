@@ -28,6 +28,8 @@ pub mod Bound
 pub mod Left
 pub mod Fits
 pub mod TxnFits
+pub mod ClientFits
+pub mod FallsLaw
 pub mod Grows
 pub mod Program
 pub mod ProgramRead

@@ -10,6 +10,7 @@ mod client;
 mod horizon;
 mod index;
 mod laws_growth;
+mod laws_left;
 mod lock;
 mod mover;
 mod overflow;
@@ -26,6 +27,9 @@ pub use index::{ClaimKeyEnd, ClaimKeyPlace, FindEnd};
 pub use laws_growth::{
     claim_program_law, collect_program_law, commit_program_law, logs_grow_law, move_program_law,
     read_program_law, session_logs_grow_law,
+};
+pub use laws_left::{
+    cells_fall, client_falls, locks_fall, position_falls, read_falls, scan_falls, txn_falls,
 };
 pub use lock::{LockEnd, LockPlace};
 pub use mover::{MoveAnswer, MovePlace};

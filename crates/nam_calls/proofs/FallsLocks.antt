@@ -1,0 +1,63 @@
+-- The verbs to come fall in the machines of locks.
+use Rattle.std.proofs.Common.{◌≡◌, ℕ, ◌+◌, ◌-◌, ◌<◌, ◌≤◌, List, [], ◌∷◌, ◌++◌, length, length-append, arith}
+use Rattle.std.specs.Prelude.{◌==◌, if◌then◌else◌}
+use Rattle.std.proofs.lemmas.Bool.Decides.{nat_tests}
+use Rattle.nam_verbs.specs.declared.now.Now.{Now}
+use Rattle.nam_verbs.specs.declared.now.Now.TheVariants.{At, Over}
+use Rattle.nam_catalog.specs.declared.form.Form.{Form}
+use Rattle.nam_layout.specs.declared.field.Place.{Place}
+use Rattle.nam_calls.specs.declared.lock.LockPlace.{LockPlace}
+use Rattle.nam_calls.specs.declared.lock.LockPlace.TheVariants.{Peek, Seize, GiveBack}
+use Rattle.nam_calls.specs.declared.lock.LockEnd.{LockEnd}
+use Rattle.nam_calls.specs.declared.lock.LockEnd.TheVariants.{Held, Locked, Newer}
+use Rattle.nam_calls.specs.Stamps.{sees, is_locked}
+use Rattle.nam_calls.specs.Lock.{nth_place, loss_of, give_back, lock_next, lock_after, lock_left, unlock_after, unlock_left}
+use Rattle.nam_calls.specs.Fits.{FallsTo, Falls, Any, LockFits, LockEnds, after_locks}
+use Rattle.nam_calls.proofs.FallsTests.{either, by_test, or_last}
+
+module _ (places : List Place) (rest : ℕ) (enough : length places ≤ rest) where
+  abbrev pub LockFalls : ℕ → Now LockPlace LockEnd → Type 0
+  LockFalls = FallsTo (LockFits (length places)) (LockEnds (length places)) (lock_left places rest) (after_locks rest)
+
+  loss_falls : (form : Form) (nth found n : ℕ) → nth < length places → 0 < n → LockFalls n (Over (loss_of form nth found))
+  loss_falls form nth found n l m =
+      either (λ end. LockEnds (length places) end × (after_locks rest end < n)) (is_locked form found) (Locked nth found) (Newer nth found) (l, m)
+      (l, m)
+
+  give_back_falls : (held : List ℕ) (given found n : ℕ) → length held < length places → given ≤ length held → length held - given < n
+      → LockFalls n (give_back places held given found)
+  give_back_falls held given found n l m r =
+      by_test (LockFalls n) (given == length held) (Over (loss_of (nth_place places (length held)).form (length held) found))
+      (At (GiveBack held given found))
+      (λ e. loss_falls (nth_place places (length held)).form (length held) found n l (omega arith))
+      (λ e. let f : given < length held = grind (arith, nat_tests) in ((l, f), r))
+
+  pub lock_falls : (seen : List ℕ) (at : LockPlace) (found : ℕ) → LockFits (length places) at
+      → LockFalls (lock_left places rest at) (lock_after places seen at found)
+  lock_falls seen (Peek held) found l =
+      let n = lock_left places rest (Peek held) in
+      let form = (nth_place places (length held)).form in
+      let back = give_back_falls held 0 found n l (omega arith) (omega arith) in
+      either (LockFalls n) (is_locked form found) (give_back places held 0 found)
+      (if sees form seen found then At (Seize held found) else give_back places held 0 found)
+      back (either (LockFalls n) (sees form seen found) (At (Seize held found)) (give_back places held 0 found) (l, omega arith) back)
+  lock_falls seen (Seize held header) found l =
+      let n = lock_left places rest (Seize held header) in
+      let all = held ++ header ∷ [] in
+      let long : length all ≡ length held + 1 = length-append held (header ∷ []) in
+      either (LockFalls n) (found == header) (lock_next places all) (give_back places held 0 found)
+      (by_test (LockFalls n) (length all == length places) (Over (Held all)) (At (Peek all))
+      (λ e. let f : length all ≡ length places = grind (arith, nat_tests) in (f, omega arith))
+      (λ e. let f : length all < length places = grind (arith, nat_tests) in (f, omega arith)))
+      (give_back_falls held 0 found n l (omega arith) (omega arith))
+  lock_falls seen (GiveBack held given found) word l =
+      give_back_falls held (given + 1) found _ l.0 (let m = l.1 in omega arith) (let m = l.1 in omega arith)
+
+module _ (places : List Place) where
+  abbrev pub UnlockFalls : ℕ → Now ℕ (Unit {0}) → Type 0
+  UnlockFalls = Falls (λ given. given < length places) Any (unlock_left places)
+
+  pub unlock_falls : (given : ℕ) → given < length places → UnlockFalls (unlock_left places given) (unlock_after places given)
+  unlock_falls given l =
+      or_last (UnlockFalls (unlock_left places given)) (length places) given (Over tt) (At (given + 1)) l (λ e. (tt, omega arith))
+      (λ e. (e, omega arith))

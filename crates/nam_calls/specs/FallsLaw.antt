@@ -1,0 +1,169 @@
+-- The number of verbs to come falls with each word taken, and what it is at the begin.
+use Rattle.std.specs.Prelude.{◌≡◌, ℕ, ◌+◌, ◌-◌, ◌<◌, ◌≤◌, false, List, length, Some}
+use Rattle.nam_verbs.specs.declared.now.Now.TheVariants.{At}
+use Rattle.nam_catalog.specs.declared.shape.Shape.{Shape}
+use Rattle.nam_catalog.specs.Fits.{FitsLimits}
+use Rattle.nam_layout.specs.declared.field.Place.{Place}
+use Rattle.nam_layout.specs.declared.field.Cells.{Cells}
+use Rattle.nam_layout.specs.PlaceFits.{FitsPlace, FitsCells}
+use Rattle.nam_calls.specs.declared.index.ClaimKeyPlace.{ClaimKeyPlace}
+use Rattle.nam_calls.specs.declared.record.CurrentPlace.{CurrentPlace}
+use Rattle.nam_calls.specs.declared.record.InstallPlace.{InstallPlace}
+use Rattle.nam_calls.specs.declared.ring.SlotPlace.{SlotPlace}
+use Rattle.nam_calls.specs.declared.ring.CopyPlace.{CopyPlace}
+use Rattle.nam_calls.specs.declared.ring.RingPlace.{RingPlace}
+use Rattle.nam_calls.specs.declared.overflow.CellPlace.{CellPlace}
+use Rattle.nam_calls.specs.declared.overflow.ClaimPlace.{ClaimPlace}
+use Rattle.nam_calls.specs.declared.overflow.FillPlace.{FillPlace}
+use Rattle.nam_calls.specs.declared.mover.MovePlace.{MovePlace}
+use Rattle.nam_calls.specs.declared.horizon.CollectPlace.{CollectPlace}
+use Rattle.nam_calls.specs.declared.lock.LockPlace.{LockPlace}
+use Rattle.nam_calls.specs.declared.reading.Sight.{Sight}
+use Rattle.nam_calls.specs.declared.reading.ReadPlace.{ReadPlace}
+use Rattle.nam_calls.specs.declared.txn.TxnState.{TxnState}
+use Rattle.nam_calls.specs.declared.txn.TxnCall.{TxnCall}
+use Rattle.nam_calls.specs.declared.txn.TxnPlace.{TxnPlace}
+use Rattle.nam_calls.specs.declared.scan.ScanPlace.{ScanPlace}
+use Rattle.nam_calls.specs.declared.scan.ScanPlace.TheVariants.{ScanRead}
+use Rattle.nam_calls.specs.declared.client.Call.{Call}
+use Rattle.nam_calls.specs.declared.client.CallPlace.{CallPlace}
+use Rattle.nam_calls.specs.declared.client.ClientState.{ClientState}
+use Rattle.nam_calls.specs.Words.{capacity_of}
+use Rattle.nam_calls.specs.Index.{find_after, find_left, claim_key_after, claim_key_left}
+use Rattle.nam_calls.specs.Record.{current_after, current_left, words_after, words_left, install_after, install_left}
+use Rattle.nam_calls.specs.Ring.{slot_after, slot_left, copy_after, copy_left, ring_after, ring_left}
+use Rattle.nam_calls.specs.Overflow.{cell_after, cell_left, claim_after, claim_left, fill_after, fill_left}
+use Rattle.nam_calls.specs.Mover.{move_after, move_left}
+use Rattle.nam_calls.specs.Horizon.{collect_after, collect_left, old_after, old_left}
+use Rattle.nam_calls.specs.Lock.{lock_after, lock_left, unlock_after, unlock_left}
+use Rattle.nam_calls.specs.Reading.{sight_of, read_begin, read_after, read_left, read_most}
+use Rattle.nam_calls.specs.TxnCalls.{txn_ask, txn_after}
+use Rattle.nam_calls.specs.Scan.{scan_begin, scan_skip, scan_read, scan_after, scan_left, position_of, positions_left}
+use Rattle.nam_calls.specs.Client.{client_ask, client_after}
+use Rattle.nam_calls.specs.Bound.{txn_left, scan_bound}
+use Rattle.nam_calls.specs.Fits.{FallsTo, Falls, Any, IsOf, FindFits, FindEnds, ClaimKeyFits, ClaimKeyEnds, CurrentFits, CurrentEnds, WordsFit, WordsEnd, InstallFits, SlotEnds, CopyFits, RingFits, SearchEnds, CellFits, ClaimFits, ClaimEnds, FillFits, MoveFits, CollectFits, CollectEnds, OldEnds, SightFits, ReadFits, ReadEnds, LockFits, LockEnds, after_locks}
+use Rattle.nam_calls.specs.TxnFits.{IsTableOf, StateFits, TxnPlaceFits, TxnFalls, TxnBegins, TxnCallFits, txn_call_bound, ScanFits, ScanEnds, after_scan}
+use Rattle.nam_calls.specs.Left.{client_left}
+use Rattle.nam_calls.specs.ClientFits.{ClientFits, CallFits, call_bound}
+
+-- 1. Machines
+
+abbrev pub FindLaw : Type 0
+FindLaw = (shape : Shape) (table key passed found : ℕ) → FindFits (capacity_of shape table) passed
+    → Falls (FindFits (capacity_of shape table)) (FindEnds (capacity_of shape table)) (find_left shape table) (find_left shape table passed)
+    (find_after shape table key passed found)
+
+abbrev pub ClaimKeyLaw : Type 0
+ClaimKeyLaw = (shape : Shape) (table key : ℕ) (at : ClaimKeyPlace) (found : ℕ) → ClaimKeyFits (capacity_of shape table) at
+    → Falls (ClaimKeyFits (capacity_of shape table)) (ClaimKeyEnds (capacity_of shape table)) (claim_key_left shape table)
+    (claim_key_left shape table at) (claim_key_after shape table key at found)
+
+abbrev pub CurrentLaw : Type 0
+CurrentLaw = (place : Place) → FitsPlace place → (seen : List ℕ) (at : CurrentPlace) (found : ℕ) → CurrentFits place at
+    → Falls (CurrentFits place) (CurrentEnds place) (current_left place) (current_left place at) (current_after place seen at found)
+
+abbrev pub WordsLaw : Type 0
+WordsLaw = (place : Place) → FitsPlace place → (got : List ℕ) (found : ℕ) → WordsFit place got
+    → Falls (WordsFit place) (WordsEnd place) (words_left place) (words_left place got) (words_after place got found)
+
+abbrev pub InstallLaw : Type 0
+InstallLaw = (place : Place) → FitsPlace place → (at : InstallPlace) → InstallFits place at
+    → Falls (InstallFits place) Any (install_left place) (install_left place at) (install_after place at)
+
+abbrev pub SlotLaw : Type 0
+SlotLaw =
+    (place : Place) → FitsPlace place → (at : SlotPlace) (found : ℕ) → Falls Any (SlotEnds place) slot_left (slot_left at) (slot_after place at found)
+
+abbrev pub CopyLaw : Type 0
+CopyLaw = (place : Place) → FitsPlace place → (at : CopyPlace) → CopyFits place at
+    → Falls (CopyFits place) Any (copy_left place) (copy_left place at) (copy_after place at)
+
+abbrev pub RingLaw : Type 0
+RingLaw = (place : Place) → FitsPlace place → (seen : List ℕ) (at : RingPlace) (found : ℕ) → RingFits place at
+    → Falls (RingFits place) (SearchEnds place) (ring_left place) (ring_left place at) (ring_after place seen at found)
+
+abbrev pub CellLaw : Type 0
+CellLaw = (cells : Cells) (place : Place) → FitsPlace place → (seen : List ℕ) (at : CellPlace) (found : ℕ) → CellFits cells place at
+    → Falls (CellFits cells place) (SearchEnds place) (cell_left cells place) (cell_left cells place at) (cell_after cells place seen at found)
+
+abbrev pub ClaimLaw : Type 0
+ClaimLaw = (cells : Cells) (at : ClaimPlace) (found : ℕ) → ClaimFits cells at
+    → Falls (ClaimFits cells) (ClaimEnds cells) (claim_left cells) (claim_left cells at) (claim_after cells at found)
+
+abbrev pub FillLaw : Type 0
+FillLaw =
+    (width : ℕ) → 1 ≤ width → (at : FillPlace) → FillFits width at → Falls (FillFits width) Any (fill_left width) (fill_left width at)
+    (fill_after width at)
+
+abbrev pub MoveLaw : Type 0
+MoveLaw = (place : Place) (cells : Cells) → FitsPlace place → FitsCells cells → (at : MovePlace) (found : ℕ) → MoveFits place cells at
+    → Falls (MoveFits place cells) Any (move_left place cells) (move_left place cells at) (move_after place cells at found)
+
+abbrev pub CollectLaw : Type 0
+CollectLaw = (cells : Cells) (workers : ℕ) → FitsCells cells → (seen : List ℕ) (at : CollectPlace) (found : ℕ) → CollectFits cells workers at
+    → Falls (CollectFits cells workers) (CollectEnds workers) (collect_left cells workers) (collect_left cells workers at)
+    (collect_after cells workers seen at found)
+
+abbrev pub OldLaw : Type 0
+OldLaw = (workers : ℕ) (seen : List ℕ) (worker found : ℕ) → IsOf workers worker
+    → Falls (IsOf workers) (OldEnds workers) (old_left workers) (old_left workers worker) (old_after workers seen worker found)
+
+-- what follows the locks takes at least one verb for each record
+abbrev pub LockLaw : Type 0
+LockLaw = (places : List Place) (rest : ℕ) → length places ≤ rest → (seen : List ℕ) (at : LockPlace) (found : ℕ) → LockFits (length places) at
+    → FallsTo (LockFits (length places)) (LockEnds (length places)) (lock_left places rest) (after_locks rest) (lock_left places rest at)
+    (lock_after places seen at found)
+
+abbrev pub UnlockLaw : Type 0
+UnlockLaw = (places : List Place) (given : ℕ) → given < length places
+    → Falls (λ given. given < length places) Any (unlock_left places) (unlock_left places given) (unlock_after places given)
+
+-- 2. A whole read
+
+abbrev pub ReadLaw : Type 0
+ReadLaw = (sight : Sight) → SightFits sight → (seen : List ℕ) (at : ReadPlace) (found : ℕ) → ReadFits sight at
+    → Falls (ReadFits sight) (ReadEnds sight) (read_left sight) (read_left sight at) (read_after sight seen at found)
+
+-- one less than the figure of its table
+abbrev pub ReadBeginsLaw : Type 0
+ReadBeginsLaw = (shape : Shape) → FitsLimits shape → (table position : ℕ) → IsTableOf shape table → position < capacity_of shape table
+    → SightFits (sight_of shape table position) × (read_left (sight_of shape table position) read_begin + 1 ≡ read_most shape table)
+
+-- 3. A transaction, its commit included
+
+abbrev pub TxnLaw : Type 0
+TxnLaw =
+    (shape : Shape) → FitsLimits shape → (state : TxnState) (place : TxnPlace) (found : ℕ) → StateFits shape state → TxnPlaceFits shape state place
+    → TxnFalls shape (txn_left shape state place) (txn_after shape state place found)
+
+abbrev pub TxnBeginsLaw : Type 0
+TxnBeginsLaw = (shape : Shape) → FitsLimits shape → (state : TxnState) (call : TxnCall) → StateFits shape state → TxnCallFits shape call
+    → TxnBegins shape (txn_call_bound shape state call) (txn_ask shape state call)
+
+-- 4. A scan: it begins, takes a word, and goes on by its caller's choice after a key or a row
+
+pub record ScanFacts (shape : Shape) (table : ℕ) : Type 0 where
+  pub begins : ScanFits shape table scan_begin × (scan_left shape table scan_begin ≤ scan_bound shape table)
+  pub falls : (low high : ℕ) (seen : List ℕ) (at : ScanPlace) (found : ℕ) → ScanFits shape table at
+      → FallsTo (ScanFits shape table) (ScanEnds shape table) (scan_left shape table) (after_scan shape table (position_of at))
+      (scan_left shape table at) (scan_after shape table low high seen at found)
+  pub skips : (position n : ℕ) → position < capacity_of shape table → positions_left shape table (capacity_of shape table - position - 1) < n
+      → FallsTo (ScanFits shape table) (ScanEnds shape table) (scan_left shape table) (after_scan shape table position) n
+      (scan_skip shape table position)
+  pub reads : (position key n : ℕ) → position < capacity_of shape table → scan_left shape table (ScanRead position key read_begin) < n
+      → FallsTo (ScanFits shape table) (ScanEnds shape table) (scan_left shape table) (after_scan shape table position) n
+      (scan_read position key)
+
+abbrev pub ScanLaw : Type 0
+ScanLaw = (shape : Shape) → FitsLimits shape → (table : ℕ) → IsTableOf shape table → ScanFacts shape table
+
+-- 5. A client, which takes a word only where it isn't cut off
+
+abbrev pub ClientLaw : Type 0
+ClientLaw = (shape : Shape) → FitsLimits shape → (client : ClientState) (place : CallPlace) (found : ℕ) → ClientFits shape client
+    → client.cut ≡ false → client.call ≡ Some (At place)
+    → ClientFits shape (client_after shape client found) × (client_left shape (client_after shape client found) < client_left shape client)
+
+abbrev pub ClientBeginsLaw : Type 0
+ClientBeginsLaw = (shape : Shape) → FitsLimits shape → (client : ClientState) (call : Call) → ClientFits shape client → CallFits shape client.txn call
+    → ClientFits shape (client_ask shape client call) × (client_left shape (client_ask shape client call) ≤ call_bound shape client call)

@@ -1,0 +1,62 @@
+//! Verbs to come: fewer with each word taken, and how many there are at the begin.
+
+ghost use Rattle.nam_calls.specs.FallsLaw.{FindLaw, ClaimKeyLaw, CurrentLaw, WordsLaw, InstallLaw, SlotLaw, CopyLaw, RingLaw};
+ghost use Rattle.nam_calls.specs.FallsLaw.{CellLaw, ClaimLaw, FillLaw, MoveLaw, CollectLaw, OldLaw, LockLaw, UnlockLaw};
+ghost use Rattle.nam_calls.specs.FallsLaw.{ReadLaw, ReadBeginsLaw, TxnLaw, TxnBeginsLaw, ScanLaw, ClientLaw, ClientBeginsLaw};
+
+/// The machines of a key and of a position: at each place that fits, each word leads to a place that fits with fewer
+/// verbs to come, or to an end that fits, as a value of the position's width.
+pub fn position_falls()
+    ensures find { FindLaw }
+    ensures claim_key { ClaimKeyLaw }
+    ensures current { CurrentLaw }
+    ensures words { WordsLaw }
+    ensures install { InstallLaw }
+    ensures slot { SlotLaw }
+    ensures copy { CopyLaw }
+    ensures ring { RingLaw }
+{}
+
+/// The same for the machines of a bucket's cells and of the horizon, and for a whole move and a whole collection.
+pub fn cells_fall()
+    ensures search { CellLaw }
+    ensures claim { ClaimLaw }
+    ensures fill { FillLaw }
+    ensures moves { MoveLaw }
+    ensures collect { CollectLaw }
+    ensures old { OldLaw }
+{}
+
+/// The same for locking records in order, where what follows the last lock takes no more than `rest`, and for writing
+/// headers back.
+pub fn locks_fall()
+    ensures lock { LockLaw }
+    ensures unlock { UnlockLaw }
+{}
+
+/// The same for a whole read. It begins with one verb less than the greatest number for its table.
+pub fn read_falls()
+    ensures falls { ReadLaw }
+    ensures begins { ReadBeginsLaw }
+{}
+
+/// The same for each call of a transaction, its commit included: what the transaction has at hand fits after each word,
+/// and a call begins with no more verbs than its bound. The bounds of the snapshot, of the operations and of the commit
+/// add up to that of a whole attempt.
+pub fn txn_falls()
+    ensures falls { TxnLaw }
+    ensures begins { TxnBeginsLaw }
+{}
+
+/// The same for a scan, which begins with no more verbs than its table's bound, and goes on after each key and each row
+/// as its caller says.
+pub fn scan_falls()
+    ensures { ScanLaw }
+{}
+
+/// The same for each call of a client that isn't cut off: a word leaves fewer verbs to come, and a call begins with no
+/// more than its bound.
+pub fn client_falls()
+    ensures falls { ClientLaw }
+    ensures begins { ClientBeginsLaw }
+{}

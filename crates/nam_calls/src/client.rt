@@ -10,7 +10,7 @@ use nam_verbs::Now;
 use si_model::{Log, Snapshot, Value};
 
 /// A call of a client.
-#[derive(Drop)]
+#[derive(Debug, Drop, PartialEq, Eq)]
 pub enum Call {
     /// Begins try `nth` of a transaction.
     Begin { txn: u32, nth: u32 },
@@ -25,7 +25,7 @@ pub enum Call {
 }
 
 /// The answer to a client's call.
-#[derive(Drop)]
+#[derive(Debug, Drop, PartialEq, Eq)]
 pub enum Answer {
     /// The transaction is open, on the state after so many commits.
     Begun {
@@ -58,7 +58,7 @@ pub enum Answer {
 }
 
 /// Where a client's call stands.
-#[derive(Drop)]
+#[derive(Debug, Drop)]
 pub enum CallPlace {
     /// Take a transaction's snapshot.
     Beginning {
@@ -105,7 +105,7 @@ pub enum CallPlace {
 }
 
 /// The open transaction, as its client knows it.
-#[derive(Drop)]
+#[derive(Debug, Drop)]
 pub struct Open {
     pub txn: u32,
     pub nth: u32,
@@ -122,7 +122,7 @@ pub struct Open {
 }
 
 /// A present row that a scan found, and its position.
-#[derive(Drop)]
+#[derive(Debug, Drop)]
 pub struct Scanned {
     pub position: u32,
     pub key: u64,
@@ -130,7 +130,7 @@ pub struct Scanned {
 }
 
 /// A client of a worker whose commit numbers follow `start`, the last of them being `last`.
-#[derive(Drop)]
+#[derive(Debug, Drop)]
 pub struct ClientState {
     pub worker: u32,
     pub start: u64,

@@ -3,7 +3,7 @@
 use si_model::Snapshot;
 
 /// Where the collection of a bucket stands. It knows so many entries of the horizon.
-#[derive(Drop)]
+#[derive(Debug, Drop)]
 pub enum CollectPlace {
     /// Read the horizon entry after those known.
     HorizonLook {
@@ -34,7 +34,7 @@ pub enum CollectPlace {
 }
 
 /// Whether the horizon has passed a snapshot.
-#[derive(Clone, Copy)]
+#[derive(Clone, Copy, Debug, PartialEq, Eq)]
 pub enum OldEnd {
     /// The worker's horizon entry is above the snapshot's entry.
     TooOld {

@@ -1,7 +1,7 @@
 //! Searching the index for a key.
 
 /// How the search for a key's position ended.
-#[derive(Clone, Copy)]
+#[derive(Clone, Copy, Debug, PartialEq, Eq)]
 pub enum FindEnd {
     /// The position bears the key.
     At(u32),
@@ -10,7 +10,7 @@ pub enum FindEnd {
 }
 
 /// Where the claim of a position stands. It has passed so many positions of the key's path.
-#[derive(Clone, Copy)]
+#[derive(Clone, Copy, Debug, PartialEq, Eq)]
 pub enum ClaimKeyPlace {
     /// Read the key word.
     KeyLook { passed: u32 },
@@ -19,7 +19,7 @@ pub enum ClaimKeyPlace {
 }
 
 /// How the claim of a position ended.
-#[derive(Clone, Copy)]
+#[derive(Clone, Copy, Debug, PartialEq, Eq)]
 pub enum ClaimKeyEnd {
     /// The position bears the key.
     At(u32),

@@ -3,7 +3,7 @@
 use lists::ShortList;
 
 /// Where the locking stands. It holds the first records, whose headers were these.
-#[derive(Drop)]
+#[derive(Debug, Drop)]
 pub enum LockPlace {
     /// Read the header of the next record.
     Peek {
@@ -23,7 +23,7 @@ pub enum LockPlace {
 }
 
 /// How the locking ended.
-#[derive(Drop)]
+#[derive(Debug, Drop, PartialEq, Eq)]
 pub enum LockEnd {
     /// All records are locked; their headers were these.
     Held(ShortList<u64, 16>),

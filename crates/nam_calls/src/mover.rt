@@ -4,7 +4,7 @@ use crate::overflow::{ClaimPlace, FillPlace, Version};
 use si_model::{Stamp, Value};
 
 /// Where a move stands.
-#[derive(Drop)]
+#[derive(Debug, Drop)]
 pub enum MovePlace {
     /// Read the number of the record's current version.
     MoveCount,
@@ -70,7 +70,7 @@ pub enum MovePlace {
 }
 
 /// How a move ended.
-#[derive(Clone, Copy)]
+#[derive(Clone, Copy, Debug, PartialEq, Eq)]
 pub enum MoveAnswer {
     /// The version with this stamp stands in a cell.
     Moved { stamp: Stamp },

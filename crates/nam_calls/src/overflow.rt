@@ -3,7 +3,7 @@
 use si_model::Value;
 
 /// Where the search of a bucket's cells stands.
-#[derive(Drop)]
+#[derive(Debug, Drop)]
 pub enum CellPlace {
     /// Read the cell's tag.
     CellTag {
@@ -42,7 +42,7 @@ pub enum CellPlace {
 }
 
 /// Where the claim of a free cell stands.
-#[derive(Clone, Copy)]
+#[derive(Clone, Copy, Debug, PartialEq, Eq)]
 pub enum ClaimPlace {
     /// Read the cell's tag.
     ClaimLook { cell: u32 },
@@ -51,7 +51,7 @@ pub enum ClaimPlace {
 }
 
 /// How the claim of a free cell ended.
-#[derive(Clone, Copy)]
+#[derive(Clone, Copy, Debug, PartialEq, Eq)]
 pub enum ClaimEnd {
     /// The cell is claimed, under this tag.
     Claimed { cell: u32, tag: u64 },
@@ -60,7 +60,7 @@ pub enum ClaimEnd {
 }
 
 /// An old version: its header without the moved flag, the stamp word of its successor, and its words.
-#[derive(Drop)]
+#[derive(Debug, Drop)]
 pub struct Version {
     pub begin: u64,
     pub end: u64,
@@ -68,7 +68,7 @@ pub struct Version {
 }
 
 /// Where the filling of a claimed cell stands.
-#[derive(Clone, Copy)]
+#[derive(Clone, Copy, Debug, PartialEq, Eq)]
 pub enum FillPlace {
     /// Write the row that owns it.
     FillOwner,

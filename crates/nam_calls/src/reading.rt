@@ -7,7 +7,7 @@ use nam_layout::{Cells, Place};
 use si_model::Value;
 
 /// Where a read looks: at the record, at the cells of its bucket, and at the horizon of so many workers.
-#[derive(Clone, Copy)]
+#[derive(Clone, Copy, Debug, PartialEq, Eq)]
 pub struct Sight {
     pub place: Place,
     pub cells: Cells,
@@ -15,7 +15,7 @@ pub struct Sight {
 }
 
 /// Where a read stands.
-#[derive(Drop)]
+#[derive(Debug, Drop)]
 pub enum ReadPlace {
     /// Read the current version.
     ReadCurrent {
@@ -47,7 +47,7 @@ pub enum ReadPlace {
 }
 
 /// How a read ended.
-#[derive(Drop)]
+#[derive(Debug, Drop, PartialEq, Eq)]
 pub enum ReadingEnd {
     /// What the snapshot sees; a deletion has no value.
     Got(Option<Value>),

@@ -3,7 +3,7 @@
 use si_model::Value;
 
 /// Where the reading of a current version stands.
-#[derive(Drop)]
+#[derive(Debug, Drop)]
 pub enum CurrentPlace {
     /// Read the header.
     CurrentHead,
@@ -14,7 +14,7 @@ pub enum CurrentPlace {
 }
 
 /// How the reading of a current version ended.
-#[derive(Drop)]
+#[derive(Debug, Drop, PartialEq, Eq)]
 pub enum CurrentEnd {
     /// The version is visible and whole; a deletion has no value.
     Found(Option<Value>),
@@ -25,7 +25,7 @@ pub enum CurrentEnd {
 }
 
 /// Where an install stands.
-#[derive(Clone, Copy)]
+#[derive(Clone, Copy, Debug, PartialEq, Eq)]
 pub enum InstallPlace {
     /// Write a data word.
     InstallWord { nth: u32 },

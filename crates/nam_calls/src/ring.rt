@@ -3,7 +3,7 @@
 use si_model::Value;
 
 /// Where the look at the slot stands that the next version needs.
-#[derive(Clone, Copy)]
+#[derive(Clone, Copy, Debug, PartialEq, Eq)]
 pub enum SlotPlace {
     /// Read the number of the current version.
     CheckCount,
@@ -12,7 +12,7 @@ pub enum SlotPlace {
 }
 
 /// How the look at the slot ended.
-#[derive(Clone, Copy)]
+#[derive(Clone, Copy, Debug, PartialEq, Eq)]
 pub enum SlotEnd {
     /// Its version was moved: the current version, of this number, may be copied there.
     Free { count: u64 },
@@ -21,7 +21,7 @@ pub enum SlotEnd {
 }
 
 /// Where the copy of the current version into its slot stands.
-#[derive(Clone, Copy)]
+#[derive(Clone, Copy, Debug, PartialEq, Eq)]
 pub enum CopyPlace {
     /// Write the mark in the place of the slot's header.
     CopyMark,
@@ -34,7 +34,7 @@ pub enum CopyPlace {
 }
 
 /// Where the search of a ring stands.
-#[derive(Drop)]
+#[derive(Debug, Drop)]
 pub enum RingPlace {
     /// Read the slot's header.
     SlotHead {
@@ -60,7 +60,7 @@ pub enum RingPlace {
 }
 
 /// How a search of old versions ended.
-#[derive(Drop)]
+#[derive(Debug, Drop, PartialEq, Eq)]
 pub enum SearchEnd {
     /// The version that the snapshot sees; a deletion has no value.
     Found(Option<Value>),

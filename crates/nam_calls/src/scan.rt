@@ -4,7 +4,7 @@ use crate::reading::ReadPlace;
 use si_model::Item;
 
 /// Where a scan stands.
-#[derive(Drop)]
+#[derive(Debug, Drop)]
 pub enum ScanPlace {
     /// Read the position's key word.
     ScanKey {
@@ -19,7 +19,7 @@ pub enum ScanPlace {
 }
 
 /// What a scan found. After a key or a row its caller says how it goes on.
-#[derive(Drop)]
+#[derive(Debug, Drop, PartialEq, Eq)]
 pub enum ScanAnswer {
     /// The position bears a key of the range.
     Key {

@@ -5,14 +5,14 @@ use lists::{List, ShortList};
 use si_model::{Key, Op, Policy};
 
 /// A transaction that a worker is to run.
-#[derive(Drop)]
+#[derive(Debug, Drop)]
 pub struct Job {
     pub txn: u32,
     pub ops: List<Op>,
 }
 
 /// What is to be asked next.
-#[derive(Drop)]
+#[derive(Debug, Drop)]
 pub enum DriverPlace {
     /// The begin of a try.
     ToBegin,
@@ -37,7 +37,7 @@ pub enum DriverPlace {
 }
 
 /// The policy as a value: job number `job`, counted from 0, at its try number `nth`, counted from 1.
-#[derive(Drop)]
+#[derive(Debug, Drop)]
 pub struct DriverState {
     pub policy: Policy,
     pub job: u32,
@@ -46,7 +46,7 @@ pub struct DriverState {
 }
 
 /// A client, its driver and its jobs.
-#[derive(Drop)]
+#[derive(Debug, Drop)]
 pub struct SessionState {
     pub client: ClientState,
     pub driver: DriverState,

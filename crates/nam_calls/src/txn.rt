@@ -10,7 +10,7 @@ use nam_layout::Place;
 use si_model::{Item, Key, Lock, Op, Snapshot, Value};
 
 /// A call of a transaction. Fields are counted from 1.
-#[derive(Drop)]
+#[derive(Debug, Drop, PartialEq, Eq)]
 pub enum TxnCall {
     /// Reads a key.
     Get {
@@ -53,14 +53,14 @@ pub enum TxnCall {
 }
 
 /// A key and the position that bears it.
-#[derive(Clone, Copy)]
+#[derive(Clone, Copy, Debug, PartialEq, Eq)]
 pub struct Record {
     pub key: Key,
     pub place: Place,
 }
 
 /// An open transaction of a worker whose last commit number is `last`, on the snapshot `seen`.
-#[derive(Drop)]
+#[derive(Debug, Drop)]
 pub struct TxnState {
     pub worker: u32,
     pub last: u64,
@@ -82,7 +82,7 @@ pub struct TxnState {
 }
 
 /// Where a commit stands. Records are counted from 0, in the commit's order.
-#[derive(Drop)]
+#[derive(Debug, Drop)]
 pub enum CommitPlace {
     /// Lock the records.
     Locking { at: LockPlace },
@@ -103,7 +103,7 @@ pub enum CommitPlace {
 }
 
 /// Where a transaction's call stands.
-#[derive(Drop)]
+#[derive(Debug, Drop)]
 pub enum TxnPlace {
     /// Search the key's position, having passed so many of its path.
     Finding {
@@ -128,7 +128,7 @@ pub enum TxnPlace {
 }
 
 /// The answer to a transaction's call.
-#[derive(Drop)]
+#[derive(Debug, Drop, PartialEq, Eq)]
 pub enum TxnAnswer {
     /// What a get or a guard found.
     Value(Option<Value>),

@@ -37,14 +37,14 @@ pub name_at_again : (name : List ℕ) (fs : List (List ℕ)) → is_name name �
 unfolding name_at
 name_at_again name fs good = rw good refl
 
--- no byte below 43, which is the plus sign
+-- no byte below 42, which is the star
 abbrev pub IsPlain : List ℕ → Type 0
-IsPlain f = list_all (leb 43) f ≡ true
+IsPlain f = list_all (leb 42) f ≡ true
 
-apart : (b c : ℕ) → c < 43 → leb 43 b ≡ true → eqb b c ≡ false
-apart b c lt h = ne_eqb _ _ (λ e. absurd (omega (arith, leb-true 43 b h)))
+apart : (b c : ℕ) → c < 42 → leb 42 b ≡ true → eqb b c ≡ false
+apart b c lt h = ne_eqb _ _ (λ e. absurd (omega (arith, leb-true 42 b h)))
 
-pub plain_avoids : (c : ℕ) (f : List ℕ) → c < 43 → IsPlain f → AllByRecursion (λ b. eqb b c ≡ false) f
+pub plain_avoids : (c : ℕ) (f : List ℕ) → c < 42 → IsPlain f → AllByRecursion (λ b. eqb b c ≡ false) f
 plain_avoids c [] lt h = tt
 plain_avoids c (b ∷ f) lt h = let p = and_parts _ _ h in (apart b c lt p.0, plain_avoids c f lt p.1)
 
@@ -52,17 +52,17 @@ pub all_weaker : (p q : ℕ → Bool) (f : List ℕ) → ((b : ℕ) → p b ≡ 
 all_weaker p q [] w h = refl
 all_weaker p q (b ∷ f) w h = let r = and_parts _ _ h in and_from _ _ (w b r.0) (all_weaker p q f w r.1)
 
-digit_high : (b : ℕ) → is_ascii_digit b ≡ true → leb 43 b ≡ true
+digit_high : (b : ℕ) → is_ascii_digit b ≡ true → leb 42 b ≡ true
 digit_high b h = grind (arith, nat_tests)
 
-name_high : (b : ℕ) → is_name_byte b ≡ true → leb 43 b ≡ true
+name_high : (b : ℕ) → is_name_byte b ≡ true → leb 42 b ≡ true
 name_high b h = grind (arith, nat_tests)
 
 pub decimal_plain : (n : ℕ) → n < 2 ^ 64 → IsPlain (decimal n)
-decimal_plain n lt = all_weaker is_ascii_digit (leb 43) (decimal n) digit_high (digits_decimal numerals n lt)
+decimal_plain n lt = all_weaker is_ascii_digit (leb 42) (decimal n) digit_high (digits_decimal numerals n lt)
 
 pub name_plain : (name : List ℕ) → is_name name ≡ true → IsPlain name
-name_plain name good = all_weaker is_name_byte (leb 43) name name_high (and_parts _ _ good).1
+name_plain name good = all_weaker is_name_byte (leb 42) name name_high (and_parts _ _ good).1
 
 pub both_avoid : (c : ℕ) (f g : List ℕ) → AllByRecursion (λ b. eqb b c ≡ false) f → AllByRecursion (λ b. eqb b c ≡ false) g → AllByRecursion (λ b. eqb b c ≡ false) (f ++ g)
 both_avoid c [] g p q = q
@@ -76,3 +76,14 @@ no_newline (f ∷ g ∷ fs) h = both_avoid 10 f (32 ∷ join_with_byte 32 (g ∷
 pub split_again : (f : List ℕ) (fs : List (List ℕ)) → IsPlain f → AllByRecursion IsPlain fs → fields_of (join_with_byte 32 (f ∷ fs)) ≡ f ∷ fs
 split_again f [] solid others = slice_split_none (λ b. eqb b 32) f (All-from_recursion _ f (plain_avoids 32 f (lit< tt) solid))
 split_again f (g ∷ fs) solid others = slice_split_at (λ b. eqb b 32) f 32 (join_with_byte 32 (g ∷ fs)) (All-from_recursion _ f (plain_avoids 32 f (lit< tt) solid)) refl ∙ ap (λ (r : List (List ℕ)). f ∷ r) (split_again g fs others.0 others.1)
+
+digit_higher : (b : ℕ) → is_ascii_digit b ≡ true → leb 43 b ≡ true
+digit_higher b h = grind (arith, nat_tests)
+
+above_star : (f : List ℕ) → list_all (leb 43) f ≡ true → AllByRecursion (λ b. eqb b 42 ≡ false) f
+above_star [] h = tt
+above_star (b ∷ f) h = let p = and_parts _ _ h in (ne_eqb _ _ (λ e. absurd (omega (arith, e, leb-true 43 b p.0))), above_star f p.1)
+
+-- no star stands in a number
+pub decimal_starless : (n : ℕ) → n < 2 ^ 64 → AllByRecursion (λ b. eqb b 42 ≡ false) (decimal n)
+decimal_starless n lt = above_star (decimal n) (all_weaker is_ascii_digit (leb 43) (decimal n) digit_higher (digits_decimal numerals n lt))

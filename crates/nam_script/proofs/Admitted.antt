@@ -1,28 +1,23 @@
 -- Each kind of line, admitted.
-use Rattle.std.proofs.Common.{◌≡◌, ℕ, ◌+◌, ◌-◌, ◌^◌, ◌<◌, ◌≤◌, Bool, true, false, ◌&&◌, eqb, ltb, leb, not, List, [], ◌∷◌, ◌++◌, map, length, Option, Some, None, Result, Ok, Err, refl, sym, ap, ◌∙◌, subst, arith}
+use Rattle.std.proofs.Common.{◌≡◌, ℕ, ◌-◌, ◌^◌, ◌<◌, ◌≤◌, Bool, true, eqb, ltb, leb, not, List, [], ◌∷◌, ◌++◌, length, Option, Some, None, Ok, refl, sym, ap, ◌∙◌, subst, arith}
 use Rattle.std.specs.Prelude.{is_some, is_ok, slice_index}
-use Rattle.std.specs.List.{AllByRecursion}
 use Rattle.std.proofs.lemmas.Bool.{leb-true, ltb-true, eqb-true}
 use Rattle.std.proofs.lemmas.List.{length-map}
 use Rattle.si_model.specs.declared.row.Row.{Row}
 use Rattle.si_model.specs.declared.op.Op.TheVariants as op
-use Rattle.nam_catalog.specs.declared.shape.Table.{Table}
 use Rattle.nam_catalog.specs.Greatest.{greatest_number}
-use Rattle.nam_catalog.specs.Tables.{name_of, widths_of, capacities_of}
+use Rattle.nam_catalog.specs.Tables.{widths_of, capacities_of}
 use Rattle.nam_catalog.specs.Limits.{fault_of}
-use Rattle.nam_script.specs.declared.refusal.Kind.{Kind}
 use Rattle.nam_script.specs.declared.refusal.Kind.TheVariants as kind
 use Rattle.nam_script.specs.declared.line.Change.{Change}
 use Rattle.nam_script.specs.declared.line.SpeltStint.{SpeltStint}
 use Rattle.nam_script.specs.declared.line.Line.{Line}
 use Rattle.nam_script.specs.declared.line.Line.TheVariants as line
-use Rattle.nam_script.specs.declared.script.Stint.{Stint}
-use Rattle.nam_script.specs.declared.checks.Found.{Found}
 use Rattle.nam_script.specs.declared.draft.Draft.{Draft}
 use Rattle.nam_script.specs.declared.stage.Stage.{Stage}
 use Rattle.nam_script.specs.declared.stage.Stage.TheVariants as stage
 use Rattle.nam_script.specs.Stages.{is_at, takes_table, takes_row, is_loaded, takes_turns}
-use Rattle.nam_script.specs.Checks.{◌>>=◌, must, within, small, all_small, key_of, all_stints, place_of, is_given, rows_in, counted, steps_of}
+use Rattle.nam_script.specs.Checks.{within, small, all_small, key_of, all_stints, place_of, is_given, rows_in, counted, steps_of}
 use Rattle.nam_script.specs.Admit.{is_held, with_table, admit}
 use Rattle.nam_script.specs.Limits.{RowsFit, RowFits, IsKey}
 use Rattle.nam_script.specs.Spelling.{somes, spelt}
@@ -38,7 +33,7 @@ version_line d e s given =
     let at = at_is d.stage stage.Empty t in
     let o = subst (λ (y : Stage). InOrder y d.shape d.body) at s.order in
     subst (Follows d line.Version) (same_Ok _ _ e1)
-      (setting_follows d (record d { stage = stage.Version }) line.Version [] stage.Empty at o.0 o.1 refl refl refl refl refl refl refl refl s.kept.form s.tries (λ ts b. (ts, b)) tt))
+    (setting_follows d (record d { stage = stage.Version }) line.Version [] stage.Empty at o.0 o.1 refl refl refl refl refl refl refl refl s.kept.form s.tries (λ ts b. (ts, b)) tt))
 
 header_line : (d e : Draft) (form : _) → Stands d → admit d (line.Header form) ≡ Ok e → Follows d (line.Header form) e
 unfolding admit
@@ -48,7 +43,7 @@ header_line d e form s given =
     let at = at_is d.stage stage.Version t in
     let o = subst (λ (y : Stage). InOrder y d.shape d.body) at s.order in
     subst (Follows d (line.Header form)) (same_Ok _ _ e2)
-      (setting_follows d (record d { stage = stage.Header; shape = record d.shape { form = form } }) (line.Header form) (line.Version ∷ []) stage.Version at o.0 o.1 refl refl refl refl refl refl refl refl (not_true _ free) s.tries (λ ts b. (ts, b)) tt)))
+    (setting_follows d (record d { stage = stage.Header; shape = record d.shape { form = form } }) (line.Header form) (line.Version ∷ []) stage.Version at o.0 o.1 refl refl refl refl refl refl refl refl (not_true _ free) s.tries (λ ts b. (ts, b)) tt)))
 
 workers_line : (d e : Draft) (number : Option ℕ) → Stands d → admit d (line.Workers number) ≡ Ok e → Follows d (line.Workers number) e
 unfolding admit
@@ -60,7 +55,7 @@ workers_line d e number s given =
     let f = within_fits 1 16 number n en in
     let next : Draft = record d { stage = stage.Workers; shape = record d.shape { workers = n } } in
     subst (Follows d (line.Workers number)) (same_Ok _ _ e2) (subst (λ (x : Option ℕ). Follows d (line.Workers x) next) (sym f.is)
-      (setting_follows d next (line.Workers (Some n)) (line.Version ∷ line.Header d.shape.form ∷ []) stage.Header at o.0 o.1 refl refl refl refl refl refl refl refl s.kept.form s.tries (λ ts b. (ts, b)) tt))))
+    (setting_follows d next (line.Workers (Some n)) (line.Version ∷ line.Header d.shape.form ∷ []) stage.Header at o.0 o.1 refl refl refl refl refl refl refl refl s.kept.form s.tries (λ ts b. (ts, b)) tt))))
 
 tries_line : (d e : Draft) (number : Option ℕ) → Stands d → admit d (line.Tries number) ≡ Ok e → Follows d (line.Tries number) e
 unfolding admit
@@ -72,7 +67,7 @@ tries_line d e number s given =
     let f = within_fits 1 16 number n en in
     let next : Draft = record d { stage = stage.Tries; policy = record d.policy { tries = n } } in
     subst (Follows d (line.Tries number)) (same_Ok _ _ e2) (subst (λ (x : Option ℕ). Follows d (line.Tries x) next) (sym f.is)
-      (setting_follows d next (line.Tries (Some n)) (line.Version ∷ line.Header d.shape.form ∷ line.Workers (Some d.shape.workers) ∷ []) stage.Workers at o.0 o.1 refl refl refl refl refl refl refl refl s.kept.form (f.least, f.most) (λ ts b. (ts, b)) tt))))
+    (setting_follows d next (line.Tries (Some n)) (line.Version ∷ line.Header d.shape.form ∷ line.Workers (Some d.shape.workers) ∷ []) stage.Workers at o.0 o.1 refl refl refl refl refl refl refl refl s.kept.form (f.least, f.most) (λ ts b. (ts, b)) tt))))
 
 tidy_line : (d e : Draft) (on : Bool) → Stands d → admit d (line.Tidy on) ≡ Ok e → Follows d (line.Tidy on) e
 unfolding admit
@@ -81,7 +76,7 @@ tidy_line d e on s given =
     let at = at_is d.stage stage.Tries t in
     let o = subst (λ (y : Stage). InOrder y d.shape d.body) at s.order in
     subst (Follows d (line.Tidy on)) (same_Ok _ _ e1)
-      (setting_follows d (record d { stage = stage.Tidy; policy = record d.policy { tidy = on } }) (line.Tidy on) (line.Version ∷ line.Header d.shape.form ∷ line.Workers (Some d.shape.workers) ∷ line.Tries (Some d.policy.tries) ∷ []) stage.Tries at o.0 o.1 refl refl refl refl refl refl refl refl s.kept.form s.tries (λ ts b. (ts, b)) tt))
+    (setting_follows d (record d { stage = stage.Tidy; policy = record d.policy { tidy = on } }) (line.Tidy on) (line.Version ∷ line.Header d.shape.form ∷ line.Workers (Some d.shape.workers) ∷ line.Tries (Some d.policy.tries) ∷ []) stage.Tries at o.0 o.1 refl refl refl refl refl refl refl refl s.kept.form s.tries (λ ts b. (ts, b)) tt))
 
 start_line : (d e : Draft) (number : Option ℕ) → Stands d → admit d (line.Start number) ≡ Ok e → Follows d (line.Start number) e
 unfolding admit
@@ -93,7 +88,7 @@ start_line d e number s given =
     let f = within_fits 0 (greatest_number d.shape.form) number n en in
     let next : Draft = record d { stage = stage.Start; shape = record d.shape { start = n } } in
     subst (Follows d (line.Start number)) (same_Ok _ _ e2) (subst (λ (x : Option ℕ). Follows d (line.Start x) next) (sym f.is)
-      (setting_follows d next (line.Start (Some n)) (line.Version ∷ line.Header d.shape.form ∷ line.Workers (Some d.shape.workers) ∷ line.Tries (Some d.policy.tries) ∷ line.Tidy d.policy.tidy ∷ []) stage.Tidy at o.0 o.1 refl refl refl refl refl refl refl refl s.kept.form s.tries (λ ts b. (ts, b)) tt))))
+    (setting_follows d next (line.Start (Some n)) (line.Version ∷ line.Header d.shape.form ∷ line.Workers (Some d.shape.workers) ∷ line.Tries (Some d.policy.tries) ∷ line.Tidy d.policy.tidy ∷ []) stage.Tidy at o.0 o.1 refl refl refl refl refl refl refl refl s.kept.form s.tries (λ ts b. (ts, b)) tt))))
 
 overflow_line : (d e : Draft) (buckets cells : Option ℕ) → Stands d → admit d (line.Overflow buckets cells) ≡ Ok e → Follows d (line.Overflow buckets cells) e
 unfolding admit
@@ -107,7 +102,7 @@ overflow_line d e buckets cells s given =
     let fc = within_fits 1 64 cells c ec in
     let next : Draft = record d { stage = stage.Overflow; shape = record d.shape { buckets = b; cells = c } } in
     subst (Follows d (line.Overflow buckets cells)) (same_Ok _ _ e3) (subst (λ (x : Option ℕ). Follows d (line.Overflow x cells) next) (sym fb.is) (subst (λ (x : Option ℕ). Follows d (line.Overflow (Some b) x) next) (sym fc.is)
-      (setting_follows d next (line.Overflow (Some b) (Some c)) (line.Version ∷ line.Header d.shape.form ∷ line.Workers (Some d.shape.workers) ∷ line.Tries (Some d.policy.tries) ∷ line.Tidy d.policy.tidy ∷ line.Start (Some d.shape.start) ∷ []) stage.Start at o.0 o.1 refl refl refl refl refl refl refl refl s.kept.form s.tries (λ ts b. (ts, b)) (tt, tt)))))))
+    (setting_follows d next (line.Overflow (Some b) (Some c)) (line.Version ∷ line.Header d.shape.form ∷ line.Workers (Some d.shape.workers) ∷ line.Tries (Some d.policy.tries) ∷ line.Tidy d.policy.tidy ∷ line.Start (Some d.shape.start) ∷ []) stage.Start at o.0 o.1 refl refl refl refl refl refl refl refl s.kept.form s.tries (λ ts b. (ts, b)) (tt, tt)))))))
 
 table_line : (d e : Draft) (name : List ℕ) (width capacity ring : Option ℕ) → Stands d → admit d (line.Table name width capacity ring) ≡ Ok e → Follows d (line.Table name width capacity ring) e
 unfolding admit
@@ -124,8 +119,8 @@ table_line d e name width capacity ring s given =
     let fr = within_fits 1 16 ring r er in
     let made = table_follows d e (record { name = name; width = w; capacity = k; ring = r }) (line.Table name (Some w) (Some k) (Some r)) s t (ltb-true _ _ few) (none_some _ good) (sym (same_Ok _ _ e7)) refl (tt, tt, tt) in
     subst (λ (x : Option ℕ). Follows d (line.Table name x capacity ring) e) (sym fw.is)
-      (subst (λ (x : Option ℕ). Follows d (line.Table name (Some w) x ring) e) (sym fk.is)
-      (subst (λ (x : Option ℕ). Follows d (line.Table name (Some w) (Some k) x) e) (sym fr.is) made)))))))))
+    (subst (λ (x : Option ℕ). Follows d (line.Table name (Some w) x ring) e) (sym fk.is)
+    (subst (λ (x : Option ℕ). Follows d (line.Table name (Some w) (Some k) x) e) (sym fr.is) made)))))))))
 
 row_line : (d e : Draft) (table : List ℕ) (key : Option ℕ) (values : List (Option ℕ)) → Stands d → admit d (line.Row table key values) ≡ Ok e → Follows d (line.Row table key values) e
 unfolding admit
@@ -150,14 +145,14 @@ row_line d e table key values s given =
       keys = all_more (λ q. IsKey q.key) d.body.rows r old.keys fk.most;
       distinct = distinct_more d.body.rows r old.distinct (not_true _ new);
       loaded = λ u lt. subst (λ (n : ℕ). n ≤ slice_index caps u) (sym (rows_in_more d.body.rows r u))
-        (loaded_at (eqb f.table u) (rows_in d.body.rows u) (slice_index caps u) (λ is. subst (λ (v : ℕ). rows_in d.body.rows v < slice_index caps v) (eqb-true _ _ is) free) (old.loaded u lt));
+          (loaded_at (eqb f.table u) (rows_in d.body.rows u) (slice_index caps u) (λ is. subst (λ (v : ℕ). rows_in d.body.rows v < slice_index caps v) (eqb-true _ _ is) free) (old.loaded u lt));
     } in
     let made = row_follows d r s t fit (tt, all_somes vs) in
     let next : Draft = record d { stage = stage.Rows; body = record d.body { rows = d.body.rows ++ r ∷ [] } } in
     subst (Follows d (line.Row table key values)) (same_Ok _ _ e7)
-      (subst (λ (x : List (Option ℕ)). Follows d (line.Row table key x) next) (sym iv)
-      (subst (λ (x : Option ℕ). Follows d (line.Row table x (somes vs)) next) (sym fk.is)
-      (subst (λ (x : List ℕ). Follows d (line.Row x (Some k) (somes vs)) next) at.named made))))))))))
+    (subst (λ (x : List (Option ℕ)). Follows d (line.Row table key x) next) (sym iv)
+    (subst (λ (x : Option ℕ). Follows d (line.Row table x (somes vs)) next) (sym fk.is)
+    (subst (λ (x : List ℕ). Follows d (line.Row x (Some k) (somes vs)) next) at.named made))))))))))
 
 txn_line : (d e : Draft) (worker : Option ℕ) → Stands d → admit d (line.Txn worker) ≡ Ok e → Follows d (line.Txn worker) e
 unfolding admit
@@ -167,7 +162,7 @@ txn_line d e worker s given =
     must_then (ltb (length d.body.txns) 8192) kind.Size _ e e2 (λ few e3.
     let f = within_fits 1 d.shape.workers worker w ew in
     subst (Follows d (line.Txn worker)) (same_Ok _ _ e3) (subst (λ (x : Option ℕ). Follows d (line.Txn x) (record d { stage = stage.Open; body = record d.body { worker = w } })) (sym f.is)
-      (txn_follows d w s t (f.least, f.most) (ltb-true _ _ few))))))
+    (txn_follows d w s t (f.least, f.most) (ltb-true _ _ few))))))
 
 open_shape : (d : Draft) → Stands d → is_at d.stage stage.Open ≡ true → fault_of d.shape ≡ None
 open_shape d s t = (subst (λ (y : Stage). InOrder y d.shape d.body) (at_is d.stage stage.Open t) s.order).0
@@ -181,7 +176,7 @@ get_line d e table key s given =
     let at = found_is d.shape.tables table f ef in
     let fk = within_fits 0 (2 ^ 64 - 2) key k ek in
     pushes d (op.Get f.table k) 1 e (line.Get table key) s t e3 (table_is d.shape table f (open_shape d s t) at) fk.most refl
-      (ap (λ (x : List ℕ). line.Get x (Some k)) at.named ∙ ap (λ (x : Option ℕ). line.Get table x) (sym fk.is)))))
+    (ap (λ (x : List ℕ). line.Get x (Some k)) at.named ∙ ap (λ (x : Option ℕ). line.Get table x) (sym fk.is)))))
 
 del_line : (d e : Draft) (table : List ℕ) (key : Option ℕ) → Stands d → admit d (line.Del table key) ≡ Ok e → Follows d (line.Del table key) e
 unfolding admit
@@ -192,7 +187,7 @@ del_line d e table key s given =
     let at = found_is d.shape.tables table f ef in
     let fk = within_fits 0 (2 ^ 64 - 2) key k ek in
     pushes d (op.Del f.table k) 1 e (line.Del table key) s t e3 (table_is d.shape table f (open_shape d s t) at) fk.most refl
-      (ap (λ (x : List ℕ). line.Del x (Some k)) at.named ∙ ap (λ (x : Option ℕ). line.Del table x) (sym fk.is)))))
+    (ap (λ (x : List ℕ). line.Del x (Some k)) at.named ∙ ap (λ (x : Option ℕ). line.Del table x) (sym fk.is)))))
 
 guard_line : (d e : Draft) (table : List ℕ) (key : Option ℕ) → Stands d → admit d (line.Guard table key) ≡ Ok e → Follows d (line.Guard table key) e
 unfolding admit
@@ -203,7 +198,7 @@ guard_line d e table key s given =
     let at = found_is d.shape.tables table f ef in
     let fk = within_fits 0 (2 ^ 64 - 2) key k ek in
     pushes d (op.Guard f.table k) 1 e (line.Guard table key) s t e3 (table_is d.shape table f (open_shape d s t) at) fk.most refl
-      (ap (λ (x : List ℕ). line.Guard x (Some k)) at.named ∙ ap (λ (x : Option ℕ). line.Guard table x) (sym fk.is)))))
+    (ap (λ (x : List ℕ). line.Guard x (Some k)) at.named ∙ ap (λ (x : Option ℕ). line.Guard table x) (sym fk.is)))))
 
 put_line : (d e : Draft) (table : List ℕ) (key : Option ℕ) (values : List (Option ℕ)) → Stands d → admit d (line.Put table key values) ≡ Ok e → Follows d (line.Put table key values) e
 unfolding admit
@@ -217,7 +212,7 @@ put_line d e table key values s given =
     let fk = within_fits 0 (2 ^ 64 - 2) key k ek in
     let iv = all_small_is values vs ev in
     pushes d (op.Put f.table k vs) 1 e (line.Put table key values) s t e5 (table_is d.shape table f (open_shape d s t) at, eqb-true _ _ wide ∙ sym at.width) fk.most refl
-      (ap (λ (x : List ℕ). line.Put x (Some k) (somes vs)) at.named ∙ ap (λ (x : Option ℕ). line.Put table x (somes vs)) (sym fk.is) ∙ ap (λ (x : List (Option ℕ)). line.Put table key x) (sym iv)))))))
+    (ap (λ (x : List ℕ). line.Put x (Some k) (somes vs)) at.named ∙ ap (λ (x : Option ℕ). line.Put table x (somes vs)) (sym fk.is) ∙ ap (λ (x : List (Option ℕ)). line.Put table key x) (sym iv)))))))
 
 add_line : (d e : Draft) (table : List ℕ) (key field : Option ℕ) (change : Change) → Stands d → admit d (line.Add table key field change) ≡ Ok e → Follows d (line.Add table key field change) e
 unfolding admit
@@ -232,11 +227,11 @@ add_line d e table key field change s given =
     let fg = within_fits 1 f.width field g eg in
     let fn = within_fits 0 (2 ^ 64 - 1) change.by n en in
     pushes d (op.Add f.table k g change.up n) 1 e (line.Add table key field change) s t e5
-      (table_is d.shape table f (open_shape d s t) at, (fg.least, subst (λ (m : ℕ). g ≤ m) (sym at.width) fg.most)) fk.most refl
-      (ap (λ (x : List ℕ). line.Add x (Some k) (Some g) (record { up = change.up; by = Some n })) at.named
-      ∙ ap (λ (x : Option ℕ). line.Add table x (Some g) (record { up = change.up; by = Some n })) (sym fk.is)
-      ∙ ap (λ (x : Option ℕ). line.Add table key x (record { up = change.up; by = Some n })) (sym fg.is)
-      ∙ ap (λ (x : Option ℕ). line.Add table key field (record { up = change.up; by = x })) (sym fn.is)))))))
+    (table_is d.shape table f (open_shape d s t) at, (fg.least, subst (λ (m : ℕ). g ≤ m) (sym at.width) fg.most)) fk.most refl
+    (ap (λ (x : List ℕ). line.Add x (Some k) (Some g) (record { up = change.up; by = Some n })) at.named
+    ∙ ap (λ (x : Option ℕ). line.Add table x (Some g) (record { up = change.up; by = Some n })) (sym fk.is)
+    ∙ ap (λ (x : Option ℕ). line.Add table key x (record { up = change.up; by = Some n })) (sym fg.is)
+    ∙ ap (λ (x : Option ℕ). line.Add table key field (record { up = change.up; by = x })) (sym fn.is)))))))
 
 need_line : (d e : Draft) (table : List ℕ) (key field least : Option ℕ) → Stands d → admit d (line.Need table key field least) ≡ Ok e → Follows d (line.Need table key field least) e
 unfolding admit
@@ -251,11 +246,11 @@ need_line d e table key field least s given =
     let fg = within_fits 1 f.width field g eg in
     let fn = within_fits 0 (2 ^ 64 - 1) least n en in
     pushes d (op.Need f.table k g n) 1 e (line.Need table key field least) s t e5
-      (table_is d.shape table f (open_shape d s t) at, (fg.least, subst (λ (m : ℕ). g ≤ m) (sym at.width) fg.most)) fk.most refl
-      (ap (λ (x : List ℕ). line.Need x (Some k) (Some g) (Some n)) at.named
-      ∙ ap (λ (x : Option ℕ). line.Need table x (Some g) (Some n)) (sym fk.is)
-      ∙ ap (λ (x : Option ℕ). line.Need table key x (Some n)) (sym fg.is)
-      ∙ ap (λ (x : Option ℕ). line.Need table key field x) (sym fn.is)))))))
+    (table_is d.shape table f (open_shape d s t) at, (fg.least, subst (λ (m : ℕ). g ≤ m) (sym at.width) fg.most)) fk.most refl
+    (ap (λ (x : List ℕ). line.Need x (Some k) (Some g) (Some n)) at.named
+    ∙ ap (λ (x : Option ℕ). line.Need table x (Some g) (Some n)) (sym fk.is)
+    ∙ ap (λ (x : Option ℕ). line.Need table key x (Some n)) (sym fg.is)
+    ∙ ap (λ (x : Option ℕ). line.Need table key field x) (sym fn.is)))))))
 
 scan_line : (d e : Draft) (table : List ℕ) (low high : Option ℕ) → Stands d → admit d (line.Scan table low high) ≡ Ok e → Follows d (line.Scan table low high) e
 unfolding admit
@@ -269,10 +264,10 @@ scan_line d e table low high s given =
     let fl = within_fits 0 (2 ^ 64 - 2) low l el in
     let fh = within_fits 0 (2 ^ 64 - 2) high h eh in
     pushes d (op.Scan f.table l h) f.capacity e (line.Scan table low high) s t e5
-      (table_is d.shape table f (open_shape d s t) at) (leb-true _ _ le, fh.most) at.capacity
-      (ap (λ (x : List ℕ). line.Scan x (Some l) (Some h)) at.named
-      ∙ ap (λ (x : Option ℕ). line.Scan table x (Some h)) (sym fl.is)
-      ∙ ap (λ (x : Option ℕ). line.Scan table low x) (sym fh.is)))))))
+    (table_is d.shape table f (open_shape d s t) at) (leb-true _ _ le, fh.most) at.capacity
+    (ap (λ (x : List ℕ). line.Scan x (Some l) (Some h)) at.named
+    ∙ ap (λ (x : Option ℕ). line.Scan table x (Some h)) (sym fl.is)
+    ∙ ap (λ (x : Option ℕ). line.Scan table low x) (sym fh.is)))))))
 
 end_line : (d e : Draft) → Stands d → admit d line.End ≡ Ok e → Follows d line.End e
 unfolding admit
@@ -291,8 +286,8 @@ turns_line d e ss s short given =
     let c = counted_is d.body.steps (steps_of ms) 10000000 sum es in
     let len : length ss ≡ length ms = ap length r.0 ∙ length-map ms spelt in
     subst (Follows d (line.Turns ss)) (same_Ok _ _ e3)
-      (subst (λ (x : List SpeltStint). Follows d (line.Turns x) (record d { stage = stage.Turns; body = record d.body { stints = d.body.stints ++ ms; steps = sum } })) (sym r.0)
-      (turns_follow d ms sum s t r.1 (omega (arith, len, short.0), omega (arith, len, short.1)) c.0 c.1)))))
+    (subst (λ (x : List SpeltStint). Follows d (line.Turns x) (record d { stage = stage.Turns; body = record d.body { stints = d.body.stints ++ ms; steps = sum } })) (sym r.0)
+    (turns_follow d ms sum s t r.1 (omega (arith, len, short.0), omega (arith, len, short.1)) c.0 c.1)))))
 
 seed_line : (d e : Draft) (seed picks : Option ℕ) → Stands d → admit d (line.Seed seed picks) ≡ Ok e → Follows d (line.Seed seed picks) e
 unfolding admit
@@ -304,9 +299,9 @@ seed_line d e seed picks s given =
     let fp = within_fits 0 1000000 picks p ep in
     let next : Draft = record d { stage = stage.Seed; body = record d.body { seed = n; picks = p } } in
     subst (Follows d (line.Seed seed picks)) (same_Ok _ _ e3)
-      (subst (λ (x : Option ℕ). Follows d (line.Seed x picks) next) (sym fn.is)
-      (subst (λ (x : Option ℕ). Follows d (line.Seed (Some n) x) next) (sym fp.is)
-      (seed_follows d n p s t fp.most))))))
+    (subst (λ (x : Option ℕ). Follows d (line.Seed x picks) next) (sym fn.is)
+    (subst (λ (x : Option ℕ). Follows d (line.Seed (Some n) x) next) (sym fp.is)
+    (seed_follows d n p s t fp.most))))))
 
 pub admitted : (d : Draft) (l : Line) (e : Draft) → Stands d → IsShort l → admit d l ≡ Ok e → Follows d l e
 admitted d line.Version e s short given = version_line d e s given

@@ -1,17 +1,16 @@
 -- What is spelt so is read.
-use Rattle.std.proofs.Common.{◌≡◌, ℕ, zero, suc, ◌+◌, ◌^◌, ◌<◌, ◌≤◌, Bool, true, false, cond, ◌&&◌, eqb, ltb, leb, not, List, [], ◌∷◌, ◌++◌, map, length, take, drop, Option, Some, None, refl, sym, ap, ◌∙◌, subst, arith, lit<, Result, Ok, append_assoc, add-one, length-append}
+use Rattle.std.proofs.Common.{◌≡◌, ℕ, suc, ◌+◌, ◌≤◌, Bool, true, false, cond, eqb, ltb, leb, not, List, [], ◌∷◌, ◌++◌, map, length, take, drop, Option, Some, None, refl, sym, ap, ◌∙◌, subst, arith, Result, Ok, append_assoc, add-one, length-append}
 use Rattle.std.specs.Prelude.{codes}
-use Rattle.std.specs.List.{list_all, slice_split, join_with_byte, AllByRecursion, position, position_or_len}
-use Rattle.std.specs.Fmt.{decimal}
+use Rattle.std.specs.List.{list_all, join_with_byte, AllByRecursion, position, position_or_len}
 use Rattle.std.proofs.lemmas.Bool.{and_from, and_parts, lt-ltb, le-leb, ne_eqb}
 use Rattle.std.proofs.lemmas.List.{length-map}
 use Rattle.std.proofs.lemmas.List.Elements.{All-from_recursion}
 use Rattle.std.proofs.lemmas.List.Splits.{slice_split_at}
 use Rattle.nam_catalog.specs.declared.form.Form.{Form}
 use Rattle.nam_catalog.specs.declared.form.Form.TheVariants.{Narrow, Wide, Held}
-use Rattle.nam_text.specs.Token.{number, number_text, is_name}
+use Rattle.nam_text.specs.Token.{number, number_text}
 use Rattle.nam_text.specs.Fields.{fields_of, lines_of}
-use Rattle.nam_text.specs.Read.{◌>>=◌, word_at, number_at, name_at}
+use Rattle.nam_text.specs.Read.{number_at}
 use Rattle.nam_text.proofs.Again.{number_again, number_at_again, name_at_again, IsPlain, decimal_plain, decimal_starless, name_plain, no_newline, split_again}
 use Rattle.nam_script.specs.declared.line.Change.{Change}
 use Rattle.nam_script.specs.declared.line.SpeltStint.{SpeltStint}
@@ -22,10 +21,10 @@ use Rattle.nam_script.specs.declared.refusal.ParseEnd.{ParseEnd}
 use Rattle.nam_script.specs.declared.script.Script.{Script}
 use Rattle.nam_script.specs.Text.{form_word, switch_word}
 use Rattle.nam_script.specs.Stages.{can_end}
-use Rattle.nam_script.specs.Lines.{form_at, switch_at, change, change_at, all_read, some_read, values_at, parted_at, stint, stints_at, last, version_line, header_line, workers_line, tries_line, tidy_line, start_line, overflow_line, table_line, row_line, txn_line, get_line, put_line, add_line, del_line, need_line, guard_line, scan_line, turns_line, seed_line, op_of, body_of, word_of, line_of}
+use Rattle.nam_script.specs.Lines.{form_at, switch_at, change, change_at, all_read, some_read, values_at, parted_at, stint, version_line, header_line, workers_line, tries_line, tidy_line, start_line, overflow_line, table_line, row_line, txn_line, get_line, put_line, add_line, del_line, need_line, guard_line, scan_line, turns_line, seed_line, op_of, body_of, word_of, line_of}
 use Rattle.nam_script.specs.Admit.{start, admit, admit_text}
-use Rattle.nam_script.specs.Parse.{Fault, draft_from, draft_of, finished, finished_if, script_of, Gives}
-use Rattle.nam_script.specs.Spelling.{change_text, spelt_stint_text, fields, line_text, text_of, FitsWord, FitsStint, FitsChange, IsGood, admit_all}
+use Rattle.nam_script.specs.Parse.{draft_from, draft_of, finished, finished_if, script_of, Gives}
+use Rattle.nam_script.specs.Spelling.{change_text, spelt_stint_text, fields, text_of, FitsWord, FitsStint, FitsChange, IsGood, admit_all}
 use Rattle.nam_script.proofs.Chains.{ok_then, same_Ok}
 use Rattle.nam_script.proofs.LineTurns.{goes_on}
 

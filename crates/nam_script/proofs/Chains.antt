@@ -1,9 +1,9 @@
 -- What follows from a line's tests, one after the other.
-use Rattle.std.proofs.Common.{◌≡◌, ℕ, zero, suc, ◌+◌, ◌-◌, ◌^◌, ◌<◌, ◌≤◌, Bool, true, false, cond, ◌&&◌, ◌||◌, eqb, ltb, leb, not, List, [], ◌∷◌, ◌++◌, map, length, get_or, Option, Some, None, Result, Ok, Err, refl, sym, ap, ◌∙◌, subst, arith, ◌⊎◌, inl, inr, add-zero}
-use Rattle.std.specs.Prelude.{is_some, is_ok, slice_index}
+use Rattle.std.proofs.Common.{◌≡◌, ℕ, zero, suc, ◌+◌, ◌<◌, ◌≤◌, Bool, true, false, cond, ◌&&◌, ◌||◌, leb, List, [], ◌∷◌, map, length, Option, Some, None, Result, Ok, Err, refl, sym, ap, ◌∙◌, subst, arith, ◌⊎◌, inl, inr, add-zero}
+use Rattle.std.specs.Prelude.{slice_index}
 use Rattle.std.specs.List.{AllByRecursion}
 use Rattle.std.specs.Str.{bytes_eq}
-use Rattle.std.proofs.lemmas.Bool.{and_parts, leb-true, ltb-true, eqb-true}
+use Rattle.std.proofs.lemmas.Bool.{and_parts, leb-true, eqb-true}
 use Rattle.std.proofs.lemmas.Slice.Eq.{bytes_eq-Decides}
 use Rattle.nam_catalog.specs.declared.shape.Table.{Table}
 use Rattle.nam_catalog.specs.Tables.{name_of, widths_of, capacities_of}
@@ -81,7 +81,7 @@ all_stints_are workers (s ∷ ss) ms e =
     let f = stint_is workers s m em in
     let r = all_stints_are workers ss rest er in
     subst (λ (js : List Stint). (s ∷ ss ≡ map spelt js) × AllByRecursion (StintFits workers) js) (same_Ok _ _ e2)
-      (ap (λ (x : SpeltStint). x ∷ ss) f.0 ∙ ap (λ (xs : List SpeltStint). spelt m ∷ xs) r.0, (f.1, r.1))))
+    (ap (λ (x : SpeltStint). x ∷ ss) f.0 ∙ ap (λ (xs : List SpeltStint). spelt m ∷ xs) r.0, (f.1, r.1))))
 
 -- ---- tables by their names
 

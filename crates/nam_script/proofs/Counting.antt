@@ -1,11 +1,10 @@
 -- The lines of a script are fewer than 2^32 by its limits, so that a bad line's number can be told.
-use Rattle.std.proofs.Common.{◌≡◌, ℕ, zero, suc, ◌+◌, ◌*◌, ◌^◌, ◌<◌, ◌≤◌, Bool, true, false, cond, eqb, List, [], ◌∷◌, ◌++◌, map, length, take, refl, sym, ap, ◌∙◌, subst, arith, inl, inr, length-append}
+use Rattle.std.proofs.Common.{◌≡◌, ℕ, zero, suc, ◌+◌, ◌*◌, ◌<◌, ◌≤◌, Bool, true, false, cond, eqb, List, [], ◌∷◌, ◌++◌, map, length, take, refl, sym, ap, arith, inl, inr, length-append}
 use Rattle.std.specs.Prelude.{slice_index, Ok, Some}
 use Rattle.std.specs.List.{AllByRecursion, flat_map}
 use Rattle.std.proofs.lemmas.Bool.{cases_eq, eq-eqb, ne_eqb}
 use Rattle.std.proofs.lemmas.List.{length-map}
 use Rattle.si_model.specs.declared.row.Row.{Row}
-use Rattle.si_model.specs.declared.op.Op.{Op}
 use Rattle.nam_catalog.specs.declared.shape.Table.{Table}
 use Rattle.nam_catalog.specs.Fits.{FitsTable}
 use Rattle.nam_catalog.specs.Tables.{widths_of, capacities_of}
@@ -14,7 +13,6 @@ use Rattle.nam_script.specs.declared.line.Line.TheVariants as line
 use Rattle.nam_script.specs.declared.script.ScriptTxn.{ScriptTxn}
 use Rattle.nam_script.specs.declared.script.Stint.{Stint}
 use Rattle.nam_script.specs.declared.draft.Draft.{Draft}
-use Rattle.nam_script.specs.declared.stage.Stage.{Stage}
 use Rattle.nam_script.specs.declared.stage.Stage.TheVariants as stage
 use Rattle.nam_script.specs.Stages.{rank, is_at}
 use Rattle.nam_script.specs.Checks.{rows_in, steps_of}
@@ -113,11 +111,18 @@ lines_most d gs s a =
     let opens = open_lines d.stage ts d.body.worker d.body.ops in
     let seeds = seed_lines d.stage d.body.seed d.body.picks in
     let groups : length gs ≤ 10000000 = omega (arith, groups_most gs a.1, ap length a.0, stints_most d.shape.workers d.body.stints k.stints, k.steps, k.most_steps) in
-    omega (arith,
-      length_take (rank d.stage) (setting_lines d.shape d.policy), k.few_tables, few_rows d s,
-      txns_most d.shape.workers ts d.body.txns k.txns, k.few,
-      length_if (is_at d.stage stage.Open) (line.Txn (Some d.body.worker) ∷ map (op_line ts) d.body.ops), length-map d.body.ops (op_line ts), k.ops.few,
-      groups, length_if (is_at d.stage stage.Seed) (line.Seed (Some d.body.seed) (Some d.body.picks) ∷ []),
+    omega (
+      arith,
+      length_take (rank d.stage) (setting_lines d.shape d.policy),
+      k.few_tables,
+      few_rows d s,
+      txns_most d.shape.workers ts d.body.txns k.txns,
+      k.few,
+      length_if (is_at d.stage stage.Open) (line.Txn (Some d.body.worker) ∷ map (op_line ts) d.body.ops),
+      length-map d.body.ops (op_line ts),
+      k.ops.few,
+      groups,
+      length_if (is_at d.stage stage.Seed) (line.Seed (Some d.body.seed) (Some d.body.picks) ∷ []),
       length-append h (map table_line ts ++ (map (row_line ts) d.body.rows ++ (flat_map (txn_lines ts) d.body.txns ++ (opens ++ (map turns_line gs ++ seeds))))),
       length-append (map table_line ts) (map (row_line ts) d.body.rows ++ (flat_map (txn_lines ts) d.body.txns ++ (opens ++ (map turns_line gs ++ seeds)))),
       length-map ts table_line,
@@ -126,7 +131,8 @@ lines_most d gs s a =
       length-append (flat_map (txn_lines ts) d.body.txns) (opens ++ (map turns_line gs ++ seeds)),
       length-append opens (map turns_line gs ++ seeds),
       length-append (map turns_line gs) seeds,
-      length-map gs turns_line)
+      length-map gs turns_line,
+    )
 
 -- line n follows the lines so far
 pub record IsLine (n : ℕ) (d : Draft) : Type 0 where

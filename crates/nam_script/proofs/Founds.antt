@@ -1,13 +1,11 @@
 -- What is read is the text of the script, and the script keeps to its limits.
-use Rattle.std.proofs.Common.{◌≡◌, ℕ, ◌+◌, ◌≤◌, Bool, true, false, cond, ◌||◌, List, [], ◌∷◌, ◌++◌, map, length, take, Some, Result, Ok, Err, refl, sym, ap, ◌∙◌, subst, append_assoc, arith, ◌⊎◌, inl, inr}
+use Rattle.std.proofs.Common.{◌≡◌, ℕ, ◌≤◌, Bool, true, false, cond, List, [], ◌∷◌, ◌++◌, map, Some, Result, Ok, Err, refl, sym, ap, ◌∙◌, subst, append_assoc, arith, inl, inr}
 use Rattle.std.specs.Prelude.{IfOk, None}
-use Rattle.std.specs.List.{flat_map, AllByRecursion}
+use Rattle.std.specs.List.{flat_map}
 use Rattle.std.proofs.lemmas.List.{append-nil}
 use Rattle.std.proofs.lemmas.Grind.{flat_map-append}
 use Rattle.si_model.specs.declared.row.Row.{Row}
 use Rattle.nam_catalog.specs.declared.shape.Shape.{Shape}
-use Rattle.nam_catalog.specs.declared.shape.Table.{Table}
-use Rattle.nam_catalog.specs.Tables.{capacities_of}
 use Rattle.nam_catalog.specs.Limits.{fault_of}
 use Rattle.si_model.specs.declared.op.Policy.{Policy}
 use Rattle.nam_script.specs.declared.line.Line.{Line}
@@ -18,21 +16,18 @@ use Rattle.nam_script.specs.declared.script.Script.{Script}
 use Rattle.nam_script.specs.declared.script.Turns.{Turns}
 use Rattle.nam_script.specs.declared.script.Turns.TheVariants as turns
 use Rattle.nam_script.specs.declared.refusal.ParseEnd.{ParseEnd}
-use Rattle.nam_script.specs.declared.refusal.ParseEnd.TheVariants as ends
-use Rattle.nam_script.specs.declared.draft.Body.{Body}
 use Rattle.nam_script.specs.declared.draft.Draft.{Draft}
 use Rattle.nam_script.specs.declared.stage.Stage.{Stage}
 use Rattle.nam_script.specs.declared.stage.Stage.TheVariants as stage
-use Rattle.nam_script.specs.Stages.{rank, is_at, takes_turns, can_end}
-use Rattle.nam_script.specs.Checks.{txns_cost}
-use Rattle.nam_script.specs.Text.{opening_text, store_text, table_text, row_text, txn_text, group_text, grouped_turns, grouped_text, stints_in, IsSpelt}
+use Rattle.nam_script.specs.Stages.{rank, is_at, takes_turns}
+use Rattle.nam_script.specs.Text.{opening_text, store_text, table_text, row_text, txn_text, group_text, IsSpelt}
 use Rattle.nam_script.specs.Limits.{IsScript, TurnsFit}
 use Rattle.nam_script.specs.Parse.{Fault, draft_of, turns_of, finished, finished_if, script_of, Gives}
-use Rattle.nam_script.specs.Spelling.{line_text, text_of, setting_lines, table_line, row_line, txn_lines, turns_line, lines_of_draft}
+use Rattle.nam_script.specs.Spelling.{line_text, text_of, setting_lines, table_line, row_line, txn_lines, turns_line}
 use Rattle.nam_script.proofs.Chains.{at_is, either}
 use Rattle.nam_script.proofs.Concat.{joined, same_parts}
-use Rattle.nam_script.proofs.Kept.{InOrder, Kept, before_turns, opened}
-use Rattle.nam_script.proofs.Steps.{AreGroups, Stands, late_parts, late_settings, if_none, no_groups}
+use Rattle.nam_script.proofs.Kept.{InOrder, before_turns}
+use Rattle.nam_script.proofs.Steps.{Stands, late_parts, late_settings, if_none, no_groups}
 use Rattle.nam_script.proofs.Texts.{Taken, draft_is_taken}
 use Rattle.nam_script.proofs.Wording.{settings_are, tables_are, rows_are, txns_are, groups_are, seed_is}
 
@@ -114,15 +109,15 @@ seeded d text t at =
     let l : Line = line.Seed (Some d.body.seed) (Some d.body.picks) in
     let eg = no_groups t.groups d.body.stints t.are o.2 in
     let parts = same_parts _ (setting_lines d.shape d.policy) d.shape.tables _ d.body.rows _ d.body.txns _ [] t.groups [] _ (l ∷ [])
-          (late_settings d (subst (λ (y : Stage). 7 ≤ rank y) (sym at) (omega arith))) refl refl
-          (if_none _ _ (ap (λ (y : Stage). is_at y stage.Open) at)) eg (if_some _ _ yes) in
+    (late_settings d (subst (λ (y : Stage). 7 ≤ rank y) (sym at) (omega arith))) refl refl
+    (if_none _ _ (ap (λ (y : Stage). is_at y stage.Open) at)) eg (if_some _ _ yes) in
     subst (λ (u : Turns). IsFinal text (script_with d u)) (sym is) (record {
       spelt = record {
         groups = [];
         stints = refl;
         short = tt;
         is = t.told ∙ ap text_of parts ∙ joined_text d.shape d.policy d.body.rows d.body.txns [] (l ∷ [])
-          ∙ ended_by (opening_text d.shape d.policy ++ store_text d.shape d.policy ++ flat_map table_text d.shape.tables ++ flat_map (row_text d.shape.tables) d.body.rows ++ flat_map (txn_text d.shape.tables) d.body.txns) (text_of (l ∷ [])) _ (append-nil (line_text l) ∙ seed_is d.body.seed d.body.picks);
+            ∙ ended_by (opening_text d.shape d.policy ++ store_text d.shape d.policy ++ flat_map table_text d.shape.tables ++ flat_map (row_text d.shape.tables) d.body.rows ++ flat_map (txn_text d.shape.tables) d.body.txns) (text_of (l ∷ [])) _ (append-nil (line_text l) ∙ seed_is d.body.seed d.body.picks);
       };
       good = law d (turns.Seed d.body.seed d.body.picks) s o.0 o.1 k.picks;
     })

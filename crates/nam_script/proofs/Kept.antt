@@ -1,7 +1,6 @@
 -- What the lines so far keep to, at each stage.
-use Rattle.std.proofs.Common.{◌≡◌, ℕ, zero, suc, ◌+◌, ◌-◌, ◌^◌, ◌<◌, ◌≤◌, Bool, true, false, cond, ◌&&◌, ◌||◌, eqb, ltb, leb, not, List, [], ◌∷◌, ◌++◌, map, length, Option, Some, None, Result, Ok, Err, refl, sym, ap, ◌∙◌, subst, arith, ◌⊎◌, inl, inr, length-append}
-use Rattle.std.specs.Prelude.{slice_index}
-use Rattle.std.specs.List.{AllByRecursion, flat_map, list_any}
+use Rattle.std.proofs.Common.{◌≡◌, ℕ, ◌+◌, ◌<◌, ◌≤◌, Bool, true, false, cond, ◌&&◌, ◌||◌, eqb, ltb, List, [], ◌∷◌, ◌++◌, length, Option, Some, None, Ok, Err, refl, sym, ap, subst, arith, inl, inr, length-append}
+use Rattle.std.specs.List.{AllByRecursion}
 use Rattle.std.proofs.lemmas.Bool.{ltb-true}
 use Rattle.si_model.specs.declared.row.Row.{Row}
 use Rattle.si_model.specs.declared.row.Key.{Key}
@@ -12,15 +11,14 @@ use Rattle.nam_catalog.specs.declared.shape.Shape.{Shape}
 use Rattle.nam_catalog.specs.Tables.{capacities_of}
 use Rattle.nam_catalog.specs.Fits.{FitsTable}
 use Rattle.nam_catalog.specs.Limits.{fault_of}
-use Rattle.nam_script.specs.declared.refusal.Kind.{Kind}
 use Rattle.nam_script.specs.declared.refusal.Kind.TheVariants as kind
 use Rattle.nam_script.specs.declared.script.ScriptTxn.{ScriptTxn}
 use Rattle.nam_script.specs.declared.script.Stint.{Stint}
 use Rattle.nam_script.specs.declared.draft.Body.{Body}
 use Rattle.nam_script.specs.declared.stage.Stage.{Stage}
-use Rattle.nam_script.specs.declared.stage.Stage.TheVariants.{Empty, Version, Header, Workers, Tries, Tidy, Start, Overflow, Tables, Rows, Open, Between, Turns, Seed}
+use Rattle.nam_script.specs.declared.stage.Stage.TheVariants.{Overflow, Tables, Rows, Open, Between, Turns, Seed}
 use Rattle.nam_script.specs.Stages.{rank, is_at, takes_table, takes_row, is_loaded, takes_turns}
-use Rattle.nam_script.specs.Checks.{is_given, rows_in, ops_cost, txns_cost, op_cost, has_key, claimed_key, claimed, steps_of}
+use Rattle.nam_script.specs.Checks.{is_given, rows_in, ops_cost, txns_cost, op_cost, has_key, claimed_key, steps_of}
 use Rattle.nam_script.specs.Admit.{no_body, is_held}
 use Rattle.nam_script.specs.Limits.{RowsFit, AreDistinct, OpsFit, TxnFits, StintFits}
 use Rattle.nam_script.proofs.Chains.{at_is, either, same_Ok}
@@ -77,13 +75,13 @@ pub record BeforeRow (st : Stage) (s : Shape) (b : Body) : Type 0 where
 pub before_row : (st : Stage) (s : Shape) (b : Body) → takes_row st ≡ true → InOrder st s b → BeforeRow st s b
 before_row st s b t o = elim (either _ _ t) [
   | inl x ↦ (
-    let at = at_is st Tables x in
-    let h = subst (λ (y : Stage). InOrder y s b) at o in
-    record { late = subst Late (sym at) late_tables; shape = h.0; txns = ap (λ (c : Body). c.txns) h.1; ops = ap (λ (c : Body). c.ops) h.1; stints = ap (λ (c : Body). c.stints) h.1 })
+      let at = at_is st Tables x in
+      let h = subst (λ (y : Stage). InOrder y s b) at o in
+      record { late = subst Late (sym at) late_tables; shape = h.0; txns = ap (λ (c : Body). c.txns) h.1; ops = ap (λ (c : Body). c.ops) h.1; stints = ap (λ (c : Body). c.stints) h.1 })
   | inr x ↦ (
-    let at = at_is st Rows x in
-    let h = subst (λ (y : Stage). InOrder y s b) at o in
-    record { late = subst Late (sym at) late_rows; shape = h.0; txns = h.1; ops = h.2; stints = h.3 })
+      let at = at_is st Rows x in
+      let h = subst (λ (y : Stage). InOrder y s b) at o in
+      record { late = subst Late (sym at) late_rows; shape = h.0; txns = h.1; ops = h.2; stints = h.3 })
 ]
 
 pub record BeforeTxn (st : Stage) (s : Shape) (b : Body) : Type 0 where
@@ -96,9 +94,9 @@ pub before_txn : (st : Stage) (s : Shape) (b : Body) → is_loaded st ≡ true �
 before_txn st s b t o = elim (either (takes_row st) _ t) [
   | inl x ↦ (let h = before_row st s b x o in record { late = h.late; shape = h.shape; ops = h.ops; stints = h.stints })
   | inr x ↦ (
-    let at = at_is st Between x in
-    let h = subst (λ (y : Stage). InOrder y s b) at o in
-    record { late = subst Late (sym at) late_between; shape = h.0; ops = h.1; stints = h.2 })
+      let at = at_is st Between x in
+      let h = subst (λ (y : Stage). InOrder y s b) at o in
+      record { late = subst Late (sym at) late_between; shape = h.0; ops = h.1; stints = h.2 })
 ]
 
 pub record BeforeTurns (st : Stage) (s : Shape) (b : Body) : Type 0 where
@@ -110,9 +108,9 @@ pub before_turns : (st : Stage) (s : Shape) (b : Body) → takes_turns st ≡ tr
 before_turns st s b t o = elim (either (is_loaded st) _ t) [
   | inl x ↦ (let h = before_txn st s b x o in record { late = h.late; shape = h.shape; ops = h.ops })
   | inr x ↦ (
-    let at = at_is st Turns x in
-    let h = subst (λ (y : Stage). InOrder y s b) at o in
-    record { late = subst Late (sym at) late_turns; shape = h.0; ops = h.1 })
+      let at = at_is st Turns x in
+      let h = subst (λ (y : Stage). InOrder y s b) at o in
+      record { late = subst Late (sym at) late_turns; shape = h.0; ops = h.1 })
 ]
 
 -- ---- limits

@@ -1,7 +1,6 @@
 -- A turn of the reader: one line is taken, and the others are left.
-use Rattle.std.proofs.Common.{◌≡◌, ℕ, ◌+◌, Bool, true, false, cond, ◌&&◌, eqb, List, [], ◌∷◌, length, Result, Ok, Err, refl, sym, ap, ◌∙◌}
-use Rattle.std.specs.List.{slice_split, onto_first}
-use Rattle.nam_script.specs.declared.refusal.Kind.{Kind}
+use Rattle.std.proofs.Common.{◌≡◌, ℕ, ◌+◌, Bool, true, false, cond, ◌&&◌, eqb, List, [], ◌∷◌, length, Ok, Err, refl}
+use Rattle.std.specs.List.{onto_first}
 use Rattle.nam_script.specs.declared.refusal.Kind.TheVariants as kind
 use Rattle.nam_script.specs.declared.refusal.LineEnd.{LineEnd}
 use Rattle.nam_script.specs.declared.refusal.LineEnd.TheVariants as line_ends
@@ -9,7 +8,7 @@ use Rattle.nam_script.specs.declared.draft.Draft.{Draft}
 use Rattle.nam_script.specs.Admit.{admit_text, Takes}
 use Rattle.nam_text.specs.Fields.{lines_of}
 use Rattle.nam_script.specs.Stages.{can_end}
-use Rattle.nam_script.specs.Parse.{Fault, draft_from, end_at, GivesDraft}
+use Rattle.nam_script.specs.Parse.{draft_from, end_at, GivesDraft}
 
 some_from : (b : Bool) (x : ℕ) (parts : List (List ℕ)) → (y : List ℕ) × (ys : List (List ℕ)) × (cond b ([] ∷ parts) (onto_first x parts) ≡ y ∷ ys)
 some_from true x parts = ([], parts, refl)

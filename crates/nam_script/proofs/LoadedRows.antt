@@ -1,8 +1,7 @@
 -- A row that is pushed: its key, and the number of its table's rows.
 use Rattle.std.proofs.Common.{◌≡◌, ℕ, zero, suc, ◌+◌, ◌<◌, length, get_or, inl, inr, subst, Bool, true, false, cond, eqb, ltb, not, ◌&&◌, ◌||◌, List, [], ◌∷◌, ◌++◌, refl, sym, ap, ◌∙◌, arith}
-use Rattle.std.specs.List.{list_any}
 use Rattle.std.specs.declared.cmp.Ordering.TheVariants as Ordering
-use Rattle.std.specs.Ordering.{nat_cmp, ordering_then, is_eq}
+use Rattle.std.specs.Ordering.{ordering_then, is_eq}
 use Rattle.std.proofs.lemmas.List.Folds.{list_any-append}
 use Rattle.std.proofs.lemmas.Bool.Decides.{nat_tests}
 use Rattle.std.proofs.lemmas.Bool.{cases_eq, eq-eqb, ne_eqb}
@@ -75,8 +74,8 @@ counts_push counts rows r n len small is known t lt =
     let was : n ≡ rows_in rows r.table = is ∙ any_default counts r.table n inside ∙ known r.table small in
     elim (cases_eq r.table t) [
       | inl e ↦ (
-        let same : eqb r.table t ≡ true = eq-eqb _ _ e in
-        subst (λ (u : ℕ). slice_index (slice_set counts r.table (n + 1)) u ≡ rows_in (rows ++ r ∷ []) u) e
+          let same : eqb r.table t ≡ true = eq-eqb _ _ e in
+          subst (λ (u : ℕ). slice_index (slice_set counts r.table (n + 1)) u ≡ rows_in (rows ++ r ∷ []) u) e
           (at_set counts r.table (n + 1) inside ∙ omega (arith, was, rows_in_push rows r r.table, bit_true (eqb r.table r.table) (eq-eqb _ _ refl))))
       | inr e ↦ (beside_set counts r.table t (n + 1) e ∙ known t lt ∙ omega (arith, rows_in_push rows r t, bit_false (eqb r.table t) (ne_eqb _ _ e)))
     ]

@@ -1,10 +1,8 @@
 -- Looking for a table by its name, one place after the other.
-use Rattle.std.proofs.Common.{◌≡◌, ℕ, suc, ◌+◌, ◌<◌, ◌≤◌, Bool, true, false, List, [], ◌∷◌, length, drop, get_or, Result, Ok, Err, refl, sym, ap, ◌∙◌, arith, add-one}
+use Rattle.std.proofs.Common.{◌≡◌, ℕ, suc, ◌+◌, ◌<◌, ◌≤◌, true, false, List, length, drop, get_or, Ok, Err, refl, sym, ap, ◌∙◌, add-one}
 use Rattle.std.proofs.Math.Seq.{drop-cons}
 use Rattle.std.specs.Str.{bytes_eq}
 use Rattle.nam_catalog.specs.declared.shape.Table.{Table}
-use Rattle.nam_script.specs.declared.checks.Found.{Found}
-use Rattle.nam_script.specs.declared.refusal.Kind.{Kind}
 use Rattle.nam_script.specs.declared.refusal.Kind.TheVariants as kind
 use Rattle.std.proofs.lemmas.List.{drop_all}
 use Rattle.nam_script.specs.Checks.{place_from}

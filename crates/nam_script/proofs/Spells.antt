@@ -1,15 +1,14 @@
 -- What is read as a line is spelt as that line.
-use Rattle.std.proofs.Common.{◌≡◌, ℕ, zero, suc, ◌+◌, ◌^◌, ◌<◌, ◌≤◌, Bool, true, false, cond, ◌&&◌, eqb, ltb, leb, List, [], ◌∷◌, ◌++◌, map, length, take, drop, Option, Some, None, refl, sym, ap, ◌∙◌, subst, arith, inl, inr}
+use Rattle.std.proofs.Common.{◌≡◌, ℕ, zero, suc, ◌+◌, ◌≤◌, Bool, true, false, cond, eqb, leb, List, [], ◌∷◌, ◌++◌, map, length, take, drop, Option, Some, None, refl, sym, ap, ◌∙◌, subst, arith}
 use Rattle.std.specs.Prelude.{codes}
-use Rattle.std.specs.List.{position, slice_split, join_with_byte}
+use Rattle.std.specs.List.{position}
 use Rattle.std.specs.Str.{bytes_eq}
 use Rattle.std.proofs.lemmas.Bool.{eqb-true, leb-true}
-use Rattle.std.proofs.lemmas.Option.{cond_some, same_Some}
+use Rattle.std.proofs.lemmas.Option.{same_Some}
 use Rattle.std.proofs.lemmas.Slice.Eq.{bytes_eq-Decides}
 use Rattle.nam_catalog.specs.declared.form.Form.{Form}
-use Rattle.nam_catalog.specs.declared.form.Form.TheVariants.{Narrow, Wide, Held}
-use Rattle.nam_text.specs.Token.{number, number_text, is_name}
-use Rattle.nam_text.specs.Read.{◌>>=◌, word_at, number_at, name_at}
+use Rattle.nam_text.specs.Token.{number, number_text}
+use Rattle.nam_text.specs.Read.{word_at, number_at, name_at}
 use Rattle.nam_text.proofs.Takes.{bind_then, if_then, IsSmall, word_takes, number_takes, number_at_takes, name_at_takes}
 use Rattle.nam_script.specs.declared.line.Change.{Change}
 use Rattle.nam_script.specs.declared.line.SpeltStint.{SpeltStint}
@@ -105,7 +104,7 @@ parted_takes f (Some star) s at e small =
     bind_then (number (take star f)) _ s e (λ n en e1.
     bind_then (number (drop (star + 1) f)) _ s e1 (λ m em e2.
     subst (λ (t : SpeltStint). StintIsSmall t → f ≡ spelt_stint_text t) (same_Some _ _ e2)
-      (λ h. at_star f star at ∙ ap (λ (g : List ℕ). g ++ 42 ∷ drop (star + 1) f) (number_takes _ n en h.0) ∙ ap (λ (g : List ℕ). number_text n ++ 42 ∷ g) (number_takes _ m em h.1)) small))
+    (λ h. at_star f star at ∙ ap (λ (g : List ℕ). g ++ 42 ∷ drop (star + 1) f) (number_takes _ n en h.0) ∙ ap (λ (g : List ℕ). number_text n ++ 42 ∷ g) (number_takes _ m em h.1)) small))
 
 abbrev pub AllStintsSmall : List SpeltStint → Type 0
 AllStintsSmall [] = Unit {0}
@@ -187,7 +186,7 @@ version_takes fs l e small =
     bind_then (word_at (codes "1") fs) _ l e (λ a ea e1.
     let z = last_takes _ _ _ e1 in
     subst (λ (m : Line). LineIsSmall m → IsRead (codes "namdb" ∷ fs) m) z.1
-      (λ s. (rw (word_takes (codes "1") fs a ea, z.0) refl, tt)) small)
+    (λ s. (rw (word_takes (codes "1") fs a ea, z.0) refl, tt)) small)
 
 header_takes : (fs : List (List ℕ)) (l : Line) → header_line fs ≡ Some l → LineIsSmall l → IsRead (codes "header" ∷ fs) l
 unfolding header_line fields
@@ -195,7 +194,7 @@ header_takes fs l e small =
     bind_then (form_at fs) _ l e (λ a ea e1.
     let z = last_takes _ _ _ e1 in
     subst (λ (m : Line). LineIsSmall m → IsRead (codes "header" ∷ fs) m) z.1
-      (λ s. (rw (form_at_takes fs a ea, z.0) refl, tt)) small)
+    (λ s. (rw (form_at_takes fs a ea, z.0) refl, tt)) small)
 
 workers_takes : (fs : List (List ℕ)) (l : Line) → workers_line fs ≡ Some l → LineIsSmall l → IsRead (codes "workers" ∷ fs) l
 unfolding workers_line fields
@@ -203,7 +202,7 @@ workers_takes fs l e small =
     bind_then (number_at fs) _ l e (λ a ea e1.
     let z = last_takes _ _ _ e1 in
     subst (λ (m : Line). LineIsSmall m → IsRead (codes "workers" ∷ fs) m) z.1
-      (λ s. (rw (number_at_takes fs a ea s, z.0) refl, tt)) small)
+    (λ s. (rw (number_at_takes fs a ea s, z.0) refl, tt)) small)
 
 tries_takes : (fs : List (List ℕ)) (l : Line) → tries_line fs ≡ Some l → LineIsSmall l → IsRead (codes "tries" ∷ fs) l
 unfolding tries_line fields
@@ -211,7 +210,7 @@ tries_takes fs l e small =
     bind_then (number_at fs) _ l e (λ a ea e1.
     let z = last_takes _ _ _ e1 in
     subst (λ (m : Line). LineIsSmall m → IsRead (codes "tries" ∷ fs) m) z.1
-      (λ s. (rw (number_at_takes fs a ea s, z.0) refl, tt)) small)
+    (λ s. (rw (number_at_takes fs a ea s, z.0) refl, tt)) small)
 
 tidy_takes : (fs : List (List ℕ)) (l : Line) → tidy_line fs ≡ Some l → LineIsSmall l → IsRead (codes "tidy" ∷ fs) l
 unfolding tidy_line fields
@@ -219,7 +218,7 @@ tidy_takes fs l e small =
     bind_then (switch_at fs) _ l e (λ a ea e1.
     let z = last_takes _ _ _ e1 in
     subst (λ (m : Line). LineIsSmall m → IsRead (codes "tidy" ∷ fs) m) z.1
-      (λ s. (rw (switch_at_takes fs a ea, z.0) refl, tt)) small)
+    (λ s. (rw (switch_at_takes fs a ea, z.0) refl, tt)) small)
 
 start_takes : (fs : List (List ℕ)) (l : Line) → start_line fs ≡ Some l → LineIsSmall l → IsRead (codes "start" ∷ fs) l
 unfolding start_line fields
@@ -227,7 +226,7 @@ start_takes fs l e small =
     bind_then (number_at fs) _ l e (λ a ea e1.
     let z = last_takes _ _ _ e1 in
     subst (λ (m : Line). LineIsSmall m → IsRead (codes "start" ∷ fs) m) z.1
-      (λ s. (rw (number_at_takes fs a ea s, z.0) refl, tt)) small)
+    (λ s. (rw (number_at_takes fs a ea s, z.0) refl, tt)) small)
 
 overflow_takes : (fs : List (List ℕ)) (l : Line) → overflow_line fs ≡ Some l → LineIsSmall l → IsRead (codes "overflow" ∷ fs) l
 unfolding overflow_line fields
@@ -236,7 +235,7 @@ overflow_takes fs l e small =
     bind_then (number_at a.1) _ l e1 (λ b eb e2.
     let z = last_takes _ _ _ e2 in
     subst (λ (m : Line). LineIsSmall m → IsRead (codes "overflow" ∷ fs) m) z.1
-      (λ s. (rw (number_at_takes fs a ea s.0, number_at_takes a.1 b eb s.1, z.0) refl, tt)) small))
+    (λ s. (rw (number_at_takes fs a ea s.0, number_at_takes a.1 b eb s.1, z.0) refl, tt)) small))
 
 table_takes : (fs : List (List ℕ)) (l : Line) → table_line fs ≡ Some l → LineIsSmall l → IsRead (codes "table" ∷ fs) l
 unfolding table_line fields
@@ -250,7 +249,7 @@ table_takes fs l e small =
     bind_then (number_at h) _ l e6 (λ i ei e7.
     let z = last_takes _ _ _ e7 in
     subst (λ (m : Line). LineIsSmall m → IsRead (codes "table" ∷ fs) m) z.1
-      (λ s. (rw ((name_at_takes fs a ea).0, word_takes (codes "width") a.1 b eb, number_at_takes b c ec s.0, word_takes (codes "capacity") c.1 d ed, number_at_takes d g eg s.1, word_takes (codes "ring") g.1 h eh, number_at_takes h i ei s.2, z.0) refl, tt)) small)))))))
+    (λ s. (rw ((name_at_takes fs a ea).0, word_takes (codes "width") a.1 b eb, number_at_takes b c ec s.0, word_takes (codes "capacity") c.1 d ed, number_at_takes d g eg s.1, word_takes (codes "ring") g.1 h eh, number_at_takes h i ei s.2, z.0) refl, tt)) small)))))))
 
 row_takes : (fs : List (List ℕ)) (l : Line) → row_line fs ≡ Some l → LineIsSmall l → IsRead (codes "row" ∷ fs) l
 unfolding row_line fields
@@ -259,7 +258,7 @@ row_takes fs l e small =
     bind_then (number_at a.1) _ l e1 (λ b eb e2.
     bind_then (values_at b.1) _ l e2 (λ c ec e3.
     subst (λ (m : Line). LineIsSmall m → IsRead (codes "row" ∷ fs) m) (same_Some _ _ e3)
-      (λ s. (rw ((name_at_takes fs a ea).0, number_at_takes a.1 b eb s.0, values_take b.1 c ec s.1) refl, tt)) small)))
+    (λ s. (rw ((name_at_takes fs a ea).0, number_at_takes a.1 b eb s.0, values_take b.1 c ec s.1) refl, tt)) small)))
 
 txn_takes : (fs : List (List ℕ)) (l : Line) → txn_line fs ≡ Some l → LineIsSmall l → IsRead (codes "txn" ∷ fs) l
 unfolding txn_line fields
@@ -267,7 +266,7 @@ txn_takes fs l e small =
     bind_then (number_at fs) _ l e (λ a ea e1.
     let z = last_takes _ _ _ e1 in
     subst (λ (m : Line). LineIsSmall m → IsRead (codes "txn" ∷ fs) m) z.1
-      (λ s. (rw (number_at_takes fs a ea s, z.0) refl, tt)) small)
+    (λ s. (rw (number_at_takes fs a ea s, z.0) refl, tt)) small)
 
 get_takes : (fs : List (List ℕ)) (l : Line) → get_line fs ≡ Some l → LineIsSmall l → IsRead (codes "get" ∷ fs) l
 unfolding get_line fields
@@ -276,7 +275,7 @@ get_takes fs l e small =
     bind_then (number_at a.1) _ l e1 (λ b eb e2.
     let z = last_takes _ _ _ e2 in
     subst (λ (m : Line). LineIsSmall m → IsRead (codes "get" ∷ fs) m) z.1
-      (λ s. (rw ((name_at_takes fs a ea).0, number_at_takes a.1 b eb s, z.0) refl, tt)) small))
+    (λ s. (rw ((name_at_takes fs a ea).0, number_at_takes a.1 b eb s, z.0) refl, tt)) small))
 
 put_takes : (fs : List (List ℕ)) (l : Line) → put_line fs ≡ Some l → LineIsSmall l → IsRead (codes "put" ∷ fs) l
 unfolding put_line fields
@@ -285,7 +284,7 @@ put_takes fs l e small =
     bind_then (number_at a.1) _ l e1 (λ b eb e2.
     bind_then (values_at b.1) _ l e2 (λ c ec e3.
     subst (λ (m : Line). LineIsSmall m → IsRead (codes "put" ∷ fs) m) (same_Some _ _ e3)
-      (λ s. (rw ((name_at_takes fs a ea).0, number_at_takes a.1 b eb s.0, values_take b.1 c ec s.1) refl, tt)) small)))
+    (λ s. (rw ((name_at_takes fs a ea).0, number_at_takes a.1 b eb s.0, values_take b.1 c ec s.1) refl, tt)) small)))
 
 add_takes : (fs : List (List ℕ)) (l : Line) → add_line fs ≡ Some l → LineIsSmall l → IsRead (codes "add" ∷ fs) l
 unfolding add_line fields
@@ -296,7 +295,7 @@ add_takes fs l e small =
     bind_then (change_at c.1) _ l e3 (λ d ed e4.
     let z = last_takes _ _ _ e4 in
     subst (λ (m : Line). LineIsSmall m → IsRead (codes "add" ∷ fs) m) z.1
-      (λ s. (rw ((name_at_takes fs a ea).0, number_at_takes a.1 b eb s.0, number_at_takes b.1 c ec s.1, change_at_takes c.1 d ed s.2, z.0) refl, tt)) small))))
+    (λ s. (rw ((name_at_takes fs a ea).0, number_at_takes a.1 b eb s.0, number_at_takes b.1 c ec s.1, change_at_takes c.1 d ed s.2, z.0) refl, tt)) small))))
 
 del_takes : (fs : List (List ℕ)) (l : Line) → del_line fs ≡ Some l → LineIsSmall l → IsRead (codes "del" ∷ fs) l
 unfolding del_line fields
@@ -305,7 +304,7 @@ del_takes fs l e small =
     bind_then (number_at a.1) _ l e1 (λ b eb e2.
     let z = last_takes _ _ _ e2 in
     subst (λ (m : Line). LineIsSmall m → IsRead (codes "del" ∷ fs) m) z.1
-      (λ s. (rw ((name_at_takes fs a ea).0, number_at_takes a.1 b eb s, z.0) refl, tt)) small))
+    (λ s. (rw ((name_at_takes fs a ea).0, number_at_takes a.1 b eb s, z.0) refl, tt)) small))
 
 need_takes : (fs : List (List ℕ)) (l : Line) → need_line fs ≡ Some l → LineIsSmall l → IsRead (codes "need" ∷ fs) l
 unfolding need_line fields
@@ -316,7 +315,7 @@ need_takes fs l e small =
     bind_then (number_at c.1) _ l e3 (λ d ed e4.
     let z = last_takes _ _ _ e4 in
     subst (λ (m : Line). LineIsSmall m → IsRead (codes "need" ∷ fs) m) z.1
-      (λ s. (rw ((name_at_takes fs a ea).0, number_at_takes a.1 b eb s.0, number_at_takes b.1 c ec s.1, number_at_takes c.1 d ed s.2, z.0) refl, tt)) small))))
+    (λ s. (rw ((name_at_takes fs a ea).0, number_at_takes a.1 b eb s.0, number_at_takes b.1 c ec s.1, number_at_takes c.1 d ed s.2, z.0) refl, tt)) small))))
 
 guard_takes : (fs : List (List ℕ)) (l : Line) → guard_line fs ≡ Some l → LineIsSmall l → IsRead (codes "guard" ∷ fs) l
 unfolding guard_line fields
@@ -325,7 +324,7 @@ guard_takes fs l e small =
     bind_then (number_at a.1) _ l e1 (λ b eb e2.
     let z = last_takes _ _ _ e2 in
     subst (λ (m : Line). LineIsSmall m → IsRead (codes "guard" ∷ fs) m) z.1
-      (λ s. (rw ((name_at_takes fs a ea).0, number_at_takes a.1 b eb s, z.0) refl, tt)) small))
+    (λ s. (rw ((name_at_takes fs a ea).0, number_at_takes a.1 b eb s, z.0) refl, tt)) small))
 
 scan_takes : (fs : List (List ℕ)) (l : Line) → scan_line fs ≡ Some l → LineIsSmall l → IsRead (codes "scan" ∷ fs) l
 unfolding scan_line fields
@@ -335,14 +334,14 @@ scan_takes fs l e small =
     bind_then (number_at b.1) _ l e2 (λ c ec e3.
     let z = last_takes _ _ _ e3 in
     subst (λ (m : Line). LineIsSmall m → IsRead (codes "scan" ∷ fs) m) z.1
-      (λ s. (rw ((name_at_takes fs a ea).0, number_at_takes a.1 b eb s.0, number_at_takes b.1 c ec s.1, z.0) refl, tt)) small)))
+    (λ s. (rw ((name_at_takes fs a ea).0, number_at_takes a.1 b eb s.0, number_at_takes b.1 c ec s.1, z.0) refl, tt)) small)))
 
 turns_takes : (fs : List (List ℕ)) (l : Line) → turns_line fs ≡ Some l → LineIsSmall l → IsRead (codes "turns" ∷ fs) l
 unfolding turns_line fields
 turns_takes fs l e small =
     bind_then (stints_at fs) _ l e (λ a ea e1.
     subst (λ (m : Line). LineIsSmall m → IsRead (codes "turns" ∷ fs) m) (same_Some _ _ e1)
-      (λ s. (rw (stints_take fs a ea s) refl, stints_short fs a ea)) small)
+    (λ s. (rw (stints_take fs a ea s) refl, stints_short fs a ea)) small)
 
 seed_takes : (fs : List (List ℕ)) (l : Line) → seed_line fs ≡ Some l → LineIsSmall l → IsRead (codes "seed" ∷ fs) l
 unfolding seed_line fields
@@ -351,7 +350,7 @@ seed_takes fs l e small =
     bind_then (number_at a.1) _ l e1 (λ b eb e2.
     let z = last_takes _ _ _ e2 in
     subst (λ (m : Line). LineIsSmall m → IsRead (codes "seed" ∷ fs) m) z.1
-      (λ s. (rw (number_at_takes fs a ea s.0, number_at_takes a.1 b eb s.1, z.0) refl, tt)) small))
+    (λ s. (rw (number_at_takes fs a ea s.0, number_at_takes a.1 b eb s.1, z.0) refl, tt)) small))
 
 end_takes : (fs : List (List ℕ)) (l : Line) → last End fs ≡ Some l → LineIsSmall l → IsRead (codes "end" ∷ fs) l
 unfolding fields

@@ -1,8 +1,8 @@
 -- A line that is admitted is the next of the draft's lines, and the lines keep to their limits.
-use Rattle.std.proofs.Common.{◌≡◌, ℕ, zero, suc, ◌+◌, ◌-◌, ◌^◌, ◌<◌, ◌≤◌, Bool, true, false, cond, ◌&&◌, ◌||◌, eqb, ltb, leb, not, List, [], ◌∷◌, ◌++◌, map, length, take, Option, Some, None, Result, Ok, Err, refl, sym, ap, ◌∙◌, subst, arith, append_assoc, length-append}
-use Rattle.std.specs.Prelude.{is_some, is_ok, slice_index}
+use Rattle.std.proofs.Common.{◌≡◌, ℕ, zero, suc, ◌+◌, ◌<◌, ◌≤◌, Bool, true, false, cond, ltb, not, List, [], ◌∷◌, ◌++◌, map, length, take, Option, Some, None, Ok, refl, sym, ap, ◌∙◌, subst, arith, length-append}
+use Rattle.std.specs.Prelude.{is_some, slice_index}
 use Rattle.std.specs.List.{AllByRecursion, flat_map}
-use Rattle.std.proofs.lemmas.Bool.{and_parts, leb-true, ltb-true, eqb-true}
+use Rattle.std.proofs.lemmas.Bool.{ltb-true}
 use Rattle.std.proofs.lemmas.List.{append-nil, take_all, length-map}
 use Rattle.std.proofs.lemmas.List.Elements.{recursion_from_All}
 use Rattle.std.proofs.lemmas.Grind.{flat_map-append}
@@ -14,14 +14,10 @@ use Rattle.nam_catalog.specs.declared.shape.Shape.{Shape}
 use Rattle.nam_catalog.specs.declared.shape.Table.{Table}
 use Rattle.nam_catalog.specs.declared.fault.ShapeFault.{ShapeFault}
 use Rattle.nam_catalog.specs.Fits.{FitsTable}
-use Rattle.nam_catalog.specs.Greatest.{greatest_number}
-use Rattle.nam_catalog.specs.Tables.{name_of, widths_of, capacities_of}
+use Rattle.nam_catalog.specs.Tables.{widths_of, capacities_of}
 use Rattle.nam_catalog.specs.Limits.{fault_of}
 use Rattle.nam_catalog.proofs.FitsLemmas.{fits_limits}
-use Rattle.nam_text.proofs.Takes.{IsSmall}
-use Rattle.nam_script.specs.declared.refusal.Kind.{Kind}
 use Rattle.nam_script.specs.declared.refusal.Kind.TheVariants as kind
-use Rattle.nam_script.specs.declared.line.Change.{Change}
 use Rattle.nam_script.specs.declared.line.Line.{Line}
 use Rattle.nam_script.specs.declared.line.Line.TheVariants as line
 use Rattle.nam_script.specs.declared.script.ScriptTxn.{ScriptTxn}
@@ -32,14 +28,14 @@ use Rattle.nam_script.specs.declared.draft.Draft.{Draft}
 use Rattle.nam_script.specs.declared.stage.Stage.{Stage}
 use Rattle.nam_script.specs.declared.stage.Stage.TheVariants as stage
 use Rattle.nam_script.specs.Stages.{rank, is_at, takes_table, takes_row, is_loaded, takes_turns}
-use Rattle.nam_script.specs.Checks.{◌>>=◌, must, within, small, all_small, key_of, all_stints, place_of, is_given, rows_in, op_cost, counted, claimed, steps_of}
-use Rattle.nam_script.specs.Admit.{no_body, is_held, with_table, push_op, admit}
-use Rattle.nam_script.specs.Limits.{IsKey, RowsFit, OpHasKeys, OpsFit, TxnFits, StintFits}
-use Rattle.nam_script.specs.Spelling.{somes, spelt, setting_lines, table_line, row_line, op_line, txn_lines, turns_line, open_lines, seed_lines, lines_of_draft}
-use Rattle.nam_script.proofs.Spells.{AllSmall, AllStintsSmall, LineIsSmall, IsShort}
-use Rattle.nam_script.proofs.Chains.{ok_then, must_then, same_Ok, IsWithin, within_fits, counted_is, all_small_is, all_stints_are, IsFound, found_is, at_is}
+use Rattle.nam_script.specs.Checks.{small, op_cost, counted, claimed, steps_of}
+use Rattle.nam_script.specs.Admit.{no_body, is_held, with_table, push_op}
+use Rattle.nam_script.specs.Limits.{RowsFit, OpHasKeys, TxnFits, StintFits}
+use Rattle.nam_script.specs.Spelling.{somes, spelt, setting_lines, table_line, row_line, op_line, turns_line, lines_of_draft}
+use Rattle.nam_script.proofs.Spells.{AllSmall, AllStintsSmall, LineIsSmall}
+use Rattle.nam_script.proofs.Chains.{ok_then, must_then, same_Ok, counted_is, IsFound, at_is}
 use Rattle.nam_script.proofs.Concat.{joined, same_parts, setting_more, table_more, row_more, txn_more, op_more, end_more, turns_more, seed_more}
-use Rattle.nam_script.proofs.Kept.{InOrder, Late, late_tables, late_rows, late_between, late_turns, before_table, before_row, before_txn, before_turns, opened, Kept, bare_kept, absent_worker, all_more, all_both, distinct_more, rows_in_more, loaded_at, keys_more, with_key, claimed_is, ops_cost_more, txns_cost_more, steps_both}
+use Rattle.nam_script.proofs.Kept.{InOrder, Late, late_rows, late_between, late_turns, before_table, before_row, before_txn, before_turns, opened, Kept, bare_kept, absent_worker, all_more, all_both, keys_more, with_key, claimed_is, ops_cost_more, txns_cost_more, steps_both}
 
 -- the stints in groups of 1 to 64
 abbrev pub AreGroups : List (List Stint) → List Stint → Type 0
@@ -93,8 +89,8 @@ late_parts d gs fs xs late ex eg =
 pub open_parts : (d : Draft) (gs fs : List (List Stint)) → d.stage ≡ stage.Open → gs ≡ fs → lines_of_draft d gs ≡ joined (setting_lines d.shape d.policy) d.shape.tables d.body.rows d.body.txns (line.Txn (Some d.body.worker) ∷ map (op_line d.shape.tables) d.body.ops) fs []
 open_parts d gs fs at eg =
     same_parts _ _ d.shape.tables _ d.body.rows _ d.body.txns _ (line.Txn (Some d.body.worker) ∷ map (op_line d.shape.tables) d.body.ops) gs fs _ []
-      (late_settings d (subst (λ (y : Stage). 7 ≤ rank y) (sym at) (omega arith))) refl refl
-      (if_some _ _ (ap (λ (y : Stage). is_at y stage.Open) at)) eg (if_none _ _ (ap (λ (y : Stage). is_at y stage.Seed) at))
+    (late_settings d (subst (λ (y : Stage). 7 ≤ rank y) (sym at) (omega arith))) refl refl
+    (if_some _ _ (ap (λ (y : Stage). is_at y stage.Open) at)) eg (if_none _ _ (ap (λ (y : Stage). is_at y stage.Seed) at))
 
 -- ---- settings
 
@@ -105,15 +101,15 @@ setting_follows d e l h st at et eb closed unpicked closed' unpicked' same_ts sa
     record {
       small = small;
       told = λ gs a.
-        let eg = no_groups gs d.body.stints a (ap (λ (b : Body). b.stints) eb) in
-        let start = ap (λ (y : Stage). take (rank y) (setting_lines d.shape d.policy)) at ∙ before in
-        let was = bare_parts d gs h start eb (ap (λ (y : Stage). is_at y stage.Open) at ∙ closed) (ap (λ (y : Stage). is_at y stage.Seed) at ∙ unpicked) eg ∙ ap (λ (ts : List Table). joined h ts [] [] [] [] []) et in
-        let is = bare_parts e gs (h ++ l ∷ []) after eb' closed' unpicked' eg ∙ ap (λ (ts : List Table). joined (h ++ l ∷ []) ts [] [] [] [] []) et' in
-        record {
-          groups = gs;
-          are = (a.0 ∙ ap (λ (b : Body). b.stints) (sym same_b), a.1);
-          lines = is ∙ setting_more h l ∙ ap (λ (x : List Line). x ++ l ∷ []) (sym was);
-        };
+          let eg = no_groups gs d.body.stints a (ap (λ (b : Body). b.stints) eb) in
+          let start = ap (λ (y : Stage). take (rank y) (setting_lines d.shape d.policy)) at ∙ before in
+          let was = bare_parts d gs h start eb (ap (λ (y : Stage). is_at y stage.Open) at ∙ closed) (ap (λ (y : Stage). is_at y stage.Seed) at ∙ unpicked) eg ∙ ap (λ (ts : List Table). joined h ts [] [] [] [] []) et in
+          let is = bare_parts e gs (h ++ l ∷ []) after eb' closed' unpicked' eg ∙ ap (λ (ts : List Table). joined (h ++ l ∷ []) ts [] [] [] [] []) et' in
+          record {
+            groups = gs;
+            are = (a.0 ∙ ap (λ (b : Body). b.stints) (sym same_b), a.1);
+            lines = is ∙ setting_more h l ∙ ap (λ (x : List Line). x ++ l ∷ []) (sym was);
+          };
       stands = record {
         order = order et' eb';
         kept = subst (λ (b : Body). Kept e.stage e.shape b) (sym eb') (bare_kept e.stage e.shape (omega (arith, ap length et')) (subst (λ (ts : List Table). AllByRecursion FitsTable ts) (sym et') tt) form closed');
@@ -138,14 +134,14 @@ table_follows d e t l s y few good is spelt small =
     let made : Follows d (table_line t) next = record {
       small = subst LineIsSmall (sym spelt) small;
       told = λ gs a.
-        let eg = no_groups gs d.body.stints a (ap (λ (b : Body). b.stints) b.body) in
-        record {
-          groups = gs;
-          are = a;
-          lines = bare_parts next gs (setting_lines d.shape d.policy) refl b.body refl refl eg
-            ∙ table_more (setting_lines d.shape d.policy) d.shape.tables t
-            ∙ ap (λ (x : List Line). x ++ table_line t ∷ []) (sym (bare_parts d gs (setting_lines d.shape d.policy) (late_settings d b.late.full) b.body b.late.closed b.late.unpicked eg));
-        };
+          let eg = no_groups gs d.body.stints a (ap (λ (b : Body). b.stints) b.body) in
+          record {
+            groups = gs;
+            are = a;
+            lines = bare_parts next gs (setting_lines d.shape d.policy) refl b.body refl refl eg
+                ∙ table_more (setting_lines d.shape d.policy) d.shape.tables t
+                ∙ ap (λ (x : List Line). x ++ table_line t ∷ []) (sym (bare_parts d gs (setting_lines d.shape d.policy) (late_settings d b.late.full) b.body b.late.closed b.late.unpicked eg));
+          };
       stands = record {
         order = (good, b.body);
         kept = subst (λ (b : Body). Kept stage.Tables (with_table d.shape t) b) (sym b.body) (bare_kept stage.Tables (with_table d.shape t) (omega (arith, length-append d.shape.tables (t ∷ []))) (recursion_from_All FitsTable (d.shape.tables ++ t ∷ []) (fits_limits (with_table d.shape t) good).tables) s.kept.form refl);
@@ -162,23 +158,32 @@ row_follows d r s y fit small =
     record {
       small = small;
       told = λ gs a.
-        let eg = no_groups gs d.body.stints a b.stints in
-        record {
-          groups = gs;
-          are = a;
-          lines = late_parts next gs [] [] late_rows b.txns eg
-            ∙ row_more (setting_lines d.shape d.policy) d.shape.tables d.body.rows r
-            ∙ ap (λ (x : List Line). x ++ row_line d.shape.tables r ∷ []) (sym (late_parts d gs [] [] b.late b.txns eg));
-        };
+          let eg = no_groups gs d.body.stints a b.stints in
+          record {
+            groups = gs;
+            are = a;
+            lines = late_parts next gs [] [] late_rows b.txns eg
+                ∙ row_more (setting_lines d.shape d.policy) d.shape.tables d.body.rows r
+                ∙ ap (λ (x : List Line). x ++ row_line d.shape.tables r ∷ []) (sym (late_parts d gs [] [] b.late b.txns eg));
+          };
       stands = record {
         order = (b.shape, b.txns, b.ops, b.stints);
         kept = record {
-          few_tables = k.few_tables; fit_tables = k.fit_tables; form = k.form; rows = fit;
+          few_tables = k.few_tables;
+          fit_tables = k.fit_tables;
+          form = k.form;
+          rows = fit;
           few = omega (arith, k.few);
           txns = k.txns;
           worker = λ t. absent_worker stage.Rows _ refl t;
-          ops = k.ops; keys = k.keys; cost = k.cost; most_cost = k.most_cost;
-          stints = k.stints; steps = k.steps; most_steps = k.most_steps; picks = k.picks;
+          ops = k.ops;
+          keys = k.keys;
+          cost = k.cost;
+          most_cost = k.most_cost;
+          stints = k.stints;
+          steps = k.steps;
+          most_steps = k.most_steps;
+          picks = k.picks;
         };
         tries = s.tries;
       };
@@ -192,25 +197,34 @@ txn_follows d w s y range few =
     record {
       small = tt;
       told = λ gs a.
-        let eg = no_groups gs d.body.stints a b.stints in
-        let h = setting_lines d.shape d.policy in
-        record {
-          groups = gs;
-          are = a;
-          lines = open_parts next gs [] refl eg
-            ∙ ap (λ (os : List Op). joined h d.shape.tables d.body.rows d.body.txns (line.Txn (Some w) ∷ map (op_line d.shape.tables) os) [] []) b.ops
-            ∙ txn_more h d.shape.tables d.body.rows d.body.txns w
-            ∙ ap (λ (x : List Line). x ++ line.Txn (Some w) ∷ []) (sym (late_parts d gs [] d.body.txns b.late refl eg));
-        };
+          let eg = no_groups gs d.body.stints a b.stints in
+          let h = setting_lines d.shape d.policy in
+          record {
+            groups = gs;
+            are = a;
+            lines = open_parts next gs [] refl eg
+                ∙ ap (λ (os : List Op). joined h d.shape.tables d.body.rows d.body.txns (line.Txn (Some w) ∷ map (op_line d.shape.tables) os) [] []) b.ops
+                ∙ txn_more h d.shape.tables d.body.rows d.body.txns w
+                ∙ ap (λ (x : List Line). x ++ line.Txn (Some w) ∷ []) (sym (late_parts d gs [] d.body.txns b.late refl eg));
+          };
       stands = record {
         order = (b.shape, b.stints);
         kept = record {
-          few_tables = k.few_tables; fit_tables = k.fit_tables; form = k.form; rows = k.rows;
+          few_tables = k.few_tables;
+          fit_tables = k.fit_tables;
+          form = k.form;
+          rows = k.rows;
           few = omega (arith, few);
           txns = k.txns;
           worker = λ t. range;
-          ops = k.ops; keys = k.keys; cost = k.cost; most_cost = k.most_cost;
-          stints = k.stints; steps = k.steps; most_steps = k.most_steps; picks = k.picks;
+          ops = k.ops;
+          keys = k.keys;
+          cost = k.cost;
+          most_cost = k.most_cost;
+          stints = k.stints;
+          steps = k.steps;
+          most_steps = k.most_steps;
+          picks = k.picks;
         };
         tries = s.tries;
       };
@@ -261,18 +275,24 @@ pushes d o cost e l s y given fit has costs spelt =
     let made : Follows d (op_line d.shape.tables o) next = record {
       small = op_small d.shape.tables o;
       told = λ gs a.
-        let eg = no_groups gs d.body.stints a order.1 in
-        record {
-          groups = gs;
-          are = a;
-          lines = open_parts next gs [] at eg
-            ∙ op_more (setting_lines d.shape d.policy) d.shape.tables d.body.rows d.body.txns d.body.worker d.body.ops o
-            ∙ ap (λ (x : List Line). x ++ op_line d.shape.tables o ∷ []) (sym (open_parts d gs [] at eg));
-        };
+          let eg = no_groups gs d.body.stints a order.1 in
+          record {
+            groups = gs;
+            are = a;
+            lines = open_parts next gs [] at eg
+                ∙ op_more (setting_lines d.shape d.policy) d.shape.tables d.body.rows d.body.txns d.body.worker d.body.ops o
+                ∙ ap (λ (x : List Line). x ++ op_line d.shape.tables o ∷ []) (sym (open_parts d gs [] at eg));
+          };
       stands = record {
         order = subst (λ (y : Stage). InOrder y d.shape next.body) (sym at) (order.0, order.1);
         kept = record {
-          few_tables = k.few_tables; fit_tables = k.fit_tables; form = k.form; rows = k.rows; few = k.few; txns = k.txns; worker = k.worker;
+          few_tables = k.few_tables;
+          fit_tables = k.fit_tables;
+          form = k.form;
+          rows = k.rows;
+          few = k.few;
+          txns = k.txns;
+          worker = k.worker;
           ops = record {
             fit = all_more (OpFits (widths_of d.shape.tables)) d.body.ops o k.ops.fit fit;
             keys = all_more OpHasKeys d.body.ops o k.ops.keys has;
@@ -282,7 +302,10 @@ pushes d o cost e l s y given fit has costs spelt =
           keys = keyed;
           cost = omega (arith, c.0, k.cost, costs, ops_cost_more (capacities_of d.shape.tables) d.body.ops o);
           most_cost = c.1;
-          stints = k.stints; steps = k.steps; most_steps = k.most_steps; picks = k.picks;
+          stints = k.stints;
+          steps = k.steps;
+          most_steps = k.most_steps;
+          picks = k.picks;
         };
         tries = s.tries;
       };
@@ -299,18 +322,21 @@ end_follows d s y some =
     record {
       small = tt;
       told = λ gs a.
-        let eg = no_groups gs d.body.stints a order.1 in
-        record {
-          groups = gs;
-          are = a;
-          lines = late_parts next gs [] (d.body.txns ++ x ∷ []) late_between refl eg
-            ∙ end_more (setting_lines d.shape d.policy) d.shape.tables d.body.rows d.body.txns d.body.worker d.body.ops
-            ∙ ap (λ (z : List Line). z ++ line.End ∷ []) (sym (open_parts d gs [] at eg));
-        };
+          let eg = no_groups gs d.body.stints a order.1 in
+          record {
+            groups = gs;
+            are = a;
+            lines = late_parts next gs [] (d.body.txns ++ x ∷ []) late_between refl eg
+                ∙ end_more (setting_lines d.shape d.policy) d.shape.tables d.body.rows d.body.txns d.body.worker d.body.ops
+                ∙ ap (λ (z : List Line). z ++ line.End ∷ []) (sym (open_parts d gs [] at eg));
+          };
       stands = record {
         order = (order.0, refl, order.1);
         kept = record {
-          few_tables = k.few_tables; fit_tables = k.fit_tables; form = k.form; rows = k.rows;
+          few_tables = k.few_tables;
+          fit_tables = k.fit_tables;
+          form = k.form;
+          rows = k.rows;
           few = omega (arith, k.few, ap opened at, length-append d.body.txns (x ∷ []));
           txns = all_more (TxnFits d.shape.workers d.shape.tables) d.body.txns x k.txns (record { worker = k.worker y; some = omega (arith, some); ops = k.ops });
           worker = λ t. absent_worker stage.Between _ refl t;
@@ -318,7 +344,10 @@ end_follows d s y some =
           keys = refl;
           cost = omega (arith, k.cost, txns_cost_more (capacities_of d.shape.tables) d.body.txns x);
           most_cost = k.most_cost;
-          stints = k.stints; steps = k.steps; most_steps = k.most_steps; picks = k.picks;
+          stints = k.stints;
+          steps = k.steps;
+          most_steps = k.most_steps;
+          picks = k.picks;
         };
         tries = s.tries;
       };
@@ -332,21 +361,27 @@ turns_follow d ms sum s y fit short is most =
     record {
       small = all_spelt ms;
       told = λ gs a.
-        record {
-          groups = gs ++ ms ∷ [];
-          are = (flat_map-append (λ g. g) gs (ms ∷ []) ∙ ap (λ (x : List Stint). flat_map (λ g. g) gs ++ x) (append-nil ms) ∙ ap (λ (x : List Stint). x ++ ms) a.0, all_more (λ g. (1 ≤ length g) × (length g ≤ 64)) gs ms a.1 short);
-          lines = late_parts next (gs ++ ms ∷ []) (gs ++ ms ∷ []) d.body.txns late_turns refl refl
-            ∙ turns_more (setting_lines d.shape d.policy) d.shape.tables d.body.rows d.body.txns gs ms
-            ∙ ap (λ (x : List Line). x ++ turns_line ms ∷ []) (sym (late_parts d gs gs d.body.txns b.late refl refl));
-        };
+          record {
+            groups = gs ++ ms ∷ [];
+            are = (flat_map-append (λ g. g) gs (ms ∷ []) ∙ ap (λ (x : List Stint). flat_map (λ g. g) gs ++ x) (append-nil ms) ∙ ap (λ (x : List Stint). x ++ ms) a.0, all_more (λ g. (1 ≤ length g) × (length g ≤ 64)) gs ms a.1 short);
+            lines = late_parts next (gs ++ ms ∷ []) (gs ++ ms ∷ []) d.body.txns late_turns refl refl
+                ∙ turns_more (setting_lines d.shape d.policy) d.shape.tables d.body.rows d.body.txns gs ms
+                ∙ ap (λ (x : List Line). x ++ turns_line ms ∷ []) (sym (late_parts d gs gs d.body.txns b.late refl refl));
+          };
       stands = record {
         order = (b.shape, b.ops);
         kept = record {
-          few_tables = k.few_tables; fit_tables = k.fit_tables; form = k.form; rows = k.rows;
+          few_tables = k.few_tables;
+          fit_tables = k.fit_tables;
+          form = k.form;
+          rows = k.rows;
           few = omega (arith, k.few);
           txns = k.txns;
           worker = λ t. absent_worker stage.Turns _ refl t;
-          ops = k.ops; keys = k.keys; cost = k.cost; most_cost = k.most_cost;
+          ops = k.ops;
+          keys = k.keys;
+          cost = k.cost;
+          most_cost = k.most_cost;
           stints = all_both (StintFits d.shape.workers) d.body.stints ms k.stints fit;
           steps = omega (arith, is, k.steps, steps_both d.body.stints ms);
           most_steps = most;
@@ -366,23 +401,31 @@ seed_follows d seed picks s y most =
     record {
       small = (tt, tt);
       told = λ gs a.
-        let eg = no_groups gs d.body.stints a b.stints in
-        record {
-          groups = gs;
-          are = a;
-          lines = same_parts _ h d.shape.tables _ d.body.rows _ d.body.txns _ [] gs [] _ (l ∷ []) refl refl refl refl eg refl
-            ∙ seed_more h d.shape.tables d.body.rows d.body.txns l
-            ∙ ap (λ (x : List Line). x ++ l ∷ []) (sym (late_parts d gs [] d.body.txns b.late refl eg));
-        };
+          let eg = no_groups gs d.body.stints a b.stints in
+          record {
+            groups = gs;
+            are = a;
+            lines = same_parts _ h d.shape.tables _ d.body.rows _ d.body.txns _ [] gs [] _ (l ∷ []) refl refl refl refl eg refl
+                ∙ seed_more h d.shape.tables d.body.rows d.body.txns l
+                ∙ ap (λ (x : List Line). x ++ l ∷ []) (sym (late_parts d gs [] d.body.txns b.late refl eg));
+          };
       stands = record {
         order = (b.shape, b.ops, b.stints);
         kept = record {
-          few_tables = k.few_tables; fit_tables = k.fit_tables; form = k.form; rows = k.rows;
+          few_tables = k.few_tables;
+          fit_tables = k.fit_tables;
+          form = k.form;
+          rows = k.rows;
           few = omega (arith, k.few);
           txns = k.txns;
           worker = λ t. absent_worker stage.Seed _ refl t;
-          ops = k.ops; keys = k.keys; cost = k.cost; most_cost = k.most_cost;
-          stints = k.stints; steps = k.steps; most_steps = k.most_steps;
+          ops = k.ops;
+          keys = k.keys;
+          cost = k.cost;
+          most_cost = k.most_cost;
+          stints = k.stints;
+          steps = k.steps;
+          most_steps = k.most_steps;
           picks = most;
         };
         tries = s.tries;

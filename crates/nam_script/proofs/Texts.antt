@@ -1,5 +1,5 @@
 -- What is read is the text of the draft, with its stints in groups.
-use Rattle.std.proofs.Common.{◌≡◌, ℕ, ◌+◌, ◌≤◌, Bool, true, false, cond, ◌&&◌, eqb, List, [], ◌∷◌, ◌++◌, map, length, Option, Some, None, Result, Ok, Err, refl, sym, ap, ◌∙◌, subst, append_assoc, arith, length-append}
+use Rattle.std.proofs.Common.{◌≡◌, ℕ, ◌+◌, true, ◌&&◌, eqb, List, [], ◌∷◌, ◌++◌, length, Option, Some, None, Result, Ok, Err, refl, sym, ap, ◌∙◌, subst, append_assoc, arith, length-append}
 use Rattle.std.specs.List.{flat_map, join_with_byte}
 use Rattle.std.proofs.lemmas.Bool.{and_parts, eqb-true}
 use Rattle.std.proofs.lemmas.List.{append-nil, nil_from_length}
@@ -8,22 +8,17 @@ use Rattle.std.proofs.lemmas.Grind.{flat_map-append}
 use Rattle.nam_text.specs.Fields.{fields_of, lines_of}
 use Rattle.nam_text.proofs.Takes.{if_then}
 use Rattle.nam_script.specs.declared.refusal.Kind.{Kind}
-use Rattle.nam_script.specs.declared.refusal.Kind.TheVariants as kind
-use Rattle.nam_script.specs.declared.line.SpeltStint.{SpeltStint}
 use Rattle.nam_script.specs.declared.line.Line.{Line}
-use Rattle.nam_script.specs.declared.line.Line.TheVariants as line
 use Rattle.nam_script.specs.declared.script.Stint.{Stint}
 use Rattle.nam_script.specs.declared.draft.Draft.{Draft}
-use Rattle.nam_script.specs.Stages.{can_end, takes_turns}
+use Rattle.nam_script.specs.Stages.{can_end}
 use Rattle.nam_script.specs.Lines.{line_of}
-use Rattle.nam_script.specs.Checks.{◌>>=◌, must, all_stints, counted, steps_of}
 use Rattle.nam_script.specs.Admit.{start, admit, admit_spelt, admit_text}
 use Rattle.nam_script.specs.Parse.{Fault, at_line, draft_from, draft_of}
-use Rattle.nam_script.specs.Spelling.{spelt, fields, line_text, text_of, lines_of_draft}
-use Rattle.nam_script.proofs.Spells.{LineIsSmall, AllStintsSmall, IsShort, line_takes, line_short}
-use Rattle.nam_script.proofs.Chains.{ok_then, must_then, all_stints_are}
+use Rattle.nam_script.specs.Spelling.{fields, line_text, text_of, lines_of_draft}
+use Rattle.nam_script.proofs.Spells.{line_takes, line_short}
 use Rattle.nam_script.proofs.Kept.{bare_kept}
-use Rattle.nam_script.proofs.Steps.{AreGroups, Told, Stands, Follows}
+use Rattle.nam_script.proofs.Steps.{AreGroups, Stands}
 use Rattle.nam_script.proofs.Admitted.{admitted}
 
 spelt_then : {P : Type 0} (d : Draft) (o : Option Line) (e : Draft) → admit_spelt d o ≡ Ok e → ((l : Line) → o ≡ Some l → admit d l ≡ Ok e → P) → P
@@ -78,7 +73,7 @@ draft_takes n d (text ∷ []) e gs s a given =
     let p = and_parts _ _ t in
     let empty : text ≡ [] = nil_from_length text (eqb-true _ _ p.0) in
     subst (λ (x : Draft). Taken x (text_of (lines_of_draft d gs) ++ text)) (same_draft d e e1)
-      (record { groups = gs; are = a; told = ap (λ (x : List ℕ). text_of (lines_of_draft d gs) ++ x) empty ∙ append-nil (text_of (lines_of_draft d gs)); stands = s; ends = p.1 }))
+    (record { groups = gs; are = a; told = ap (λ (x : List ℕ). text_of (lines_of_draft d gs) ++ x) empty ∙ append-nil (text_of (lines_of_draft d gs)); stands = s; ends = p.1 }))
     (λ _ e1. absurd cc)
 draft_takes n d (text ∷ next ∷ texts) e gs s a given =
     at_then n (admit_text d text) _ e given (λ c ec e1.

@@ -1,9 +1,9 @@
 -- The lines of a script are its text.
-use Rattle.std.proofs.Common.{◌≡◌, ℕ, zero, suc, ◌+◌, ◌≤◌, Bool, true, false, cond, List, [], ◌∷◌, ◌++◌, map, length, take, Some, refl, sym, ap, ◌∙◌, subst, append_assoc, ◌⊎◌, inl, inr, arith}
+use Rattle.std.proofs.Common.{◌≡◌, ℕ, Bool, true, false, cond, List, [], ◌∷◌, ◌++◌, map, Some, refl, sym, ap, ◌∙◌, append_assoc}
 use Rattle.std.specs.Prelude.{codes}
 use Rattle.std.specs.List.{flat_map, join_with_byte}
 use Rattle.std.specs.Fmt.{decimal}
-use Rattle.std.proofs.lemmas.List.{append-nil, take_all}
+use Rattle.std.proofs.lemmas.List.{append-nil}
 use Rattle.std.proofs.lemmas.Grind.{flat_map-append}
 use Rattle.si_model.specs.declared.row.Row.{Row}
 use Rattle.si_model.specs.declared.op.Op.{Op}
@@ -14,13 +14,10 @@ use Rattle.nam_catalog.specs.declared.shape.Table.{Table}
 use Rattle.nam_catalog.specs.Tables.{name_of}
 use Rattle.nam_text.specs.Token.{number_text}
 use Rattle.nam_text.specs.Value.{words_text}
-use Rattle.nam_script.specs.declared.line.Line.{Line}
 use Rattle.nam_script.specs.declared.line.Line.TheVariants as line
 use Rattle.nam_script.specs.declared.script.ScriptTxn.{ScriptTxn}
 use Rattle.nam_script.specs.declared.script.Stint.{Stint}
-use Rattle.nam_script.specs.declared.script.Turns.{Turns}
-use Rattle.nam_script.specs.declared.script.Turns.TheVariants as turns
-use Rattle.nam_script.specs.Text.{form_word, switch_word, opening_text, store_text, table_text, row_text, sign_text, op_text, txn_text, stint_text, group_text, grouped_turns}
+use Rattle.nam_script.specs.Text.{form_word, switch_word, opening_text, store_text, table_text, row_text, sign_text, op_text, txn_text, stint_text, group_text}
 use Rattle.nam_script.specs.Spelling.{somes, spelt, spelt_stint_text, fields, line_text, text_of, setting_lines, table_line, row_line, op_line, txn_lines, turns_line}
 
 -- a line more, ended by its newline
@@ -53,7 +50,7 @@ settings_are s p =
     ap (λ (r : List ℕ). codes "namdb 1\nheader " ++ r) (settings_right f w t o st b c)
     ∙ sym (opening_right (codes "namdb 1\nheader ") f (codes "\nworkers ") w (codes "\ntries ") t (codes "\n") (store_text s p)
     ∙ ap (λ (r : List ℕ). codes "namdb 1\nheader " ++ (f ++ (codes "\nworkers " ++ (w ++ (codes "\ntries " ++ (t ++ (codes "\n" ++ r)))))))
-        (store_right (codes "tidy ") o (codes "\nstart ") st (codes "\noverflow ") b (codes " ") c (codes "\n")))
+    (store_right (codes "tidy ") o (codes "\nstart ") st (codes "\noverflow ") b (codes " ") c (codes "\n")))
 
 table_is : (t : Table) → line_text (table_line t) ≡ table_text t
 unfolding fields

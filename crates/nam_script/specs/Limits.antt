@@ -1,5 +1,5 @@
 -- What the layers above need of a script.
-use Rattle.std.specs.Prelude.{ℕ, ◌+◌, ◌-◌, ◌^◌, ◌≡◌, ◌<◌, ◌≤◌, Bool, true, false, List, [], ◌∷◌, ◌++◌, length, slice_index, None, IsTrue}
+use Rattle.std.specs.Prelude.{ℕ, ◌-◌, ◌^◌, ◌≡◌, ◌<◌, ◌≤◌, false, List, [], ◌∷◌, length, slice_index, None}
 use Rattle.std.specs.List.{AllByRecursion}
 use Rattle.si_model.specs.declared.row.Row.{Row}
 use Rattle.si_model.specs.declared.op.Op.{Op}
@@ -7,7 +7,6 @@ use Rattle.si_model.specs.declared.op.Op.TheVariants.{Get, Put, Add, Del, Need, 
 use Rattle.si_model.specs.Rows.{same_key, row_key}
 use Rattle.si_model.specs.Evaluation.{IsTable, OpFits, key_claimed, keys_from}
 use Rattle.nam_catalog.specs.declared.shape.Table.{Table}
-use Rattle.nam_catalog.specs.Greatest.{greatest_number}
 use Rattle.nam_catalog.specs.Tables.{widths_of, capacities_of}
 use Rattle.nam_catalog.specs.Limits.{fault_of}
 use Rattle.nam_script.specs.declared.script.ScriptTxn.{ScriptTxn}
@@ -15,7 +14,7 @@ use Rattle.nam_script.specs.declared.script.Stint.{Stint}
 use Rattle.nam_script.specs.declared.script.Turns.{Turns}
 use Rattle.nam_script.specs.declared.script.Turns.TheVariants as turns
 use Rattle.nam_script.specs.declared.script.Script.{Script}
-use Rattle.nam_script.specs.Checks.{rows_in, ops_cost, txns_cost, steps_of}
+use Rattle.nam_script.specs.Checks.{rows_in, txns_cost, steps_of}
 use Rattle.nam_script.specs.Admit.{is_held}
 
 -- a key is at most 2^64 - 2

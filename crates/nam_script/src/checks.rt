@@ -155,7 +155,8 @@ fn key_claimed(op: &Op) -> Option<Key>
 fn has_key(keys: &[Key], key: Key) -> bool
     ensures { result ≡ has_key keys.now key }
 {
-    keys.iter().any(|other| other.table == key.table && other.key == key.key)
+    keys.iter()
+        .any(|other| other.table == key.table && other.key == key.key)
 }
 
 /// Notes the key that an operation writes or guards, each key once and 16 at the most.

@@ -98,7 +98,13 @@ impl Draft {
         self.push_op(op, 1)
     }
 
-    pub fn add(&mut self, table: TableName, key: Number, field: Number, change: Change) -> Result<(), LineEnd>
+    pub fn add(
+        &mut self,
+        table: TableName,
+        key: Number,
+        field: Number,
+        change: Change,
+    ) -> Result<(), LineEnd>
         ensures { Takes result self.new (admit_add self.old table key field change) }
     {
         if !self.stage.is_at(Stage::Open) {
@@ -133,7 +139,13 @@ impl Draft {
         self.push_op(op, 1)
     }
 
-    pub fn need(&mut self, table: TableName, key: Number, field: Number, least: Number) -> Result<(), LineEnd>
+    pub fn need(
+        &mut self,
+        table: TableName,
+        key: Number,
+        field: Number,
+        least: Number,
+    ) -> Result<(), LineEnd>
         ensures { Takes result self.new (admit_need self.old table key field least) }
     {
         if !self.stage.is_at(Stage::Open) {

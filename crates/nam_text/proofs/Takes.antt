@@ -61,7 +61,7 @@ number_at_takes [] x e small = absurd cc
 number_at_takes (f ∷ fs) x e small =
     bind_then (number f) _ x e (λ n en e1.
     subst (λ (y : Option ℕ × List (List ℕ)). IsSmall y.0 → f ∷ fs ≡ number_text y.0 ∷ y.1) (same_Some _ _ e1)
-      (λ s. ap (λ (g : List ℕ). g ∷ fs) (number_takes f n en s)) small)
+    (λ s. ap (λ (g : List ℕ). g ∷ fs) (number_takes f n en s)) small)
 
 pub name_at_takes : (fs : List (List ℕ)) (x : List ℕ × List (List ℕ)) → name_at fs ≡ Some x → (fs ≡ x.0 ∷ x.1) × (is_name x.0 ≡ true)
 unfolding name_at

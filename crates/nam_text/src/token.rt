@@ -53,9 +53,7 @@ pub fn number(field: &[u8]) -> Option<Number>
 fn all_name_bytes(field: &[u8]) -> bool
     ensures { result ≡ list_all is_name_byte field.now }
 {
-    field
-        .iter()
-        .all(|byte| byte.is_ascii_lowercase() || byte.is_ascii_digit() || *byte == b'_')
+    field.iter().all(|byte| byte.is_ascii_lowercase() || byte.is_ascii_digit() || *byte == b'_')
 }
 
 /// Is it 1 to 16 characters: a letter a to z, then letters, digits or underscores?

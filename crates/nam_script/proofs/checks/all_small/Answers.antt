@@ -1,4 +1,4 @@
-use Rattle.std.proofs.Common.{◌≡◌, ◌<◌, ◌+◌, ◌++◌, ◌∷◌, [], ℕ, length, sym, ap, ◌∙◌, refl, arith, length-append}
+use Rattle.std.proofs.Common.{ℕ, sym, arith, length-append}
 use Rattle.nam_script.proofs.CheckedValues.{at_front, word_more, word_fails, words_end}
 use Rattle.nam_script.proofs.checks.all_small.Goals as goal
 

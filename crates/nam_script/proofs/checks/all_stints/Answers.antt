@@ -1,4 +1,4 @@
-use Rattle.std.proofs.Common.{◌≡◌, ◌<◌, ◌+◌, ◌++◌, ◌∷◌, [], ℕ, length, sym, ap, ◌∙◌, refl, arith, length-append}
+use Rattle.std.proofs.Common.{sym, arith, length-append}
 use Rattle.nam_script.specs.declared.script.Stint.{Stint}
 use Rattle.nam_script.proofs.CheckedValues.{stint_at_front, stint_more, stint_fails, stints_end}
 use Rattle.nam_script.proofs.checks.all_stints.Goals as goal

@@ -1,4 +1,4 @@
-use Rattle.std.proofs.Common.{◌≡◌, ◌≤◌, length, drop}
+use Rattle.std.proofs.Common.{◌≡◌, length, drop}
 use Rattle.nam_script.specs.Checks.{all_stints}
 use Rattle.nam_script.proofs.CheckedValues.{after_stints}
 use Rattle.nam_script.proofs.checks.all_stints.Given as goal

@@ -1,5 +1,4 @@
-use Rattle.std.proofs.Common.{◌≡◌, ◌<◌, ◌+◌, ℕ, sym, ap, ◌∙◌, refl, arith}
-use Rattle.std.proofs.lemmas.Bool.{false_from_ne_true}
+use Rattle.std.proofs.Common.{sym, ◌∙◌}
 use Rattle.nam_script.proofs.Places.{another_name, that_name, no_name}
 use Rattle.nam_script.proofs.checks.place_of.Goals as goal
 

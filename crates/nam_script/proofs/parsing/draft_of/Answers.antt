@@ -1,8 +1,6 @@
-use Rattle.std.proofs.Common.{◌≡◌, ◌+◌, ◌≤◌, ◌&&◌, ℕ, Bool, true, false, eqb, List, ◌∷◌, length, Err, Ok, refl, sym, ap, ◌∙◌, subst, arith, cond}
-use Rattle.std.proofs.lemmas.Bool.{cond-true, cond-false}
-use Rattle.nam_text.specs.Fields.{lines_of}
+use Rattle.std.proofs.Common.{◌≡◌, ◌&&◌, true, false, eqb, length, refl, sym, ap, ◌∙◌, subst, arith}
 use Rattle.nam_script.specs.Stages.{can_end}
-use Rattle.nam_script.specs.Parse.{draft_from, draft_of, Fault}
+use Rattle.nam_script.specs.Parse.{draft_from, draft_of}
 use Rattle.nam_script.proofs.LineTurns.{goes_on, stops, no_more}
 use Rattle.nam_script.specs.declared.draft.Draft.{Draft}
 use Rattle.nam_script.proofs.Counting.{IsLine, first_line, next_line, line_most}

@@ -1,4 +1,4 @@
-use Rattle.std.proofs.Common.{◌≡◌, ◌≤◌, length}
+use Rattle.std.proofs.Common.{◌≡◌, length}
 use Rattle.nam_text.specs.Fields.{lines_of}
 use Rattle.nam_script.specs.Parse.{draft_from, draft_of}
 use Rattle.nam_script.proofs.Counting.{IsLine}

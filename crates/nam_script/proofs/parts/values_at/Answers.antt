@@ -1,6 +1,6 @@
-use Rattle.std.proofs.Common.{◌≡◌, ℕ, ◌++◌, ◌∷◌, [], List, length, cond, eqb, Option, Some, None, true, false, sym, ap, ◌∙◌, refl, arith}
+use Rattle.std.proofs.Common.{◌≡◌, length, eqb, true, false, sym, ◌∙◌, refl}
 use Rattle.std.proofs.lemmas.Bool.{eq-eqb, ne_eqb}
-use Rattle.nam_script.proofs.ReadAll.{IsPart, one_more, ill_spelt, too_many, at_end}
+use Rattle.nam_script.proofs.ReadAll.{one_more, ill_spelt, too_many, at_end}
 use Rattle.nam_script.proofs.parts.values_at.Goals as goal
 
 pub returns-in_err-number : goal.returns-in_err-number

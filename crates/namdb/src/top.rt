@@ -8,7 +8,7 @@ ghost use Rattle.nam_script.specs.declared.refusal.Kind.{Kind};
 ghost use Rattle.namdb.specs.declared.status.Status.{Status};
 ghost use Rattle.namdb.specs.Status.{script_line, line_of};
 ghost use Rattle.namdb.specs.Ending.{IsAnswerToInput, HasLine, MakesLine, Sends};
-ghost use Rattle.namdb.specs.Headline.{AreRunWords, IsReportOn, IsWholeInput, HasTooMuch, HasAtMost, MayRefuse, MayWrite};
+ghost use Rattle.namdb.specs.Headline.{AreRunWords, IsReportOn, IsWholeInput, IsBadScript, HasTooMuch, HasAtMost, MayRefuse, MayWrite};
 
 use crate::serial::run_serial;
 use crate::status::{Status, kind_word};
@@ -45,7 +45,7 @@ pub fn namdb<S: Source, K: Sink>(
 
     ensures bad_script { (line : ℕ) → (kind : Kind) → result ≡ Status.BadScript line kind →
         AreRunWords words.now
-        × ((input : List ℕ) × IsWholeInput (S.left source.old) (S.left source.new) input)
+        × ((input : List ℕ) × IsWholeInput (S.left source.old) (S.left source.new) input × IsBadScript input line kind)
         × Appends (K.taken sink.old) (K.taken sink.new) (script_line line kind) }
 
     ensures read_fault { result ≡ Status.ReadFault →
@@ -97,7 +97,7 @@ fn report_of<S: Source>(alloc: Global, words: &[String], source: &mut S) -> Resu
 /// The text of the report on the script that an input spells.
 fn report_on(alloc: Global, input: &[u8]) -> Result<Vec<u8>, Status>
     ensures report { IfOk result (λ text. IsReportOn input.now text.items) }
-    ensures refusal { IfErr result (λ status. IsAnswerToInput status) }
+    ensures refusal { IfErr result (λ status. IsAnswerToInput input.now status) }
 {
     let script = nam_script::parse(alloc, input)?;
     let report = run_serial(alloc, &script)?;

@@ -16,3 +16,4 @@ pub mod Founds
 pub mod Counting
 pub mod Again
 pub mod BankLemmas
+pub mod GroupingLemmas

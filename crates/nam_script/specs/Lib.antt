@@ -8,3 +8,4 @@ pub mod Admit
 pub mod Parse
 pub mod Spelling
 pub mod Bank
+pub mod Grouping

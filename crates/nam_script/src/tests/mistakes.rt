@@ -35,15 +35,159 @@ turns 1*4 2*1000000
 turns 2*1
 ";
 
+/// Mistakes, one to a line: the line's number and its kind, and behind a colon what stands there instead.
+const MISTAKES: &str = "\
+1 word:namdb 2
+1 word:namdb
+1 word:namdb 1 
+1 word:Namdb 1
+1 word:
+2 word:header held
+2 word:header Narrow
+2 word:header
+2 word:header wide 1
+2 word:workers 2
+3 range:workers 0
+3 range:workers 17
+3 word:workers 01
+3 range:workers 18446744073709551616
+3 word:workers two
+3 word:workers 1 1
+4 range:tries 0
+4 range:tries 17
+4 word:tries -1
+4 word:tries  3
+5 word:tidy yes
+5 word:tidy
+6 range:start 4294967296
+6 word:start 00
+6 word:start +1
+7 range:overflow 0 4
+7 range:overflow 257 4
+7 range:overflow 2 0
+7 range:overflow 2 65
+7 word:overflow 2
+7 word:overflow 2 4 1
+8 word:table Acct width 2 capacity 2 ring 1
+8 word:table a_name_of_17_lett width 2 capacity 2 ring 1
+8 word:table 1acct width 2 capacity 2 ring 1
+8 word:table acct wide 2 capacity 2 ring 1
+8 range:table acct width 0 capacity 2 ring 1
+8 range:table acct width 9 capacity 2 ring 1
+8 range:table acct width 2 capacity 0 ring 1
+8 range:table acct width 2 capacity 4097 ring 1
+8 range:table acct width 2 capacity 2 ring 0
+8 range:table acct width 2 capacity 2 ring 17
+8 word:table acct width 2 capacity 2
+8 word:row acct 0 1 2
+9 name:table acct width 1 capacity 8 ring 2
+9 name:table acct width 9 capacity 8 ring 2
+10 size:row acct 0 1
+10 size:row acct 0 1 2 3
+10 word:row acct 0
+10 word:row acct 0 1 2 3 4 5 6 7 8 9
+10 name:row cust 0 1 2
+10 range:row acct 18446744073709551615 1 2
+10 range:row acct 0 1 18446744073709551616
+10 word:row acct  0 1 2
+10 word:row acct 0 01 2
+11 twice:row acct 0 1 2
+11 twice:row acct 0 1
+11 range:row acct 18446744073709551615 1
+12 range:txn 0
+12 range:txn 3
+12 word:txn
+12 word:end
+12 word:get acct 0
+13 name:get cust 0
+13 name:get cust 18446744073709551615
+13 range:get acct 18446744073709551615
+13 word:get acct
+13 word:get acct 0 0
+13 word:end
+13 word:txn 1
+13 word:row acct 1 1 1
+13 word:fly acct 0
+14 size:put acct 1 3
+14 word:put acct 1
+14 name:put cust 1 3 4
+14 range:put acct 1 3 18446744073709551616
+14 range:put acct 18446744073709551615 3
+15 range:add acct 0 0 +5
+15 range:add acct 0 3 +5
+15 word:add acct 0 2 -0
+15 word:add acct 0 2 5
+15 word:add acct 0 2 +05
+15 range:add acct 0 2 +18446744073709551616
+15 name:add cust 0 9 +5
+16 name:del cust 1
+16 range:del acct 18446744073709551615
+16 word:del acct 1 1
+17 range:need acct 0 3 7
+17 range:need acct 0 1 18446744073709551616
+17 word:need acct 0 1
+17 name:need cust 0 0 7
+18 name:guard cust 3
+18 range:guard log_1 18446744073709551615
+18 word:guard log_1
+19 range:scan acct 3 0
+19 range:scan acct 0 18446744073709551615
+19 name:scan cust 3 0
+19 word:scan acct 0
+20 word:end 1
+20 word:turns 1*1
+24 word:turns
+24 range:turns 1*0
+24 range:turns 1*1000001
+24 range:turns 3*1
+24 range:turns 0*1
+24 word:turns 1*
+24 word:turns 1
+24 word:turns 1*1*1
+24 word:turns 1*01
+24 range:turns 1*18446744073709551616
+24 range:seed 1 1000001
+24 range:seed 18446744073709551616 1
+24 word:seed 1
+25 word:seed 1 2
+25 word:txn 1
+25 word:row acct 1 1 1
+";
+
+fn kind_of(word: &str) -> Option<Kind> {
+    if word == "word" {
+        return Some(Kind::Word);
+    }
+    if word == "name" {
+        return Some(Kind::Name);
+    }
+    if word == "range" {
+        return Some(Kind::Range);
+    }
+    if word == "twice" {
+        return Some(Kind::Twice);
+    }
+    if word == "size" {
+        return Some(Kind::Size);
+    }
+    None
+}
+
+/// The parts of a mistake.
+fn parts_of(mistake: &str) -> Option<(u32, Kind, &str)> {
+    let (place, line) = mistake.split_once(':')?;
+    let (number, kind) = place.split_once(' ')?;
+    let number = number.parse::<u32>().ok()?;
+    Some((number, kind_of(kind)?, line))
+}
+
 /// `EACH_LINE` with another text in one of its lines.
-fn with_line(alloc: Global, number: usize, line: &str) -> Result<String, AllocError> {
+fn with_line(alloc: Global, number: u32, line: &str) -> Result<String, AllocError> {
     let mut text = String::new(alloc);
-    for (place, old) in EACH_LINE.lines().enumerate() {
-        let line = if place.saturating_add(1) == number {
-            line
-        } else {
-            old
-        };
+    let mut place: u32 = 0;
+    for old in EACH_LINE.lines() {
+        place = place.saturating_add(1);
+        let line = if place == number { line } else { old };
         write!(&mut text, "{line}\n")?;
     }
     Ok(text)
@@ -56,175 +200,13 @@ fn each_line_is_taken(rt: HostRuntime) -> Result<(), Fail> {
 }
 
 #[test]
-fn settings_are_refused(rt: HostRuntime) -> Result<(), AllocError> {
-    let mistakes = [
-        (1, "namdb 2", Kind::Word),
-        (1, "namdb", Kind::Word),
-        (1, "namdb 1 ", Kind::Word),
-        (1, "Namdb 1", Kind::Word),
-        (1, "", Kind::Word),
-        (2, "header held", Kind::Word),
-        (2, "header Narrow", Kind::Word),
-        (2, "header", Kind::Word),
-        (2, "header wide 1", Kind::Word),
-        (2, "workers 2", Kind::Word),
-        (3, "workers 0", Kind::Range),
-        (3, "workers 17", Kind::Range),
-        (3, "workers 01", Kind::Word),
-        (3, "workers 18446744073709551616", Kind::Range),
-        (3, "workers two", Kind::Word),
-        (3, "workers 1 1", Kind::Word),
-        (4, "tries 0", Kind::Range),
-        (4, "tries 17", Kind::Range),
-        (4, "tries -1", Kind::Word),
-        (4, "tries  3", Kind::Word),
-        (5, "tidy yes", Kind::Word),
-        (5, "tidy", Kind::Word),
-        (6, "start 4294967296", Kind::Range),
-        (6, "start 00", Kind::Word),
-        (6, "start +1", Kind::Word),
-        (7, "overflow 0 4", Kind::Range),
-        (7, "overflow 257 4", Kind::Range),
-        (7, "overflow 2 0", Kind::Range),
-        (7, "overflow 2 65", Kind::Range),
-        (7, "overflow 2", Kind::Word),
-        (7, "overflow 2 4 1", Kind::Word),
-    ];
-    for (number, line, kind) in mistakes {
-        let text = with_line(rt.alloc(), number as usize, line)?;
+fn each_mistake_is_refused_at_its_line(rt: HostRuntime) -> Result<(), Fail> {
+    for mistake in MISTAKES.lines() {
+        let (number, kind, line) = parts_of(mistake).ok_or("a mistake")?;
+        let text = with_line(rt.alloc(), number, line)?;
         assert!(rt;
             refuses(rt.alloc(), text.as_str(), number, kind),
-            "{number}: {line}"
-        );
-    }
-    Ok(())
-}
-
-#[test]
-fn tables_and_rows_are_refused(rt: HostRuntime) -> Result<(), AllocError> {
-    let mistakes = [
-        (8, "table Acct width 2 capacity 2 ring 1", Kind::Word),
-        (
-            8,
-            "table a_name_of_17_let width 2 capacity 2 ring 1",
-            Kind::Word,
-        ),
-        (8, "table 1acct width 2 capacity 2 ring 1", Kind::Word),
-        (8, "table acct wide 2 capacity 2 ring 1", Kind::Word),
-        (8, "table acct width 0 capacity 2 ring 1", Kind::Range),
-        (8, "table acct width 9 capacity 2 ring 1", Kind::Range),
-        (8, "table acct width 2 capacity 0 ring 1", Kind::Range),
-        (8, "table acct width 2 capacity 4097 ring 1", Kind::Range),
-        (8, "table acct width 2 capacity 2 ring 0", Kind::Range),
-        (8, "table acct width 2 capacity 2 ring 17", Kind::Range),
-        (8, "table acct width 2 capacity 2", Kind::Word),
-        (8, "row acct 0 1 2", Kind::Word),
-        (9, "table acct width 1 capacity 8 ring 2", Kind::Name),
-        (9, "table acct width 9 capacity 8 ring 2", Kind::Name),
-        (10, "row acct 0 1", Kind::Size),
-        (10, "row acct 0 1 2 3", Kind::Size),
-        (10, "row acct 0", Kind::Word),
-        (10, "row acct 0 1 2 3 4 5 6 7 8 9", Kind::Word),
-        (10, "row cust 0 1 2", Kind::Name),
-        (10, "row acct 18446744073709551615 1 2", Kind::Range),
-        (10, "row acct 0 1 18446744073709551616", Kind::Range),
-        (10, "row acct  0 1 2", Kind::Word),
-        (10, "row acct 0 01 2", Kind::Word),
-        (11, "row acct 0 1 2", Kind::Twice),
-        (11, "row acct 0 1", Kind::Twice),
-        (11, "row acct 18446744073709551615 1", Kind::Range),
-    ];
-    for (number, line, kind) in mistakes {
-        let text = with_line(rt.alloc(), number as usize, line)?;
-        assert!(rt;
-            refuses(rt.alloc(), text.as_str(), number, kind),
-            "{number}: {line}"
-        );
-    }
-    Ok(())
-}
-
-#[test]
-fn transactions_are_refused(rt: HostRuntime) -> Result<(), AllocError> {
-    let mistakes = [
-        (12, "txn 0", Kind::Range),
-        (12, "txn 3", Kind::Range),
-        (12, "txn", Kind::Word),
-        (12, "end", Kind::Word),
-        (12, "get acct 0", Kind::Word),
-        (13, "get cust 0", Kind::Name),
-        (13, "get cust 18446744073709551615", Kind::Name),
-        (13, "get acct 18446744073709551615", Kind::Range),
-        (13, "get acct", Kind::Word),
-        (13, "get acct 0 0", Kind::Word),
-        (13, "end", Kind::Word),
-        (13, "txn 1", Kind::Word),
-        (13, "row acct 1 1 1", Kind::Word),
-        (13, "fly acct 0", Kind::Word),
-        (14, "put acct 1 3", Kind::Size),
-        (14, "put acct 1", Kind::Word),
-        (14, "put cust 1 3 4", Kind::Name),
-        (14, "put acct 1 3 18446744073709551616", Kind::Range),
-        (14, "put acct 18446744073709551615 3", Kind::Range),
-        (15, "add acct 0 0 +5", Kind::Range),
-        (15, "add acct 0 3 +5", Kind::Range),
-        (15, "add acct 0 2 -0", Kind::Word),
-        (15, "add acct 0 2 5", Kind::Word),
-        (15, "add acct 0 2 +05", Kind::Word),
-        (15, "add acct 0 2 +18446744073709551616", Kind::Range),
-        (15, "add cust 0 9 +5", Kind::Name),
-        (16, "del cust 1", Kind::Name),
-        (16, "del acct 18446744073709551615", Kind::Range),
-        (16, "del acct 1 1", Kind::Word),
-        (17, "need acct 0 3 7", Kind::Range),
-        (17, "need acct 0 1 18446744073709551616", Kind::Range),
-        (17, "need acct 0 1", Kind::Word),
-        (17, "need cust 0 0 7", Kind::Name),
-        (18, "guard cust 3", Kind::Name),
-        (18, "guard log_1 18446744073709551615", Kind::Range),
-        (18, "guard log_1", Kind::Word),
-        (19, "scan acct 3 0", Kind::Range),
-        (19, "scan acct 0 18446744073709551615", Kind::Range),
-        (19, "scan cust 3 0", Kind::Name),
-        (19, "scan acct 0", Kind::Word),
-        (20, "end 1", Kind::Word),
-        (20, "turns 1*1", Kind::Word),
-    ];
-    for (number, line, kind) in mistakes {
-        let text = with_line(rt.alloc(), number as usize, line)?;
-        assert!(rt;
-            refuses(rt.alloc(), text.as_str(), number, kind),
-            "{number}: {line}"
-        );
-    }
-    Ok(())
-}
-
-#[test]
-fn turns_are_refused(rt: HostRuntime) -> Result<(), AllocError> {
-    let mistakes = [
-        (24, "turns", Kind::Word),
-        (24, "turns 1*0", Kind::Range),
-        (24, "turns 1*1000001", Kind::Range),
-        (24, "turns 3*1", Kind::Range),
-        (24, "turns 0*1", Kind::Range),
-        (24, "turns 1*", Kind::Word),
-        (24, "turns 1", Kind::Word),
-        (24, "turns 1*1*1", Kind::Word),
-        (24, "turns 1*01", Kind::Word),
-        (24, "turns 1*18446744073709551616", Kind::Range),
-        (24, "seed 1 1000001", Kind::Range),
-        (24, "seed 18446744073709551616 1", Kind::Range),
-        (24, "seed 1", Kind::Word),
-        (25, "seed 1 2", Kind::Word),
-        (25, "txn 1", Kind::Word),
-        (25, "row acct 1 1 1", Kind::Word),
-    ];
-    for (number, line, kind) in mistakes {
-        let text = with_line(rt.alloc(), number as usize, line)?;
-        assert!(rt;
-            refuses(rt.alloc(), text.as_str(), number, kind),
-            "{number}: {line}"
+            "{mistake}"
         );
     }
     Ok(())

@@ -1,5 +1,5 @@
 -- What the program promises of its words, its input and what it writes.
-use Rattle.std.specs.Prelude.{◌≡◌, ◌≤◌, ◌<◌, ℕ, List, [], length, codes, IfSome, slice_get, Ok, Err, Option, Some, None, String, string_bytes, ⊤}
+use Rattle.std.specs.Prelude.{◌≡◌, ◌≤◌, ◌<◌, ◌⊎◌, ℕ, List, [], length, codes, IfSome, slice_get, Result, Ok, Err, Option, Some, None, String, string_bytes, ⊤}
 use Rattle.std.specs.declared.alloc.Global.{Global}
 use Rattle.nam_io.specs.Faults.{Rose}
 use Rattle.nam_io.specs.Told.{LosesFront}
@@ -44,6 +44,12 @@ IsWholeInput left now input = IsAllThatWasLeft left now input × (length input �
 -- the input is no script: its first bad line, and the first of that line's kinds of fault
 abbrev pub IsBadScript : List ℕ → ℕ → Kind → Type 0
 IsBadScript input line kind = script_of input ≡ Err (record { line = line; kind = kind })
+
+-- without a fault of source or sink: a script is answered by its report, any other input by its first bad line, or memory is
+-- not found
+abbrev pub IsAnsweredBy : Result Script Fault → Status → Type 0
+IsAnsweredBy (Ok script) status = (status ≡ Done) ⊎ (status ≡ Memory)
+IsAnsweredBy (Err fault) status = (status ≡ BadScript fault.line fault.kind) ⊎ (status ≡ Memory)
 
 -- more than 1,048,576 bytes were left, and one more than these was read
 abbrev pub HasTooMuch : Option (List ℕ) → Option (List ℕ) → Type 0

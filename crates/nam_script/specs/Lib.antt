@@ -1,3 +1,11 @@
-pub mod Limits
 pub mod Text
-pub mod Parts
+pub mod Limits
+pub mod Lines
+pub mod Stages
+pub mod Checks
+pub mod Keys
+pub mod Admit
+pub mod Parse
+pub mod Spelling
+pub mod Bank
+pub mod Grouping

@@ -1,48 +1,82 @@
 -- What the layers above need of a script.
-use Rattle.std.specs.Prelude.{ℕ, ◌^◌, ◌≡◌, ◌<◌, ◌≤◌, Bool, true, false, IsTrue, List, [], length, slice_index}
+use Rattle.std.specs.Prelude.{ℕ, ◌-◌, ◌^◌, ◌≡◌, ◌<◌, ◌≤◌, false, List, [], ◌∷◌, length, slice_index, None}
 use Rattle.std.specs.List.{AllByRecursion}
 use Rattle.si_model.specs.declared.row.Row.{Row}
 use Rattle.si_model.specs.declared.op.Op.{Op}
 use Rattle.si_model.specs.declared.op.Op.TheVariants.{Get, Put, Add, Del, Need, Guard, Scan}
-use Rattle.si_model.specs.Evaluation.{IsTable, OpFits}
-use Rattle.nam_catalog.specs.Greatest.{greatest_number}
-use Rattle.nam_catalog.specs.Tables.{widths_of}
+use Rattle.si_model.specs.Rows.{same_key, row_key}
+use Rattle.si_model.specs.Evaluation.{IsTable, OpFits, key_claimed, keys_from}
+use Rattle.nam_catalog.specs.declared.shape.Table.{Table}
+use Rattle.nam_catalog.specs.Tables.{widths_of, capacities_of}
+use Rattle.nam_catalog.specs.Limits.{fault_of}
 use Rattle.nam_script.specs.declared.script.ScriptTxn.{ScriptTxn}
+use Rattle.nam_script.specs.declared.script.Stint.{Stint}
+use Rattle.nam_script.specs.declared.script.Turns.{Turns}
 use Rattle.nam_script.specs.declared.script.Turns.TheVariants as turns
 use Rattle.nam_script.specs.declared.script.Script.{Script}
+use Rattle.nam_script.specs.Checks.{rows_in, txns_cost, steps_of}
+use Rattle.nam_script.specs.Admit.{is_held}
+
+-- a key is at most 2^64 - 2
+abbrev pub IsKey : ℕ → Type 0
+IsKey k = k ≤ 2 ^ 64 - 2
 
 -- the row is of a table, and has its width
 abbrev pub RowFits : List ℕ → Row → Type 0
 RowFits widths r = IsTable widths r.table × (length r.value ≡ slice_index widths r.table)
 
--- the transaction is of one of the workers, and its operations fit the tables
-pub record TxnFits (workers : ℕ) (widths : List ℕ) (x : ScriptTxn) : Type 0 where
+-- no two rows have one key
+abbrev pub AreDistinct : List Row → Type 0
+AreDistinct [] = Unit {0}
+AreDistinct (r ∷ rs) = AllByRecursion (λ q. same_key (row_key r) (row_key q) ≡ false) rs × AreDistinct rs
+
+-- the loaded rows fit their tables, no table has more of them than its capacity, and no two have one key
+pub record RowsFit (tables : List Table) (rows : List Row) : Type 0 where
+  pub fit : AllByRecursion (RowFits (widths_of tables)) rows
+  pub keys : AllByRecursion (λ r. IsKey r.key) rows
+  pub distinct : AreDistinct rows
+  pub loaded : (t : ℕ) → t < length tables → rows_in rows t ≤ slice_index (capacities_of tables) t
+
+-- the keys of an operation
+abbrev pub OpHasKeys : Op → Type 0
+OpHasKeys (Get t k) = IsKey k
+OpHasKeys (Put t k v) = IsKey k
+OpHasKeys (Add t k f up by) = IsKey k
+OpHasKeys (Del t k) = IsKey k
+OpHasKeys (Need t k f least) = IsKey k
+OpHasKeys (Guard t k) = IsKey k
+OpHasKeys (Scan t low high) = (low ≤ high) × IsKey high
+
+-- the operations of one transaction fit the tables, are no more than 32, and write or guard no more than 16 keys
+pub record OpsFit (tables : List Table) (ops : List Op) : Type 0 where
+  pub fit : AllByRecursion (OpFits (widths_of tables)) ops
+  pub keys : AllByRecursion OpHasKeys ops
+  pub few : length ops ≤ 32
+  pub claims : length (keys_from key_claimed [] ops) ≤ 16
+
+-- the transaction is of one of the workers, and has operations that fit the tables
+pub record TxnFits (workers : ℕ) (tables : List Table) (x : ScriptTxn) : Type 0 where
   pub worker : (1 ≤ x.worker) × (x.worker ≤ workers)
-  pub few : length x.ops < 2 ^ 32
-  pub ops : AllByRecursion (OpFits widths) x.ops
+  pub some : 1 ≤ length x.ops
+  pub ops : OpsFit tables x.ops
 
--- every number of the script is in its range
-pub record IsInRange (s : Script) : Type 0 where
-  pub workers : (1 ≤ s.shape.workers) × (s.shape.workers ≤ 16)
-  pub tries : 1 ≤ s.policy.tries
-  pub start : s.shape.start ≤ greatest_number s.shape.form
-  pub rows : AllByRecursion (RowFits (widths_of s.shape.tables)) s.rows
-  pub few : length s.txns < 2 ^ 32
-  pub txns : AllByRecursion (TxnFits s.shape.workers (widths_of s.shape.tables)) s.txns
+-- 1 to 1,000,000 turns of one of the workers
+abbrev pub StintFits : ℕ → Stint → Type 0
+StintFits workers s = (1 ≤ s.worker) × (s.worker ≤ workers) × (1 ≤ s.steps) × (s.steps ≤ 1000000)
 
--- the operation is one of those that are taken so far
-abbrev pub is_plain : Op → Bool
-is_plain (Get t k) = true
-is_plain (Put t k v) = false
-is_plain (Add t k f up by) = true
-is_plain (Del t k) = false
-is_plain (Need t k f least) = true
-is_plain (Guard t k) = false
-is_plain (Scan t low high) = false
+-- 10,000,000 turns at the most, or 1,000,000 picks
+abbrev pub TurnsFit : ℕ → Turns → Type 0
+TurnsFit workers (turns.List stints) = AllByRecursion (StintFits workers) stints × (steps_of stints ≤ 10000000)
+TurnsFit workers (turns.Seed seed picks) = picks ≤ 1000000
 
--- the script is of the form that is taken so far: no tidying, no turns, and of the operations get, add and need
-pub record IsPlain (s : Script) : Type 0 where
-  pub in_range : IsInRange s
-  pub untidy : s.policy.tidy ≡ false
-  pub ops : AllByRecursion (λ x. AllByRecursion (λ op. IsTrue (is_plain op)) x.ops) s.txns
-  pub no_turns : s.turns ≡ turns.List []
+-- The script keeps to all limits: `fits_law` of nam_catalog says what it means that its shape has no fault. A scan counts
+-- as its table's capacity of the operations in all.
+pub record IsScript (s : Script) : Type 0 where
+  pub shape : fault_of s.shape ≡ None
+  pub form : is_held s.shape.form ≡ false
+  pub tries : (1 ≤ s.policy.tries) × (s.policy.tries ≤ 16)
+  pub rows : RowsFit s.shape.tables s.rows
+  pub few : length s.txns ≤ 8192
+  pub txns : AllByRecursion (TxnFits s.shape.workers s.shape.tables) s.txns
+  pub cost : txns_cost (capacities_of s.shape.tables) s.txns ≤ 65536
+  pub turns : TurnsFit s.shape.workers s.turns

@@ -1,7 +1,7 @@
 -- The one text of a script.
-use Rattle.std.specs.Prelude.{ℕ, ◌-◌, ◌==◌, List, [], ◌∷◌, ◌++◌, codes, Bool, if◌then◌else◌}
+use Rattle.std.specs.Prelude.{ℕ, ◌≡◌, ◌≤◌, length, ◌-◌, ◌==◌, List, [], ◌∷◌, ◌++◌, codes, Bool, if◌then◌else◌}
 use Rattle.std.specs.Fmt.{decimal}
-use Rattle.std.specs.List.{flat_map}
+use Rattle.std.specs.List.{flat_map, AllByRecursion}
 use Rattle.si_model.specs.declared.row.Row.{Row}
 use Rattle.si_model.specs.declared.op.Op.{Op}
 use Rattle.si_model.specs.declared.op.Op.TheVariants.{Get, Put, Add, Del, Need, Guard, Scan}
@@ -107,3 +107,33 @@ script_text s =
     ++ flat_map (row_text s.shape.tables) s.rows
     ++ flat_map (txn_text s.shape.tables) s.txns
     ++ turns_text s.turns
+
+-- a line of turns
+abbrev pub group_text : List Stint → List ℕ
+group_text g = codes "turns" ++ flat_map stint_text g ++ codes "\n"
+
+-- the turns with the stints in groups, each on a line of its own
+abbrev pub grouped_turns : List (List Stint) → Turns → List ℕ
+grouped_turns groups (turns.List ss) = flat_map group_text groups
+grouped_turns groups (turns.Seed seed picks) = turns_text (turns.Seed seed picks)
+
+-- the lines of a script, with the stints in groups
+abbrev pub grouped_text : Script → List (List Stint) → List ℕ
+grouped_text s groups =
+    opening_text s.shape s.policy
+    ++ store_text s.shape s.policy
+    ++ flat_map table_text s.shape.tables
+    ++ flat_map (row_text s.shape.tables) s.rows
+    ++ flat_map (txn_text s.shape.tables) s.txns
+    ++ grouped_turns groups s.turns
+
+abbrev pub stints_in : Turns → List Stint
+stints_in (turns.List ss) = ss
+stints_in (turns.Seed seed picks) = []
+
+-- The text is that of the script, but that its stints may stand in other groups than 64 to a line, of 1 to 64 each.
+pub record IsSpelt (s : Script) (text : List ℕ) : Type 0 where
+  pub groups : List (List Stint)
+  pub stints : flat_map (λ g. g) groups ≡ stints_in s.turns
+  pub short : AllByRecursion (λ g. (1 ≤ length g) × (length g ≤ 64)) groups
+  pub is : text ≡ grouped_text s groups

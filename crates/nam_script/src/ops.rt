@@ -1,98 +1,246 @@
-//! The lines of operations.
+//! The lines of transactions and of turns.
 
-ghost use Rattle.std.specs.Prelude.{IfOk};
-ghost use Rattle.nam_script.specs.Parts.{IsOp};
+ghost use Rattle.std.specs.Prelude.{◌≡◌, ◌≤◌, ◌++◌, length, OnOk};
+ghost use Rattle.nam_script.specs.Admit.{Takes, admit_txn, push_op, admit_get, admit_put, admit_add, admit_del, admit_need, admit_guard, admit_scan, admit_end, admit_turns, admit_seed};
 
-use crate::fields::{Fields, Number, limited};
-use crate::refusal::Kind;
-use nam_catalog::{Table, TableName};
+use crate::checks::{all_small, all_stints, claim, counted, key_of, small, steps_of, within_u32};
+use crate::draft::Draft;
+use crate::line::{Change, Numbers, SpeltStints};
+use crate::refusal::{Kind, LineEnd};
+use crate::script::{ScriptTxn, Stint};
+use crate::stage::Stage;
+use lists::List;
+use nam_catalog::TableName;
+use nam_text::Number;
 use si_model::Op;
-use std::collections::BTreeSet;
+use std::alloc::{AllocError, Global};
+use std::mem;
 
-/// What operations may name: the table, and the keys of its rows.
-#[derive(Drop)]
-pub struct Loaded<'a> {
-    pub table: &'a Table,
-    pub keys: &'a BTreeSet<u64>,
-}
+const MAX_TXNS: usize = 8_192;
 
-/// The key of an operation, where a row of the named table has it.
-fn loaded_key(name: &TableName, key: Number, rows: &Loaded) -> Result<u64, Kind> {
-    if name.as_str() != rows.table.name.as_str() {
-        return Err(Kind::Name);
+const MAX_TXN_OPS: usize = 32;
+
+const MAX_OPS: u64 = 65_536;
+
+const MAX_TURNS: u64 = 10_000_000;
+
+const MAX_PICKS: u32 = 1_000_000;
+
+fn push_stints(stints: &mut List<Stint>, more: &[Stint]) -> Result<(), AllocError>
+    ensures { OnOk result (stints.new ≡ stints.old ++ more.now) }
+{
+    for stint in more {
+        stints.push(*stint)?;
     }
-    match key {
-        Some(key) if rows.keys.contains(&key) => Ok(key),
-        _ => Err(Kind::Range),
+    Ok(())
+}
+
+impl Draft {
+    pub fn txn(&mut self, worker: Number) -> Result<(), LineEnd>
+        ensures { Takes result self.new (admit_txn self.old worker) }
+    {
+        if !self.stage.is_loaded() {
+            return Err(LineEnd::Bad(Kind::Word));
+        }
+        self.body.worker = within_u32(1, self.shape.workers, worker)?;
+        if self.body.txns.len() >= MAX_TXNS {
+            return Err(LineEnd::Bad(Kind::Size));
+        }
+        self.stage = Stage::Open;
+        Ok(())
     }
-}
 
-fn get_of(fields: &mut Fields, rows: &Loaded) -> Result<Op, Kind>
-    ensures { IfOk result IsOp }
-{
-    let name = fields.name()?;
-    let key = fields.number()?;
-    fields.end()?;
-    let key = loaded_key(&name, key, rows)?;
-    Ok(Op::Get { table: 0, key })
-}
+    /// An operation of the open transaction, which counts `cost` of the operations in all.
+    fn push_op(&mut self, op: Op, cost: u32) -> Result<(), LineEnd>
+        ensures { Takes result self.new (push_op self.old op cost) }
+    {
+        if self.body.ops.len() >= MAX_TXN_OPS {
+            return Err(LineEnd::Bad(Kind::Size));
+        }
+        self.body.cost = counted(self.body.cost, cost as u64, MAX_OPS)?;
+        claim(&mut self.body.keys, &op)?;
+        self.body.ops.push(op)?;
+        Ok(())
+    }
 
-fn add_of(fields: &mut Fields, rows: &Loaded) -> Result<Op, Kind>
-    ensures { IfOk result IsOp }
-{
-    let name = fields.name()?;
-    let key = fields.number()?;
-    let field = fields.number()?;
-    let (up, by) = fields.change()?;
-    fields.end()?;
-    let key = loaded_key(&name, key, rows)?;
-    let field = limited(field, 1, 1)?;
-    let Some(by) = by else {
-        return Err(Kind::Range);
-    };
-    Ok(Op::Add {
-        table: 0,
-        key,
-        field,
-        up,
-        by,
-    })
-}
+    pub fn get(&mut self, table: TableName, key: Number) -> Result<(), LineEnd>
+        ensures { Takes result self.new (admit_get self.old table key) }
+    {
+        if !self.stage.is_at(Stage::Open) {
+            return Err(LineEnd::Bad(Kind::Word));
+        }
+        let found = self.find(&table)?;
+        let key = key_of(key)?;
+        let op = Op::Get {
+            table: found.table,
+            key,
+        };
+        self.push_op(op, 1)
+    }
 
-fn need_of(fields: &mut Fields, rows: &Loaded) -> Result<Op, Kind>
-    ensures { IfOk result IsOp }
-{
-    let name = fields.name()?;
-    let key = fields.number()?;
-    let field = fields.number()?;
-    let least = fields.number()?;
-    fields.end()?;
-    let key = loaded_key(&name, key, rows)?;
-    let field = limited(field, 1, 1)?;
-    let Some(least) = least else {
-        return Err(Kind::Range);
-    };
-    Ok(Op::Need {
-        table: 0,
-        key,
-        field,
-        least,
-    })
-}
+    pub fn put(&mut self, table: TableName, key: Number, values: Numbers) -> Result<(), LineEnd>
+        ensures { Takes result self.new (admit_put self.old table key values) }
+    {
+        if !self.stage.is_at(Stage::Open) {
+            return Err(LineEnd::Bad(Kind::Word));
+        }
+        let found = self.find(&table)?;
+        let key = key_of(key)?;
+        let value = all_small(&values)?;
+        if value.len() != found.width as usize {
+            return Err(LineEnd::Bad(Kind::Size));
+        }
+        let op = Op::Put {
+            table: found.table,
+            key,
+            value,
+        };
+        self.push_op(op, 1)
+    }
 
-/// The operation of a line.
-pub fn op_of(line: &str, rows: &Loaded) -> Result<Op, Kind>
-    ensures { IfOk result IsOp }
-{
-    let mut fields = Fields::new(line);
-    let word = fields.next()?;
-    if word == "get" {
-        get_of(&mut fields, rows)
-    } else if word == "add" {
-        add_of(&mut fields, rows)
-    } else if word == "need" {
-        need_of(&mut fields, rows)
-    } else {
-        Err(Kind::Word)
+    pub fn add(
+        &mut self,
+        table: TableName,
+        key: Number,
+        field: Number,
+        change: Change,
+    ) -> Result<(), LineEnd>
+        ensures { Takes result self.new (admit_add self.old table key field change) }
+    {
+        if !self.stage.is_at(Stage::Open) {
+            return Err(LineEnd::Bad(Kind::Word));
+        }
+        let found = self.find(&table)?;
+        let key = key_of(key)?;
+        let field = within_u32(1, found.width, field)?;
+        let by = small(change.by)?;
+        let op = Op::Add {
+            table: found.table,
+            key,
+            field,
+            up: change.up,
+            by,
+        };
+        self.push_op(op, 1)
+    }
+
+    pub fn del(&mut self, table: TableName, key: Number) -> Result<(), LineEnd>
+        ensures { Takes result self.new (admit_del self.old table key) }
+    {
+        if !self.stage.is_at(Stage::Open) {
+            return Err(LineEnd::Bad(Kind::Word));
+        }
+        let found = self.find(&table)?;
+        let key = key_of(key)?;
+        let op = Op::Del {
+            table: found.table,
+            key,
+        };
+        self.push_op(op, 1)
+    }
+
+    pub fn need(
+        &mut self,
+        table: TableName,
+        key: Number,
+        field: Number,
+        least: Number,
+    ) -> Result<(), LineEnd>
+        ensures { Takes result self.new (admit_need self.old table key field least) }
+    {
+        if !self.stage.is_at(Stage::Open) {
+            return Err(LineEnd::Bad(Kind::Word));
+        }
+        let found = self.find(&table)?;
+        let key = key_of(key)?;
+        let field = within_u32(1, found.width, field)?;
+        let least = small(least)?;
+        let op = Op::Need {
+            table: found.table,
+            key,
+            field,
+            least,
+        };
+        self.push_op(op, 1)
+    }
+
+    pub fn guard(&mut self, table: TableName, key: Number) -> Result<(), LineEnd>
+        ensures { Takes result self.new (admit_guard self.old table key) }
+    {
+        if !self.stage.is_at(Stage::Open) {
+            return Err(LineEnd::Bad(Kind::Word));
+        }
+        let found = self.find(&table)?;
+        let key = key_of(key)?;
+        let op = Op::Guard {
+            table: found.table,
+            key,
+        };
+        self.push_op(op, 1)
+    }
+
+    pub fn scan(&mut self, table: TableName, low: Number, high: Number) -> Result<(), LineEnd>
+        ensures { Takes result self.new (admit_scan self.old table low high) }
+    {
+        if !self.stage.is_at(Stage::Open) {
+            return Err(LineEnd::Bad(Kind::Word));
+        }
+        let found = self.find(&table)?;
+        let low = key_of(low)?;
+        let high = key_of(high)?;
+        if low > high {
+            return Err(LineEnd::Bad(Kind::Range));
+        }
+        let op = Op::Scan {
+            table: found.table,
+            low,
+            high,
+        };
+        self.push_op(op, found.capacity)
+    }
+
+    pub fn end(&mut self, alloc: Global) -> Result<(), LineEnd>
+        ensures { Takes result self.new (admit_end self.old) }
+    {
+        if !self.stage.is_at(Stage::Open) {
+            return Err(LineEnd::Bad(Kind::Word));
+        }
+        if self.body.ops.len() == 0 {
+            return Err(LineEnd::Bad(Kind::Word));
+        }
+        let ops = mem::replace(&mut self.body.ops, List::new(alloc));
+        self.body.keys = List::new(alloc);
+        self.body.txns.push(ScriptTxn {
+            worker: self.body.worker,
+            ops,
+        })?;
+        self.stage = Stage::Between;
+        Ok(())
+    }
+
+    pub fn turns(&mut self, spelt: SpeltStints) -> Result<(), LineEnd>
+        ensures { Takes result self.new (admit_turns self.old spelt) }
+    {
+        if !self.stage.takes_turns() {
+            return Err(LineEnd::Bad(Kind::Word));
+        }
+        let stints = all_stints(self.shape.workers, &spelt)?;
+        let steps = steps_of(stints.as_slice());
+        self.body.steps = counted(self.body.steps, steps, MAX_TURNS)?;
+        push_stints(&mut self.body.stints, stints.as_slice())?;
+        self.stage = Stage::Turns;
+        Ok(())
+    }
+
+    pub fn seed(&mut self, seed: Number, picks: Number) -> Result<(), LineEnd>
+        ensures { Takes result self.new (admit_seed self.old seed picks) }
+    {
+        if !self.stage.is_loaded() {
+            return Err(LineEnd::Bad(Kind::Word));
+        }
+        self.body.seed = small(seed)?;
+        self.body.picks = within_u32(0, MAX_PICKS, picks)?;
+        self.stage = Stage::Seed;
+        Ok(())
     }
 }

@@ -1,48 +1,87 @@
 //! A script from its text.
 
-ghost use Rattle.std.specs.Prelude.{◌≡◌, IfOk};
-ghost use Rattle.nam_script.specs.Limits.{IsPlain};
-ghost use Rattle.nam_script.specs.Text.{script_text};
+ghost use Rattle.std.specs.Prelude.{◌≡◌, ◌&&◌, ◌==◌, List, length, true, IfOk, Ok};
+ghost use Rattle.std.specs.List.{AllByRecursion};
+ghost use Rattle.nam_script.specs.Text.{IsSpelt};
+ghost use Rattle.nam_script.specs.Limits.{IsScript};
+ghost use Rattle.nam_script.specs.Stages.{can_end};
+ghost use Rattle.nam_script.specs.Admit.{start};
+ghost use Rattle.nam_script.specs.Parse.{Gives, GivesDraft, draft_of, finished, script_of, end_at};
+ghost use Rattle.nam_script.specs.Spelling.{IsGood, admit_all, text_of};
+ghost use Rattle.nam_script.specs.declared.line.Line.{Line};
+ghost use Rattle.nam_script.specs.declared.draft.Draft.{Draft};
 
-use crate::printing::print;
-use crate::reading::read_script;
-use crate::refusal::{Kind, ParseEnd};
+use crate::draft::Draft;
+use crate::refusal::{Kind, LineEnd, ParseEnd};
 use crate::script::Script;
+use crate::stage::Stage;
+use nam_text::first_line;
 use std::alloc::Global;
 
-/// The number, from 1, of the first line in which two texts differ.
-fn line_of_difference(one: &[u8], other: &[u8]) -> u32 {
-    let mut line: u32 = 1;
-    for (a, b) in one.iter().zip(other) {
-        if a != b {
-            break;
-        }
-        if *a == b'\n' {
-            line = line.saturating_add(1);
-        }
+/// Nothing follows the last newline, and a script may end.
+fn is_whole(rest: &[u8], stage: Stage) -> bool
+    ensures { result ≡ (length rest.now == 0 && can_end stage) }
+{
+    rest.is_empty() && stage.can_end()
+}
+
+fn end_at(line: u32, end: LineEnd) -> ParseEnd
+    ensures { result ≡ end_at line end }
+{
+    match end {
+        LineEnd::Bad(kind) => ParseEnd::Bad { line, kind },
+        LineEnd::Memory => ParseEnd::Memory,
     }
-    line
+}
+
+/// The script of the lines, or the first bad line and what is wrong with it.
+fn draft_of(alloc: Global, text: &[u8]) -> Result<Draft, ParseEnd>
+    ensures { GivesDraft result (draft_of text.now) }
+{
+    let mut draft = Draft::new(alloc);
+    let mut rest = text;
+    let mut line: u32 = 1;
+    while let Some((first, more)) = first_line(rest) {
+        if let Err(end) = draft.take(alloc, first) {
+            return Err(end_at(line, end));
+        }
+        rest = more;
+        line += 1;
+    }
+    if is_whole(rest, draft.stage) {
+        Ok(draft)
+    } else {
+        Err(ParseEnd::Bad {
+            line,
+            kind: Kind::Cut,
+        })
+    }
+}
+
+fn script_of(alloc: Global, text: &[u8]) -> Result<Script, ParseEnd>
+    ensures { Gives result (script_of text.now) }
+{
+    let draft = draft_of(alloc, text)?;
+    Ok(draft.finish())
 }
 
 /// The script that a text spells.
 ///
-/// So far a script has the header `narrow`, `tidy off`, one table of width 1, keys of rows that are below its
-/// capacity, no turns, and of the operations `get`, `add` and `need`, over keys of rows.
-///
 /// # Errors
 ///
-/// `Bad` names a line that no script has here, and what is wrong with it; `Memory` is want of memory.
+/// `Bad` names the first line that is no line of a script after the lines before it, and the first kind of fault that
+/// it has; `Memory` is want of memory.
+#[tactic(auto, using(crate::proofs::Founds::is_found, crate::proofs::Founds::is_good, crate::proofs::Again::again))]
 pub fn parse(alloc: Global, bytes: &[u8]) -> Result<Script, ParseEnd>
-    ensures { IfOk result (λ s. (bytes.now ≡ script_text s) × IsPlain s) }
+    // The script that the bytes spell, or the first bad line and the first of its kinds.
+    ensures exact { Gives result (script_of bytes.now) }
+    // What is read is spelt so.
+    ensures found { IfOk result (λ s. IsSpelt s bytes.now) }
+    // What is spelt so is read: lines that may come in this order, where a script may end.
+    ensures only { (ls : List Line) (e : Draft) → AllByRecursion IsGood ls → admit_all start ls ≡ Ok e
+        → can_end e.stage ≡ true → bytes.now ≡ text_of ls → Gives result (Ok (finished e)) }
+    // The script keeps to all limits.
+    ensures limits { IfOk result IsScript }
 {
-    let script = read_script(alloc, bytes)?;
-    // How the bytes were read says nothing of their spelling: the script's one text does.
-    let text = print(alloc, &script)?;
-    if text.as_slice() == bytes {
-        return Ok(script);
-    }
-    Err(ParseEnd::Bad {
-        line: line_of_difference(bytes, text.as_slice()),
-        kind: Kind::Word,
-    })
+    script_of(alloc, bytes)
 }

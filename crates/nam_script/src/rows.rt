@@ -1,66 +1,98 @@
-//! The lines of the loaded rows.
+//! The loaded rows so far, with the set of their keys and their number in each table, so that each row is tried in
+//! logarithmic time.
 
-ghost use Rattle.std.specs.Prelude.{IfOk};
-ghost use Rattle.std.specs.List.{AllByRecursion};
-ghost use Rattle.nam_script.specs.Parts.{IsRow};
+ghost use Rattle.std.specs.Prelude.{◌≡◌, ◌<◌, ◌^◌, ◌-◌, [], ◌∷◌, ◌++◌, OnOk, OnErr};
+ghost use Rattle.nam_script.specs.Checks.{is_given, rows_in};
 
-use crate::fields::Fields;
-use crate::lines::Lines;
-use crate::refusal::{Kind, ParseEnd};
-use lists::List;
-use nam_catalog::Table;
-use si_model::{Row, Value};
-use std::alloc::Global;
+use lists::{List, ShortList};
+use si_model::Row;
+use std::alloc::{AllocError, Global};
 use std::collections::BTreeSet;
+use std::marker::Model;
 
-/// The row of a line. Its key is none of those of the rows before it.
-fn row_of(line: &str, table: &Table, keys: &BTreeSet<u64>) -> Result<Row, Kind>
-    ensures { IfOk result IsRow }
-{
-    let mut fields = Fields::new(line);
-    fields.word("row")?;
-    let name = fields.name()?;
-    let key = fields.number()?;
-    let words = fields.numbers()?;
-    if name.as_str() != table.name.as_str() {
-        return Err(Kind::Name);
-    }
-    let Some(key) = key else {
-        return Err(Kind::Range);
-    };
-    if key >= table.capacity as u64 || words.as_slice().contains(&None) {
-        return Err(Kind::Range);
-    }
-    if keys.contains(&key) {
-        return Err(Kind::Twice);
-    }
-    let [Some(word)] = words.as_slice() else {
-        return Err(Kind::Size);
-    };
-    let mut value = Value::new();
-    value.push(*word);
-    Ok(Row {
-        table: 0,
-        key,
-        value,
-    })
+/// Rows, which contracts see as the list of them.
+#[derive(Debug, Drop)]
+pub struct Rows {
+    rows: Vec<Row>,
+    keys: BTreeSet<(u32, u64)>,
+    counts: ShortList<u32, 8>,
 }
 
-/// The rows, and their keys.
-pub fn read_rows(
-    alloc: Global,
-    lines: &mut Lines,
-    table: &Table,
-) -> Result<(List<Row>, BTreeSet<u64>), ParseEnd>
-    ensures { IfOk result (λ r. AllByRecursion IsRow r.0) }
+impl Model for Rows {
+    ghost use Rattle.std.specs.Prelude.{List, ℕ, ◌≡◌, ◌<◌, length, slice_index};
+    ghost use Rattle.std.specs.BTreeSet.{contains};
+    ghost use Rattle.si_model.specs.declared.row.Row.{Row as TheRow};
+    ghost use Rattle.nam_script.specs.Checks.{is_given as has_row, rows_in as count_in};
+    ghost use Rattle.nam_script.specs.Keys.{key_cmp};
+
+    ghost Value = { List TheRow };
+
+    ghost view = { λ r. r.rows.items };
+
+    ghost invariant = { λ r. ((t k : ℕ) → contains key_cmp r.keys (t, k) ≡ has_row r.rows.items t k) × (length r.counts ≡ 8) × ((t : ℕ) → t < 8 → slice_index r.counts t ≡ count_in r.rows.items t) };
+}
+
+fn no_counts() -> ShortList<u32, 8>
+    ensures { result ≡ 0 ∷ 0 ∷ 0 ∷ 0 ∷ 0 ∷ 0 ∷ 0 ∷ 0 ∷ [] }
 {
-    let mut rows = List::new(alloc);
-    let mut keys = BTreeSet::new(alloc);
-    while lines.begins_with("row") {
-        let line = lines.next()?;
-        let row = lines.checked(row_of(line, table, &keys))?;
-        keys.insert(row.key)?;
-        rows.push(row)?;
+    let mut counts = ShortList::new();
+    counts.push(0);
+    counts.push(0);
+    counts.push(0);
+    counts.push(0);
+    counts.push(0);
+    counts.push(0);
+    counts.push(0);
+    counts.push(0);
+    counts
+}
+
+impl Rows {
+    pub fn new(alloc: Global) -> Rows
+        ensures { result ≡ [] }
+    {
+        Rows {
+            rows: Vec::new(alloc),
+            keys: BTreeSet::new(alloc),
+            counts: no_counts(),
+        }
     }
-    Ok((rows, keys))
+
+    pub fn is_given(&self, table: u32, key: u64) -> bool
+        ensures { result ≡ is_given self.now table key }
+    {
+        self.keys.contains(&(table, key))
+    }
+
+    /// How many rows a table has.
+    pub fn count(&self, table: u32) -> u32
+        requires { table < 8 }
+        ensures { result ≡ rows_in self.now table }
+    {
+        *self.counts.at(table as usize)
+    }
+
+    pub fn push(&mut self, row: Row) -> Result<(), AllocError>
+        requires table { row.table < 8 }
+        requires count { rows_in self.old row.table < 2 ^ 32 - 1 }
+        ensures { OnOk result (self.new ≡ self.old ++ row ∷ []) }
+    {
+        let table = row.table as usize;
+        let key = (row.table, row.key);
+        self.rows.push(row)?;
+        if let Err(failed) = self.keys.insert(key) {
+            self.rows.pop();
+            return Err(AllocError::from(failed));
+        }
+        let count = *self.counts.at(table);
+        self.counts.set(table, count + 1);
+        Ok(())
+    }
+
+    pub fn into_list(self) -> List<Row>
+        ensures { result ≡ self }
+    {
+        let Rows { rows, .. } = self;
+        List::from_vec(rows)
+    }
 }

@@ -12,7 +12,7 @@ pub struct ScriptTxn {
 }
 
 /// So many turns of one worker.
-#[derive(Clone, Copy, Debug, PartialEq, Eq)]
+#[derive(Clone, Copy, Debug, Default, PartialEq, Eq)]
 pub struct Stint {
     pub worker: u32,
     pub steps: u32,

@@ -1,4 +1,6 @@
-use crate::{Kind, ParseEnd, Script, ScriptTxn, Stint, Turns, parse, print};
+mod mistakes;
+
+use crate::{Kind, ParseEnd, Script, ScriptTxn, Stint, Turns, bank, parse, print};
 use lists::{List, ShortList};
 use nam_catalog::{Form, Shape, Table, TableName};
 use si_model::{Op, Policy, Row, Value};
@@ -68,6 +70,110 @@ scan acct 0 3
 end
 txn 2
 get log_1 0
+end
+";
+
+const WIDE: &str = "\
+namdb 1
+header wide
+workers 1
+tries 1
+tidy off
+start 35184372088830
+overflow 1 1
+table t width 1 capacity 1 ring 1
+row t 0 1
+txn 1
+put t 0 2
+end
+txn 1
+put t 0 3
+end
+txn 1
+get t 0
+end
+";
+
+const SCANNED: &str = "\
+namdb 1
+header narrow
+workers 1
+tries 1
+tidy off
+start 0
+overflow 1 1
+table t width 1 capacity 4 ring 1
+row t 3 30
+row t 1 10
+row t 7 70
+txn 1
+put t 2 20
+del t 1
+scan t 1 3
+end
+txn 1
+scan t 0 18446744073709551614
+end
+";
+
+const TURNED: &str = "\
+namdb 1
+header narrow
+workers 2
+tries 2
+tidy off
+start 0
+overflow 1 1
+table acct width 1 capacity 4 ring 2
+row acct 0 100
+txn 1
+add acct 0 1 +5
+end
+txn 2
+add acct 0 1 +7
+end
+turns 1*4 2*4 1*18
+";
+
+const BANK: &str = "\
+namdb 1
+header narrow
+workers 4
+tries 16
+tidy on
+start 0
+overflow 4 64
+table acct width 1 capacity 16 ring 4
+row acct 0 1000
+row acct 1 1000
+row acct 2 1000
+row acct 3 1000
+row acct 4 1000
+row acct 5 1000
+row acct 6 1000
+row acct 7 1000
+row acct 8 1000
+row acct 9 1000
+row acct 10 1000
+row acct 11 1000
+row acct 12 1000
+row acct 13 1000
+row acct 14 1000
+row acct 15 1000
+txn 1
+need acct 6 1 97
+add acct 6 1 -97
+add acct 10 1 +97
+end
+txn 2
+need acct 6 1 96
+add acct 6 1 -96
+add acct 0 1 +96
+end
+txn 3
+need acct 10 1 90
+add acct 10 1 -90
+add acct 2 1 +90
 end
 ";
 
@@ -218,53 +324,11 @@ fn a_seed_is_printed(rt: HostRuntime) -> Result<(), AllocError> {
 }
 
 /// Is the text refused so?
-fn refuses(alloc: Global, text: &str, line: u32, kind: Kind) -> bool {
+pub fn refuses(alloc: Global, text: &str, line: u32, kind: Kind) -> bool {
     match parse(alloc, text.as_bytes()) {
         Ok(_) => false,
         Err(end) => end == ParseEnd::Bad { line, kind },
     }
-}
-
-/// `TRANSFER` with another text in one of its lines.
-fn with_line(alloc: Global, number: usize, line: &str) -> Result<String, AllocError> {
-    let mut text = String::new(alloc);
-    for (place, old) in TRANSFER.lines().enumerate() {
-        let line = if place.saturating_add(1) == number {
-            line
-        } else {
-            old
-        };
-        write!(&mut text, "{line}\n")?;
-    }
-    Ok(text)
-}
-
-#[test]
-fn a_mistake_is_refused_at_its_line(rt: HostRuntime) -> Result<(), AllocError> {
-    let mistakes = [
-        (1, "namdb 2", Kind::Word),
-        (3, "workers 0", Kind::Range),
-        (4, "tries 01", Kind::Word),
-        (5, "tidy on", Kind::Word),
-        (6, "start 4294967296", Kind::Range),
-        (8, "table acct width 2 capacity 2 ring 1", Kind::Range),
-        (9, "row acct  0 100", Kind::Word),
-        (10, "row acct 2 0", Kind::Range),
-        (10, "row acct 0 0", Kind::Twice),
-        (10, "row acct 1 0 0", Kind::Size),
-        (11, "txn 2", Kind::Range),
-        (12, "need other 9 1 10", Kind::Name),
-        (12, "put acct 0 1", Kind::Word),
-        (12, "end", Kind::Word),
-        (13, "add acct 0 1 -0", Kind::Word),
-        (13, "add acct 0 2 -10", Kind::Range),
-        (14, "add acct 1 1 +18446744073709551616", Kind::Range),
-    ];
-    for (number, line, kind) in mistakes {
-        let text = with_line(rt.alloc(), number as usize, line)?;
-        assert!(rt; refuses(rt.alloc(), text.as_str(), number, kind), "{line}");
-    }
-    Ok(())
 }
 
 #[test]
@@ -289,12 +353,9 @@ overflow 1 1
 table t width 1 capacity 17 ring 1
 ";
 
-/// A script with 17 rows and so many transactions, each of which writes so many keys and reads so many times.
+/// A script with so many transactions, each of which writes so many keys, guards them too, and reads so many times.
 fn large_script(alloc: Global, txns: u32, adds: u32, gets: u32) -> Result<String, AllocError> {
     let mut text = String::from_str(alloc, LARGE)?;
-    for key in 0..17 {
-        write!(&mut text, "row t {key} 0\n")?;
-    }
     for _ in 0..txns {
         write!(&mut text, "txn 1\n")?;
         for key in 0..adds {
@@ -315,10 +376,10 @@ fn a_script_has_limits(rt: HostRuntime) -> Result<(), Fail> {
         parse(rt.alloc(), largest.as_bytes())?;
     }
     let beyond = [
-        (1, 16, 17, 59),
-        (1, 17, 0, 43),
-        (8_193, 0, 1, 24_602),
-        (2_049, 0, 32, 69_659),
+        (1, 16, 17, 42),
+        (1, 17, 0, 26),
+        (8_193, 0, 1, 24_585),
+        (2_049, 0, 32, 69_642),
     ];
     for (txns, adds, gets, line) in beyond {
         let text = large_script(rt.alloc(), txns, adds, gets)?;
@@ -327,5 +388,71 @@ fn a_script_has_limits(rt: HostRuntime) -> Result<(), Fail> {
             "line {line}"
         );
     }
+    Ok(())
+}
+
+#[test]
+fn rows_and_tables_have_limits(rt: HostRuntime) -> Result<(), Fail> {
+    let alloc = rt.alloc();
+    let mut rows = String::from_str(alloc, LARGE)?;
+    for key in 0..18 {
+        write!(&mut rows, "row t {key} 0\n")?;
+    }
+    assert!(rt; refuses(alloc, rows.as_str(), 26, Kind::Size));
+    write!(&mut rows, "row t 0 0\n")?;
+    let mut tables = String::from_str(alloc, LARGE)?;
+    for table in 0..8 {
+        write!(&mut tables, "table t{table} width 1 capacity 1 ring 1\n")?;
+    }
+    assert!(rt; refuses(alloc, tables.as_str(), 16, Kind::Size));
+    let mut words = String::from_str(alloc, LARGE)?;
+    for table in 0..6 {
+        write!(&mut words, "table t{table} width 8 capacity 4096 ring 16\n")?;
+    }
+    assert!(rt; refuses(alloc, words.as_str(), 14, Kind::Size));
+    Ok(())
+}
+
+#[test]
+fn turns_and_scans_have_limits(rt: HostRuntime) -> Result<(), Fail> {
+    let alloc = rt.alloc();
+    let mut turns = String::from_str(alloc, LARGE)?;
+    for _ in 0..10 {
+        write!(&mut turns, "turns 1*1000000\n")?;
+    }
+    parse(alloc, turns.as_bytes())?;
+    write!(&mut turns, "turns 1*1\n")?;
+    assert!(rt; refuses(alloc, turns.as_str(), 19, Kind::Size));
+    let mut scans = String::from_str(alloc, LARGE)?;
+    for _ in 0..3_855 {
+        write!(&mut scans, "txn 1\nscan t 0 1\nend\n")?;
+    }
+    write!(&mut scans, "txn 1\nget t 0\n")?;
+    let whole = scans.len();
+    write!(&mut scans, "end\n")?;
+    parse(alloc, scans.as_bytes())?;
+    scans.truncate(whole);
+    write!(&mut scans, "get t 0\n")?;
+    assert!(rt; refuses(alloc, scans.as_str(), 11_576, Kind::Size));
+    Ok(())
+}
+
+#[test]
+fn a_script_may_be_wide_and_have_turns(rt: HostRuntime) -> Result<(), Fail> {
+    for text in [WIDE, SCANNED, TURNED] {
+        let script = parse(rt.alloc(), text.as_bytes())?;
+        let printed = print(rt.alloc(), &script)?;
+        assert!(rt; printed.as_slice() == text.as_bytes(), "{text}");
+    }
+    Ok(())
+}
+
+/// From seed 1 the first account is 6.
+#[test]
+fn a_bank_is_made_from_a_seed(rt: HostRuntime) -> Result<(), Fail> {
+    let script = bank(rt.alloc(), 1, 3)?;
+    let printed = print(rt.alloc(), &script)?;
+    assert!(rt; printed.as_slice() == BANK.as_bytes());
+    parse(rt.alloc(), BANK.as_bytes())?;
     Ok(())
 }

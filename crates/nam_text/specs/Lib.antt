@@ -1,1 +1,4 @@
 pub mod Value
+pub mod Fields
+pub mod Token
+pub mod Read

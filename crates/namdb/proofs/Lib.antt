@@ -9,3 +9,4 @@ mod NamedLemmas
 mod StoreLemmas
 mod ServeLemmas
 mod TopLemmas
+pub mod ScriptLemmas

@@ -20,7 +20,6 @@ use Rattle.si_model.proofs.EvaluationLemmas.{same_key_says, done-writes_key}
 use Rattle.nam_catalog.specs.Tables.{widths_of}
 use Rattle.nam_script.specs.declared.script.Script.{Script}
 use Rattle.nam_script.specs.declared.script.ScriptTxn.{ScriptTxn}
-use Rattle.nam_script.specs.Limits.{TxnFits, IsPlain, is_plain}
 use Rattle.namdb.specs.ScriptSetting.{setting_of}
 use Rattle.namdb.specs.NamedRows.{key_of, has_key, txns_name, named_keys}
 use Rattle.namdb.specs.Few.{found_most, reads_most, ops_count, HasFew}
@@ -211,41 +210,19 @@ pub length-named_keys : (script : Script) → length (named_keys (setting_of scr
 length-named_keys script =
     omega (arith, length-append (map row_key script.rows) (job_keys (map (λ x. x.ops) script.txns)), length-map script.rows row_key, length-job_keys script.txns)
 
--- ---- a script of the plain form reads few
+-- ---- a script of at most 4,194,304 rows and 65,536 operations, at most 32 of them in a transaction, reads few
 
-reads_most-plain : (n : ℕ) (ops : List Op) → AllByRecursion (λ op. is_plain op ≡ true) ops → reads_most n ops ≡ length ops
-reads_most-plain n [] plain = refl
-reads_most-plain n (op ∷ ops) plain = omega (arith, one op plain.0, reads_most-plain n ops plain.1)
-  where
-    one : (op : Op) → is_plain op ≡ true → found_most n op ≡ 1
-    one (Get t k) p = refl
-    one (Put t k v) p = refl
-    one (Add t k f up by) p = refl
-    one (Del t k) p = refl
-    one (Need t k f least) p = refl
-    one (Guard t k) p = refl
-    one (Scan t low high) p = absurd (false≢true p)
-
-few_plain-txns : (n workers : ℕ) (widths : List ℕ) (txns : List ScriptTxn) → AllByRecursion (TxnFits workers widths) txns → AllByRecursion (λ x. AllByRecursion (λ op. IsTrue (is_plain op)) x.ops) txns → AllByRecursion (λ x. reads_most n x.ops < 2 ^ 32) txns
-few_plain-txns n workers widths [] fits plain = tt
-few_plain-txns n workers widths (x ∷ xs) fits plain = (rw (reads_most-plain n x.ops plain.0) fits.0.few, few_plain-txns n workers widths xs fits.1 plain.1)
-
-pub few_plain : (script : Script) → IsPlain script → HasFew script
-few_plain script plain = record { reads = few_plain-txns (length script.rows + ops_count script.txns) script.shape.workers (widths_of script.shape.tables) script.txns plain.in_range.txns plain.ops }
-
--- ---- a script of at most 32,768 rows and 65,536 operations, at most 32 of them in a transaction, reads few
-
-reads_most-limit : (n : ℕ) (ops : List Op) → n ≤ 98304 → reads_most n ops ≤ 98304 * length ops
+reads_most-limit : (n : ℕ) (ops : List Op) → n ≤ 4259840 → reads_most n ops ≤ 4259840 * length ops
 reads_most-limit n [] within = omega arith
 reads_most-limit n (op ∷ ops) within = omega (arith, one (is_scan op), reads_most-limit n ops within)
   where
-    one : (b : Bool) → (if b then n else 1) ≤ 98304
+    one : (b : Bool) → (if b then n else 1) ≤ 4259840
     one true = within
     one false = omega arith
 
-few_limits-txns : (n : ℕ) (txns : List ScriptTxn) → n ≤ 98304 → AllByRecursion (λ x. length x.ops ≤ 32) txns → AllByRecursion (λ x. reads_most n x.ops < 2 ^ 32) txns
+few_limits-txns : (n : ℕ) (txns : List ScriptTxn) → n ≤ 4259840 → AllByRecursion (λ x. length x.ops ≤ 32) txns → AllByRecursion (λ x. reads_most n x.ops < 2 ^ 32) txns
 few_limits-txns n [] within short = tt
 few_limits-txns n (x ∷ xs) within short = (omega (arith, reads_most-limit n x.ops within, short.0), few_limits-txns n xs within short.1)
 
-pub few_limits : (script : Script) → length script.rows ≤ 32768 → ops_count script.txns ≤ 65536 → AllByRecursion (λ x. length x.ops ≤ 32) script.txns → HasFew script
+pub few_limits : (script : Script) → length script.rows ≤ 4194304 → ops_count script.txns ≤ 65536 → AllByRecursion (λ x. length x.ops ≤ 32) script.txns → HasFew script
 few_limits script rows ops short = record { reads = few_limits-txns (length script.rows + ops_count script.txns) script.txns (omega (arith, rows, ops)) short }

@@ -23,7 +23,8 @@ use Rattle.si_model.specs.Setting.{Setting, txns_of}
 use Rattle.si_model.proofs.EvaluationLemmas.{same_key-refl, same_key_says}
 use Rattle.nam_script.specs.declared.script.Script.{Script}
 use Rattle.nam_script.specs.declared.script.ScriptTxn.{ScriptTxn}
-use Rattle.nam_script.specs.Limits.{RowFits, TxnFits, IsInRange}
+use Rattle.nam_script.specs.Limits.{RowFits}
+use Rattle.namdb.specs.InRange.{TxnInRange, IsInRange}
 use Rattle.nam_report.specs.Text.{reads_of as reads_owned, locks_of as locks_owned}
 use Rattle.nam_report.specs.Fits.{NamesTable, ItemFits, LockFits, EventFits, EntryFits, AuditRowFits, LogFits, FitsScript}
 use Rattle.nam_report.proofs.FitsLemmas.{AllByRecursion-append}
@@ -283,7 +284,7 @@ fit-audit widths (r ∷ rs) ordered fit =
 fit-listed : (widths : List ℕ) (rows : List Row) (state : Rows) → ListsRows rows state → AreFit widths state → AllByRecursion (AuditRowFits widths) (audit_of rows)
 fit-listed widths rows state lists fit = fit-audit widths rows lists.ordered (λ key. subst (IsFit widths key.table) (sym (lists.same key)) (fit key))
 
-pub fit-jobs : (workers : ℕ) (widths : List ℕ) (txns : List ScriptTxn) → AllByRecursion (TxnFits workers widths) txns → AllByRecursion (AllByRecursion (OpFits widths)) (map (λ x. x.ops) txns)
+pub fit-jobs : (workers : ℕ) (widths : List ℕ) (txns : List ScriptTxn) → AllByRecursion (TxnInRange workers widths) txns → AllByRecursion (AllByRecursion (OpFits widths)) (map (λ x. x.ops) txns)
 fit-jobs workers widths [] fits = tt
 fit-jobs workers widths (x ∷ xs) fits = (fits.0.ops, fit-jobs workers widths xs fits.1)
 

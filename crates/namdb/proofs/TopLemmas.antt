@@ -1,5 +1,5 @@
 -- What follows from how a call ended, for each status.
-use Rattle.std.proofs.Common.{◌≡◌, ◌≤◌, ℕ, List, [], length, ◌⊎◌, Option, Some, None, String, refl, sym, ◌∙◌, subst, arith, append-nil, inl, inr}
+use Rattle.std.proofs.Common.{◌≡◌, ◌≤◌, ℕ, List, [], length, ◌⊎◌, Option, Some, None, String, refl, sym, ◌∙◌, ap, subst, arith, append-nil, inl, inr}
 use Rattle.std.specs.declared.alloc.Global.{Global}
 use Rattle.std.specs.Io.KnownBytes.{Appends, Consumes}
 use Rattle.nam_io.specs.Faults.{Rose}
@@ -7,7 +7,11 @@ use Rattle.nam_io.specs.Told.{AppendsFront}
 use Rattle.namdb.specs.declared.status.Status.{Status}
 use Rattle.namdb.specs.declared.status.Status.TheVariants.{Done, Usage, BadScript, ReadFault, WriteFault, Memory, TooLong}
 use Rattle.namdb.specs.Status.{line_of}
-use Rattle.namdb.specs.Headline.{AreRunWords, IsAllThatWasLeft, IsWholeInput, HasAtMost, MayRefuse, MayWrite}
+use Rattle.std.specs.Prelude.{◌<◌, IfSome, Result, Ok, Err}
+use Rattle.nam_script.specs.declared.script.Script.{Script}
+use Rattle.nam_script.specs.declared.refusal.Kind.{Kind}
+use Rattle.nam_script.specs.Parse.{Fault, script_of}
+use Rattle.namdb.specs.Headline.{AreRunWords, IsAllThatWasLeft, IsWholeInput, IsAnsweredBy, HasAtMost, MayRefuse, MayWrite}
 use Rattle.namdb.specs.Ending.{HasLine, MakesLine, Sends}
 
 -- an input that was read whole has at most so many bytes
@@ -86,3 +90,34 @@ module _ (words : List (String Global)) (left left_now : Option (List ℕ)) (rea
   memory_keeps Kept Memory result may line memory is = (may.0, may.1, (memory refl).1)
   memory_keeps Kept Done result may line memory is = absurd may
   memory_keeps Kept WriteFault result may line memory is = absurd may
+
+  -- of a source that tells this input, without a fault
+  module _ (input : List ℕ) (is : left ≡ Some input) (few : length input ≤ 1048576) (run : AreRunWords words) (reads_fine : Rose reads reads_now → ⊥) (writes_fine : Rose writes writes_now → ⊥) where
+    the_input : (whole : List ℕ) → IsWholeInput left left_now whole → whole ≡ input
+    the_input whole h = let told : IsAllThatWasLeft (Some input) left_now whole = subst (λ z. IsAllThatWasLeft z left_now whole) is h.0 in sym told.0
+
+    memory_answers : (given : Result Script Fault) (result : Status) → result ≡ Memory → IsAnsweredBy given result
+    memory_answers (Ok script) result e = inr e
+    memory_answers (Err fault) result e = inr e
+
+    pub text_answers : (text out : List ℕ) (result : Status) → MayWrite words left left_now reads reads_now Done text → Sends taken now writes writes_now Done out result → IsAnsweredBy (script_of input) result
+    text_answers text out result may (inl sent) =
+        subst (λ given. IsAnsweredBy given result) (sym (ap script_of (sym (the_input may.1.0 may.1.1)) ∙ may.1.2.read)) (inl sent.0)
+    text_answers text out result may (inr failed) = absurd (writes_fine failed.1)
+
+    bad_answers : (line : ℕ) (kind : Kind) (Kept : Type 0) (result : Status) → script_of input ≡ Err (record { line = line; kind = kind }) → SendsLine taken now writes writes_now Kept (BadScript line kind) result → IsAnsweredBy (script_of input) result
+    bad_answers line kind Kept result bad (inl (inl sent)) = subst (λ given. IsAnsweredBy given result) (sym bad) (inl sent.0)
+    bad_answers line kind Kept result bad (inl (inr failed)) = absurd (writes_fine failed.1)
+    bad_answers line kind Kept result bad (inr memory) = memory_answers (script_of input) result memory.1
+
+    pub refusal_answers : (Kept : Type 0) (status result : Status) → MayRefuse words left left_now reads reads_now status → (HasLine status → SendsLine taken now writes writes_now Kept status result) → (status ≡ Memory → (result ≡ Memory) × Kept) → IsAnsweredBy (script_of input) result
+    refusal_answers Kept Usage result may line memory = absurd (may.0 run)
+    refusal_answers Kept (BadScript number kind) result may line memory =
+        bad_answers number kind Kept result (ap script_of (sym (the_input may.1.0 may.1.1)) ∙ may.1.2) (line tt)
+    refusal_answers Kept ReadFault result may line memory = absurd (reads_fine may.1)
+    refusal_answers Kept TooLong result may line memory =
+        let much : IfSome (Some input) (λ bytes. 1048576 < length bytes) = subst (λ z. IfSome z (λ bytes. 1048576 < length bytes)) is may.1.0 in
+        absurd (omega (arith, much, few))
+    refusal_answers Kept Memory result may line memory = memory_answers (script_of input) result (memory refl).0
+    refusal_answers Kept Done result may line memory = absurd may
+    refusal_answers Kept WriteFault result may line memory = absurd may

@@ -5,12 +5,13 @@ use Rattle.nam_io.specs.Faults.{Rose}
 use Rattle.nam_io.specs.Told.{AppendsFront}
 use Rattle.namdb.specs.declared.status.Status.{Status}
 use Rattle.namdb.specs.declared.status.Status.TheVariants.{Done, BadScript, WriteFault, Memory}
+use Rattle.namdb.specs.Headline.{IsBadScript}
 
 -- an input that was read whole may be answered so, if not by a report
-abbrev pub IsAnswerToInput : Status → Type 0
-IsAnswerToInput (BadScript line kind) = ⊤
-IsAnswerToInput Memory = ⊤
-IsAnswerToInput status = ⊥
+abbrev pub IsAnswerToInput : List ℕ → Status → Type 0
+IsAnswerToInput input (BadScript line kind) = IsBadScript input line kind
+IsAnswerToInput input Memory = ⊤
+IsAnswerToInput input status = ⊥
 
 -- the status writes a line
 abbrev pub HasLine : Status → Type 0

@@ -1,12 +1,15 @@
 -- What the program promises of its words, its input and what it writes.
-use Rattle.std.specs.Prelude.{◌≡◌, ◌≤◌, ◌<◌, ℕ, List, [], length, codes, IfSome, slice_get, Option, Some, None, String, string_bytes, ⊤}
+use Rattle.std.specs.Prelude.{◌≡◌, ◌≤◌, ◌<◌, ◌⊎◌, ℕ, List, [], length, codes, IfSome, slice_get, Result, Ok, Err, Option, Some, None, String, string_bytes, ⊤}
 use Rattle.std.specs.declared.alloc.Global.{Global}
 use Rattle.nam_io.specs.Faults.{Rose}
 use Rattle.nam_io.specs.Told.{LosesFront}
 use Rattle.si_model.specs.declared.report.Report.{Report}
 use Rattle.si_model.specs.Run.{IsRun}
 use Rattle.nam_script.specs.declared.script.Script.{Script}
-use Rattle.nam_script.specs.Text.{script_text}
+use Rattle.nam_script.specs.declared.refusal.Kind.{Kind}
+use Rattle.nam_script.specs.Text.{IsSpelt}
+use Rattle.nam_script.specs.Limits.{IsScript}
+use Rattle.nam_script.specs.Parse.{Fault, script_of}
 use Rattle.nam_report.specs.Fits.{FitsScript}
 use Rattle.nam_report.specs.Text.{report_text}
 use Rattle.namdb.specs.declared.status.Status.{Status}
@@ -18,7 +21,9 @@ use Rattle.namdb.specs.Status.{line_of}
 pub record IsReportOn (input text : List ℕ) : Type 0 where
   pub script : Script
   pub report : Report
-  pub spelt : input ≡ script_text script
+  pub read : script_of input ≡ Ok script
+  pub spelt : IsSpelt script input
+  pub limits : IsScript script
   pub run : IsRun (setting_of script) report
   pub fits : FitsScript script report
   pub written : text ≡ report_text script.shape.tables report
@@ -36,6 +41,16 @@ IsAllThatWasLeft (Some left) now input = (left ≡ input) × (now ≡ Some [])
 abbrev pub IsWholeInput : Option (List ℕ) → Option (List ℕ) → List ℕ → Type 0
 IsWholeInput left now input = IsAllThatWasLeft left now input × (length input ≤ 1048576)
 
+-- the input is no script: its first bad line, and the first of that line's kinds of fault
+abbrev pub IsBadScript : List ℕ → ℕ → Kind → Type 0
+IsBadScript input line kind = script_of input ≡ Err (record { line = line; kind = kind })
+
+-- without a fault of source or sink: a script is answered by its report, any other input by its first bad line, or memory is
+-- not found
+abbrev pub IsAnsweredBy : Result Script Fault → Status → Type 0
+IsAnsweredBy (Ok script) status = (status ≡ Done) ⊎ (status ≡ Memory)
+IsAnsweredBy (Err fault) status = (status ≡ BadScript fault.line fault.kind) ⊎ (status ≡ Memory)
+
 -- more than 1,048,576 bytes were left, and one more than these was read
 abbrev pub HasTooMuch : Option (List ℕ) → Option (List ℕ) → Type 0
 HasTooMuch left now = IfSome left (λ bytes. 1048576 < length bytes) × LosesFront left now (λ n. n ≡ 1048577)
@@ -49,7 +64,7 @@ module _ (words : List (String Global)) (left now : Option (List ℕ)) (faults f
   -- it may be refused so
   abbrev pub MayRefuse : Status → Type 0
   MayRefuse Usage = (AreRunWords words → ⊥) × (now ≡ left)
-  MayRefuse (BadScript line kind) = AreRunWords words × ((input : List ℕ) × IsWholeInput left now input)
+  MayRefuse (BadScript line kind) = AreRunWords words × ((input : List ℕ) × IsWholeInput left now input × IsBadScript input line kind)
   MayRefuse ReadFault = AreRunWords words × Rose faults faults_now × HasAtMost left now
   MayRefuse TooLong = AreRunWords words × HasTooMuch left now
   MayRefuse Memory = AreRunWords words × HasAtMost left now

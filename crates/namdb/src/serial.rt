@@ -7,7 +7,8 @@ ghost use Rattle.si_model.specs.Committed.{rows_held};
 ghost use Rattle.si_model.specs.Run.{IsRun};
 ghost use Rattle.si_model.specs.Setting.{txns_of};
 ghost use Rattle.nam_catalog.specs.Tables.{widths_of};
-ghost use Rattle.nam_script.specs.Limits.{IsInRange};
+ghost use Rattle.nam_script.specs.Limits.{IsScript};
+ghost use Rattle.namdb.specs.InRange.{IsInRange};
 ghost use Rattle.nam_report.specs.Fits.{FitsScript};
 ghost use Rattle.namdb.specs.ScriptSetting.{setting_of};
 ghost use Rattle.namdb.specs.Few.{HasFew};
@@ -194,8 +195,7 @@ fn close(alloc: Global, store: Store, logs: List<Log>) -> Result<Report, AllocEr
 ///
 /// Only where memory is not found.
 pub fn run_serial(alloc: Global, script: &Script) -> Result<Report, AllocError>
-    requires in_range { IsInRange script.now }
-    requires few { HasFew script.now }
+    requires { IsScript script.now }
     ensures run { IfOk result (λ report. IsRun (setting_of script.now) report) }
     ensures fits { IfOk result (λ report. FitsScript script.now report) }
 {

@@ -1,14 +1,15 @@
 //! The top call.
 
-ghost use Rattle.std.specs.Prelude.{◌≡◌, ℕ, List, ◌⊎◌, ◌↔◌, IsTrue, IfOk, IfErr, codes, string_bytes};
+ghost use Rattle.std.specs.Prelude.{◌≡◌, ◌≤◌, ℕ, Some, length, List, ◌⊎◌, ◌↔◌, IsTrue, IfOk, IfErr, codes, string_bytes};
 ghost use Rattle.std.specs.Io.KnownBytes.{Appends};
 ghost use Rattle.nam_io.specs.Faults.{Rose};
 ghost use Rattle.nam_io.specs.Told.{AppendsFront};
 ghost use Rattle.nam_script.specs.declared.refusal.Kind.{Kind};
+ghost use Rattle.nam_script.specs.Parse.{script_of};
 ghost use Rattle.namdb.specs.declared.status.Status.{Status};
 ghost use Rattle.namdb.specs.Status.{script_line, line_of};
 ghost use Rattle.namdb.specs.Ending.{IsAnswerToInput, HasLine, MakesLine, Sends};
-ghost use Rattle.namdb.specs.Headline.{AreRunWords, IsReportOn, IsWholeInput, HasTooMuch, HasAtMost, MayRefuse, MayWrite};
+ghost use Rattle.namdb.specs.Headline.{AreRunWords, IsReportOn, IsWholeInput, IsBadScript, IsAnsweredBy, HasTooMuch, HasAtMost, MayRefuse, MayWrite};
 
 use crate::serial::run_serial;
 use crate::status::{Status, kind_word};
@@ -45,8 +46,18 @@ pub fn namdb<S: Source, K: Sink>(
 
     ensures bad_script { (line : ℕ) → (kind : Kind) → result ≡ Status.BadScript line kind →
         AreRunWords words.now
-        × ((input : List ℕ) × IsWholeInput (S.left source.old) (S.left source.new) input)
+        × ((input : List ℕ) × IsWholeInput (S.left source.old) (S.left source.new) input × IsBadScript input line kind)
         × Appends (K.taken sink.old) (K.taken sink.new) (script_line line kind) }
+
+    // Of a source that tells its content, without a fault of source or sink: Done exactly where the input is a script,
+    // and BadScript exactly where it is none, if memory is found.
+    ensures exactly { (input : List ℕ) →
+        AreRunWords words.now
+        → S.left source.old ≡ Some input
+        → length input ≤ 1048576
+        → ¬ Rose (S.faults source.old) (S.faults source.new)
+        → ¬ Rose (K.faults sink.old) (K.faults sink.new)
+        → IsAnsweredBy (script_of input) result }
 
     ensures read_fault { result ≡ Status.ReadFault →
         AreRunWords words.now
@@ -97,7 +108,7 @@ fn report_of<S: Source>(alloc: Global, words: &[String], source: &mut S) -> Resu
 /// The text of the report on the script that an input spells.
 fn report_on(alloc: Global, input: &[u8]) -> Result<Vec<u8>, Status>
     ensures report { IfOk result (λ text. IsReportOn input.now text.items) }
-    ensures refusal { IfErr result (λ status. IsAnswerToInput status) }
+    ensures refusal { IfErr result (λ status. IsAnswerToInput input.now status) }
 {
     let script = nam_script::parse(alloc, input)?;
     let report = run_serial(alloc, &script)?;

@@ -16,11 +16,18 @@ use Rattle.namdb.proofs.StoreLemmas.{store_open}
 use Rattle.namdb.proofs.ServeLemmas.{held, if_ok_all}
 use Rattle.namdb.proofs.SerialFitsLemmas.{serial_fits}
 use Rattle.namdb.proofs.WholeRunLemmas.{serial_is_run}
+use Rattle.namdb.proofs.ScriptLemmas.{in_range, reads_few}
 use Rattle.namdb.proofs.serial.run_serial.Goals as goal
+
+pub run_workers-requires-clause-in_range : goal.run_workers-requires-clause-in_range
+run_workers-requires-clause-in_range c = in_range c.args.script.now c.requires
+
+pub run_workers-requires-clause-few : goal.run_workers-requires-clause-few
+run_workers-requires-clause-few c = reads_few c.args.script.now c.requires
 
 pub run_workers-requires-clause-store : goal.run_workers-requires-clause-store
 run_workers-requires-clause-store c =
-    store_open (setting_of c.args.script.now) c.in_ok-store.store c.requires.in_range.start c.in_ok-store.ensures.history c.in_ok-store.ensures.vector
+    store_open (setting_of c.args.script.now) c.in_ok-store.store (in_range c.args.script.now c.requires).start c.in_ok-store.ensures.history c.in_ok-store.ensures.vector
     (λ key. c.in_ok-store.ensures.rows key ∙ ap (λ rows. rows_of rows key) c.as_slice.ensures) c.in_ok-store.ensures.stamps
 
 -- the rows that were listed are the final state
@@ -54,5 +61,5 @@ returns-clause-fits c =
     (λ r h l a.
     let history = h ∙ c.in_ok-logs.ensures.history ∙ ap (λ z. end_after s 1 z s.workers) none in
     let logs = l ∙ c.in_ok-logs.ensures.logs ∙ ap (λ z. logs_after s 1 z s.workers) none in
-    serial_fits script r a.0 c.requires.in_range history logs a.1 (final_rows script store r c.in_ok-logs.ensures.store h a.0 a.2))
+    serial_fits script r a.0 (in_range c.args.script.now c.requires) history logs a.1 (final_rows script store r c.in_ok-logs.ensures.store h a.0 a.2))
     c.close.ensures.history c.close.ensures.logs c.close.ensures.audit

@@ -1,0 +1,4 @@
+pub mod Splits
+pub mod Tokens
+pub mod Takes
+pub mod Again

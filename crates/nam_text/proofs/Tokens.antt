@@ -1,0 +1,52 @@
+-- What a field spells.
+use Rattle.std.proofs.Common.{◌≡◌, ℕ, zero, suc, lit<, ◌^◌, ◌<◌, ◌≤◌, Bool, true, false, cond, ltb, leb, List, [], ◌∷◌, length, get_or, Option, Some, None, Result, Ok, Err, refl, sym, ap, subst, ◌∙◌, arith, rules, inl, inr, ◌&&◌, ◌||◌}
+use Rattle.std.specs.List.{list_all, AllByRecursion}
+use Rattle.std.specs.Char.{is_ascii_digit}
+use Rattle.std.specs.Str.{IsUtf8}
+use Rattle.std.specs.Str.Parse.{digits_value, ParsesUnsigned}
+use Rattle.std.specs.Result.{OkIff, result_ok}
+use Rattle.std.proofs.lemmas.Bool.{cases_lt, lt-ltb, le-ltb, leb-true, and_parts}
+use Rattle.std.proofs.lemmas.Bool.Decides.{nat_tests}
+use Rattle.std.proofs.lemmas.Str.Parse.{IsNumeralModel, IsDigitsTest, numerals_by_value, parse_digits}
+use Rattle.std.proofs.lemmas.Str.{IsUtf8-from_ascii}
+use Rattle.std.proofs.lemmas.Fmt.{IsAscii-from_digits}
+use Rattle.nam_text.specs.Token.{number_value, is_name, is_name_byte}
+
+abbrev pub AreDigits : List ℕ → Type 0
+AreDigits ds = list_all is_ascii_digit ds ≡ true
+
+pub tells_digits : IsDigitsTest AreDigits
+tells_digits = search rules
+
+pub numerals : IsNumeralModel AreDigits (digits_value 10)
+numerals = numerals_by_value AreDigits tells_digits
+
+value_by_cases : {E : Type 0} (ds : List ℕ) (r : Result ℕ E) → 0 < length ds → OkIff r ((0 < length ds) × (digits_value 10 ds < 2 ^ 64)) (digits_value 10 ds) → result_ok r ≡ number_value ds
+value_by_cases ds (Ok x) some h = rw (lt-ltb _ _ h.0.1, h.1) refl
+value_by_cases ds (Err e) some h =
+    let le : 2 ^ 64 ≤ digits_value 10 ds = elim (cases_lt (digits_value 10 ds) (2 ^ 64)) [ inl lt ↦ absurd (h (some, lt)) | inr le ↦ le ] in
+    rw (le-ltb _ _ le) refl
+
+pub value_gives : {E : Type 0} (ds : List ℕ) (r : Result ℕ E) → AreDigits ds → 0 < length ds → ParsesUnsigned 64 10 ds r → result_ok r ≡ number_value ds
+value_gives ds r p some h = value_by_cases ds r some (parse_digits numerals 64 ds r h p)
+
+pub utf8_from_digits : (ds : List ℕ) → AreDigits ds → IsUtf8 ds
+utf8_from_digits ds p = IsUtf8-from_ascii ds (IsAscii-from_digits ds (numerals.to ds p))
+
+name_byte_ascii : (b : ℕ) → is_name_byte b ≡ true → b < 128
+name_byte_ascii b h = grind (arith, nat_tests)
+
+ascii_name : (f : List ℕ) → list_all is_name_byte f ≡ true → AllByRecursion (λ b. b < 128) f
+ascii_name [] h = tt
+ascii_name (b ∷ f) h = let p = and_parts _ _ h in (name_byte_ascii b p.0, ascii_name f p.1)
+
+each_ascii : (f : List ℕ) → AllByRecursion (λ b. b < 128) f → (i : ℕ) → get_or f i 0 < 128
+each_ascii [] h i = lit< tt
+each_ascii (b ∷ f) h zero = h.0
+each_ascii (b ∷ f) h (suc i) = each_ascii f h.1 i
+
+pub utf8_from_name : (f : List ℕ) → is_name f ≡ true → IsUtf8 f
+utf8_from_name f h = IsUtf8-from_ascii f (each_ascii f (ascii_name f (and_parts _ _ h).1))
+
+pub short_name : (f : List ℕ) → is_name f ≡ true → length f ≤ 16
+short_name f h = leb-true _ _ (and_parts _ _ (and_parts _ _ (and_parts _ _ h).0).0).1

@@ -1,0 +1,7 @@
+use Rattle.std.proofs.Common.{◌≡◌}
+use Rattle.nam_text.proofs.Tokens.{utf8_from_name}
+use Rattle.nam_text.proofs.reading.name_of.Goals as goal
+
+-- a name is plain text
+pub returns-in-Err : goal.returns-in-Err
+returns-in-Err c = absurd (c.in-Err.ensures.cases.0 (utf8_from_name c.args.text.now c.requires))

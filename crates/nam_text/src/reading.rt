@@ -1,0 +1,62 @@
+//! Readers of single fields. Each tells by None that the next field isn't what it reads.
+
+ghost use Rattle.std.specs.Prelude.{◌≡◌, ◌≤◌, length, true, IsTrue};
+ghost use Rattle.std.specs.Str.{bytes_eq, IsUtf8};
+ghost use Rattle.nam_text.specs.Token.{is_name};
+ghost use Rattle.nam_text.specs.Read.{word_at, number_at, name_at, Reads, ReadsWord};
+
+use crate::fields::Fields;
+use crate::token::{Number, is_name, number};
+use nam_catalog::TableName;
+use std::str;
+
+/// Is it this word?
+pub fn is_word(field: &[u8], word: &[u8]) -> bool
+    ensures { result ≡ bytes_eq field.now word.now }
+{
+    field == word
+}
+
+/// Reads a word.
+pub fn word_at(fields: &mut Fields, word: &[u8]) -> Option<()>
+    ensures { ReadsWord result fields.new (word_at word.now fields.old) }
+{
+    if is_word(fields.next()?, word) {
+        Some(())
+    } else {
+        None
+    }
+}
+
+/// Reads a number.
+#[tactic(auto, unfolding(crate::specs::Read::number_at))]
+pub fn number_at(fields: &mut Fields) -> Option<Number>
+    ensures { Reads result fields.new (number_at fields.old) }
+{
+    number(fields.next()?)
+}
+
+/// The name of a table with this text.
+#[tactic(auto, using(crate::proofs::Tokens::utf8_from_name, crate::proofs::Tokens::short_name))]
+fn name_of(text: &[u8]) -> TableName
+    requires { is_name text.now ≡ true }
+    ensures { result ≡ text.now }
+{
+    match str::from_utf8(text) {
+        Ok(text) => TableName::from_text(text),
+        Err(_) => TableName::default(),
+    }
+}
+
+/// Reads the name of a table.
+#[tactic(auto, unfolding(crate::specs::Read::name_at))]
+pub fn name_at(fields: &mut Fields) -> Option<TableName>
+    ensures { Reads result fields.new (name_at fields.old) }
+{
+    let field = fields.next()?;
+    if is_name(field) {
+        Some(name_of(field))
+    } else {
+        None
+    }
+}

@@ -30,6 +30,9 @@ pub mod Fits
 pub mod TxnFits
 pub mod ClientFits
 pub mod FallsLaw
+pub mod AttemptLaw
+pub mod VerbFields
+pub mod AddressFact
 pub mod Grows
 pub mod Program
 pub mod ProgramRead

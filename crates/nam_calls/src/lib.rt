@@ -29,7 +29,8 @@ pub use laws_growth::{
     read_program_law, session_logs_grow_law,
 };
 pub use laws_left::{
-    cells_fall, client_falls, locks_fall, position_falls, read_falls, scan_falls, txn_falls,
+    attempt_bound, calls_reach, cells_fall, client_falls, locks_fall, machines_reach,
+    position_falls, reached_within, read_falls, scan_falls, txn_falls,
 };
 pub use lock::{LockEnd, LockPlace};
 pub use mover::{MoveAnswer, MovePlace};

@@ -171,6 +171,369 @@ get t 5
 end
 ";
 
+const ABSENT_KEY_REPORT: &str = "\
+report 1
+history 0
+worker 1 events 1
+t 1 try 1 prefix 0 read
+r t 0 7
+r t 5 -
+audit 1
+a t 0 7
+end
+";
+
+/// The last number of narrow headers is taken; a later write finds the numbers spent.
+const SPENT: &str = "\
+namdb 1
+header narrow
+workers 1
+tries 1
+tidy off
+start 4294967294
+overflow 1 1
+table t width 1 capacity 1 ring 1
+row t 0 1
+txn 1
+put t 0 2
+end
+txn 1
+put t 0 3
+end
+txn 1
+get t 0
+end
+";
+
+const SPENT_REPORT: &str = "\
+report 1
+history 1
+c 1 worker 1 number 4294967295 prefix 0 txn 1
+w t 0 2
+worker 1 events 3
+t 1 try 1 prefix 0 commit 4294967295
+l t 0 0 0
+t 2 try 1 prefix 1 spent
+t 3 try 1 prefix 1 read
+r t 0 2
+audit 1
+a t 0 2
+end
+";
+
+/// A row is deleted, and put again twice in one transaction.
+const DELETED: &str = "\
+namdb 1
+header narrow
+workers 1
+tries 1
+tidy off
+start 0
+overflow 1 1
+table t width 2 capacity 2 ring 4
+row t 0 1 2
+txn 1
+del t 0
+get t 0
+end
+txn 1
+get t 0
+put t 0 3 4
+put t 0 5 6
+get t 0
+end
+";
+
+const DELETED_REPORT: &str = "\
+report 1
+history 2
+c 1 worker 1 number 1 prefix 0 txn 1
+w t 0 -
+c 2 worker 1 number 2 prefix 1 txn 2
+w t 0 5 6
+worker 1 events 2
+t 1 try 1 prefix 0 commit 1
+r t 0 -
+l t 0 0 0
+t 2 try 1 prefix 1 commit 2
+r t 0 -
+r t 0 5 6
+l t 0 1 1
+audit 1
+a t 0 5 6
+end
+";
+
+/// The last number of wide headers is taken.
+const WIDE: &str = "\
+namdb 1
+header wide
+workers 1
+tries 1
+tidy off
+start 35184372088830
+overflow 1 1
+table t width 1 capacity 1 ring 1
+row t 0 1
+txn 1
+put t 0 2
+end
+txn 1
+put t 0 3
+end
+txn 1
+get t 0
+end
+";
+
+const WIDE_REPORT: &str = "\
+report 1
+history 1
+c 1 worker 1 number 35184372088831 prefix 0 txn 1
+w t 0 2
+worker 1 events 3
+t 1 try 1 prefix 0 commit 35184372088831
+l t 0 0 0
+t 2 try 1 prefix 1 spent
+t 3 try 1 prefix 1 read
+r t 0 2
+audit 1
+a t 0 2
+end
+";
+
+/// A scan shows the writes of its transaction, and ends below the greatest key.
+const SCANNED: &str = "\
+namdb 1
+header narrow
+workers 1
+tries 1
+tidy off
+start 0
+overflow 1 1
+table t width 1 capacity 4 ring 1
+row t 3 30
+row t 1 10
+row t 7 70
+txn 1
+put t 2 20
+del t 1
+scan t 1 3
+end
+txn 1
+scan t 0 18446744073709551614
+end
+";
+
+const SCANNED_REPORT: &str = "\
+report 1
+history 1
+c 1 worker 1 number 1 prefix 0 txn 1
+w t 2 20
+w t 1 -
+worker 1 events 2
+t 1 try 1 prefix 0 commit 1
+r t 2 20
+r t 3 30
+l t 2 0 0
+l t 1 0 0
+t 2 try 1 prefix 1 read
+r t 2 20
+r t 3 30
+r t 7 70
+audit 3
+a t 2 20
+a t 3 30
+a t 7 70
+end
+";
+
+/// A scan ahead of the writes shows what stood before them.
+const SCANNED_FIRST: &str = "\
+namdb 1
+header narrow
+workers 1
+tries 1
+tidy off
+start 0
+overflow 1 1
+table t width 1 capacity 4 ring 1
+row t 3 30
+row t 1 10
+row t 7 70
+txn 1
+scan t 1 3
+put t 2 20
+del t 1
+end
+txn 1
+scan t 0 18446744073709551614
+end
+";
+
+const SCANNED_FIRST_REPORT: &str = "\
+report 1
+history 1
+c 1 worker 1 number 1 prefix 0 txn 1
+w t 2 20
+w t 1 -
+worker 1 events 2
+t 1 try 1 prefix 0 commit 1
+r t 1 10
+r t 3 30
+l t 2 0 0
+l t 1 0 0
+t 2 try 1 prefix 1 read
+r t 2 20
+r t 3 30
+r t 7 70
+audit 3
+a t 2 20
+a t 3 30
+a t 7 70
+end
+";
+
+/// A script whose last transaction has no end.
+const UNENDED: &str = "\
+namdb 1
+header narrow
+workers 1
+tries 1
+tidy off
+start 0
+overflow 1 1
+table t width 1 capacity 1 ring 1
+row t 0 0
+txn 1
+add t 0 1 +1
+";
+
+/// A number of workers that no word holds.
+const WORKERS_ABOVE: &str = "\
+namdb 1
+header narrow
+workers 18446744073709551616
+tries 1
+tidy off
+start 0
+overflow 1 1
+table t width 1 capacity 1 ring 1
+row t 0 7
+";
+
+/// A start above what narrow headers hold.
+const START_ABOVE: &str = "\
+namdb 1
+header narrow
+workers 1
+tries 1
+tidy off
+start 35184372088830
+overflow 1 1
+table t width 1 capacity 1 ring 1
+row t 0 1
+txn 1
+put t 0 2
+end
+txn 1
+put t 0 3
+end
+txn 1
+get t 0
+end
+";
+
+/// Mistakes behind `ONE_ROW`, whose last line is 9: what stands there, and the refusal's line and kind.
+const MISTAKES: [(&str, u32, Kind, &str); 21] = [
+    ("row t 0 8\n", 10, Kind::Twice, "error script 10 twice\n"),
+    ("row t 1 8\n", 10, Kind::Size, "error script 10 size\n"),
+    ("row u 1 8\n", 10, Kind::Name, "error script 10 name\n"),
+    (
+        "row u 1 8\nrow t 0 8\n",
+        10,
+        Kind::Name,
+        "error script 10 name\n",
+    ),
+    ("row t 00 8\n", 10, Kind::Word, "error script 10 word\n"),
+    (
+        "table t width 1 capacity 1 ring 1\n",
+        10,
+        Kind::Word,
+        "error script 10 word\n",
+    ),
+    ("txn 2\n", 10, Kind::Range, "error script 10 range\n"),
+    ("txn 1\n", 11, Kind::Cut, "error script 11 cut\n"),
+    ("txn 1\nend\n", 11, Kind::Word, "error script 11 word\n"),
+    (
+        "txn 1\nget t 18446744073709551615\n",
+        11,
+        Kind::Range,
+        "error script 11 range\n",
+    ),
+    (
+        "txn 1\nput t 0 1 2\n",
+        11,
+        Kind::Size,
+        "error script 11 size\n",
+    ),
+    (
+        "txn 1\nadd t 0 1 -0\n",
+        11,
+        Kind::Word,
+        "error script 11 word\n",
+    ),
+    (
+        "txn 1\nneed t 0 2 1\n",
+        11,
+        Kind::Range,
+        "error script 11 range\n",
+    ),
+    (
+        "txn 1\nguard u 0\n",
+        11,
+        Kind::Name,
+        "error script 11 name\n",
+    ),
+    (
+        "txn 1\nscan t 1 0\n",
+        11,
+        Kind::Range,
+        "error script 11 range\n",
+    ),
+    (
+        "txn 1\nget t 0\nend",
+        12,
+        Kind::Cut,
+        "error script 12 cut\n",
+    ),
+    (
+        "txn 1\nget t 0\nend\nrow t 1 8\n",
+        13,
+        Kind::Word,
+        "error script 13 word\n",
+    ),
+    ("turns 1*0\n", 10, Kind::Range, "error script 10 range\n"),
+    (
+        "turns 1*1\ntxn 1\n",
+        11,
+        Kind::Word,
+        "error script 11 word\n",
+    ),
+    (
+        "seed 1 1000001\n",
+        10,
+        Kind::Range,
+        "error script 10 range\n",
+    ),
+    (
+        "seed 1 2\nturns 1*1\n",
+        11,
+        Kind::Word,
+        "error script 11 word\n",
+    ),
+];
+
 /// The most bytes that a call of a source or a sink passes here.
 const PIECE: usize = 16;
 
@@ -219,6 +582,12 @@ fn a_script_is_answered_by_its_report(rt: HostRuntime) -> Result<(), AllocError>
         (ONE_ROW, ONE_ROW_REPORT),
         (DECLINED, DECLINED_REPORT),
         (TWO_WORKERS, TWO_WORKERS_REPORT),
+        (ABSENT_KEY, ABSENT_KEY_REPORT),
+        (SPENT, SPENT_REPORT),
+        (DELETED, DELETED_REPORT),
+        (WIDE, WIDE_REPORT),
+        (SCANNED, SCANNED_REPORT),
+        (SCANNED_FIRST, SCANNED_FIRST_REPORT),
     ] {
         let (status, sink) = ending(rt.alloc(), &unfailing(RUN, script.as_bytes()))?;
         assert!(rt; status == Status::Done, "{script}");
@@ -227,27 +596,53 @@ fn a_script_is_answered_by_its_report(rt: HostRuntime) -> Result<(), AllocError>
     Ok(())
 }
 
+fn bad(line: u32, kind: Kind) -> Status {
+    Status::BadScript { line, kind }
+}
+
 #[test]
 fn a_refusal_writes_its_line(rt: HostRuntime) -> Result<(), AllocError> {
-    let cut = Status::BadScript {
-        line: 1,
-        kind: Kind::Cut,
-    };
-    let range = Status::BadScript {
-        line: 12,
-        kind: Kind::Range,
-    };
-    let cases: [(&[&str], &str, Status, &str); 5] = [
+    let cases: [(&[&str], &str, Status, &str); 8] = [
         (&[], ONE_ROW, Status::Usage, "error usage\n"),
         (&["namdb"], ONE_ROW, Status::Usage, "error usage\n"),
-        (&["namdb", "fly"], ONE_ROW, Status::Usage, "error usage\n"),
-        (RUN, "", cut, "error script 1 cut\n"),
-        (RUN, ABSENT_KEY, range, "error script 12 range\n"),
+        (&["namdb", "fly"], "", Status::Usage, "error usage\n"),
+        (
+            &["namdb", "run", "--from", "xml"],
+            "",
+            Status::Usage,
+            "error usage\n",
+        ),
+        (RUN, "", bad(1, Kind::Cut), "error script 1 cut\n"),
+        (RUN, UNENDED, bad(12, Kind::Cut), "error script 12 cut\n"),
+        (
+            RUN,
+            WORKERS_ABOVE,
+            bad(3, Kind::Range),
+            "error script 3 range\n",
+        ),
+        (
+            RUN,
+            START_ABOVE,
+            bad(6, Kind::Range),
+            "error script 6 range\n",
+        ),
     ];
     for (words, script, wanted, line) in cases {
         let (status, sink) = ending(rt.alloc(), &unfailing(words, script.as_bytes()))?;
         assert!(rt; status == wanted, "{line}");
         assert!(rt; sink.bytes() == line.as_bytes(), "{line}");
+    }
+    Ok(())
+}
+
+#[test]
+fn a_mistake_is_named_by_its_line_and_kind(rt: HostRuntime) -> Result<(), AllocError> {
+    for (mistake, line, kind, wanted) in MISTAKES {
+        let mut script = String::from_str(rt.alloc(), ONE_ROW)?;
+        script.push_str(mistake)?;
+        let (status, sink) = ending(rt.alloc(), &unfailing(RUN, script.as_bytes()))?;
+        assert!(rt; status == bad(line, kind), "{mistake}");
+        assert!(rt; sink.bytes() == wanted.as_bytes(), "{mistake}");
     }
     Ok(())
 }

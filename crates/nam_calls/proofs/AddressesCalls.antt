@@ -48,10 +48,12 @@ use Rattle.nam_calls.specs.Client.{open_verb, call_verb, verb_of, client_verb}
 use Rattle.nam_calls.specs.Fits.{FindFits, ClaimKeyFits, WordsFit, InstallFits, CopyFits, ReadFits, LockFits}
 use Rattle.nam_calls.specs.TxnFits.{IsTableOf, StateFits, CommitFits, TxnPlaceFits, ScanFits}
 use Rattle.nam_calls.specs.ClientFits.{OpenFits, OpenPlaceFits, CallPlaceFits, NowFits, ClientFits}
-use Rattle.nam_calls.specs.VerbFields.{path_field, claim_key_field, words_field, install_field, slot_field, copy_field, lock_field, read_field, scan_field, commit_field, txn_field, open_field, call_field, Reaches, row_place}
+use Rattle.nam_calls.specs.VerbFields.{path_field, claim_key_field, words_field, install_field, slot_field, copy_field, lock_field}
+use Rattle.nam_calls.specs.VerbFields.{read_field, scan_field, commit_field, txn_field, open_field, call_field, Reaches, row_place}
 use Rattle.nam_calls.proofs.FallsTests.{by_test}
 use Rattle.nam_calls.proofs.FallsKeys.{place_of_nth, op_table, writes_within, record_is_placed}
-use Rattle.nam_calls.proofs.AddressesMachines.{words_reach, install_reaches, slot_reaches, copy_reaches, move_reaches, snap_reaches, collect_reaches, bucket_less, read_reaches}
+use Rattle.nam_calls.proofs.AddressesMachines.{words_reach, install_reaches, slot_reaches, copy_reaches, move_reaches, snap_reaches}
+use Rattle.nam_calls.proofs.AddressesMachines.{collect_reaches, bucket_less, read_reaches}
 
 module _ (shape : Shape) (limits : FitsLimits shape) where
   -- 1. A table's positions

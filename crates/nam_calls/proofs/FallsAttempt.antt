@@ -1,5 +1,6 @@
 -- The bound on verbs of an attempt is the sum of those of its calls.
-use Rattle.std.proofs.Common.{◌≡◌, ℕ, ◌+◌, ◌*◌, List, [], ◌∷◌, ◌++◌, length, refl, sym, ◌∙◌, ap, subst, arith, inl, inr, Bool, true, false, not, Option, Some, None}
+use Rattle.std.proofs.Common.{◌≡◌, ℕ, ◌+◌, ◌*◌, List, [], ◌∷◌, ◌++◌, length, refl, sym, ◌∙◌, ap, subst, arith, inl, inr, Bool, true, false}
+use Rattle.std.proofs.Common.{not, Option, Some, None}
 use Rattle.std.specs.Prelude.{if◌then◌else◌, map, filter, slice_index}
 use Rattle.std.proofs.lemmas.Bool.{cases_Bool, false≢true}
 use Rattle.nam_verbs.specs.declared.now.Now.{Now}
@@ -9,7 +10,8 @@ use Rattle.si_model.specs.declared.row.Item.{Item}
 use Rattle.si_model.specs.declared.op.Op.{Op}
 use Rattle.si_model.specs.declared.op.Op.TheVariants.{Get, Put, Add, Del, Need, Guard, Scan}
 use Rattle.si_model.specs.Rows.{Rows, key_at, same_key, item_key, item_at, writes_key}
-use Rattle.si_model.specs.Evaluation.{field_of, with_field, changed, wrote, guarded, passes, writes_after, guards_after, unwritten, key_written, key_guarded, ops_write, keys_from, written_keys, guard_keys}
+use Rattle.si_model.specs.Evaluation.{field_of, with_field, changed, wrote, guarded, passes, writes_after, guards_after, unwritten}
+use Rattle.si_model.specs.Evaluation.{key_written, key_guarded, ops_write, keys_from, written_keys, guard_keys}
 use Rattle.si_model.specs.EvaluationLaws.{writes_from}
 use Rattle.si_model.proofs.EvaluationLemmas.{same_key_says, map-writes_from, writes_key-writes_from}
 use Rattle.nam_catalog.specs.declared.shape.Shape.{Shape}
@@ -111,7 +113,8 @@ module _ (ws : List Item) (gs : List Key) (ops : List Op) (asked : KeysAsked ws 
   one_more widths (Get t k) value = unchanged (Get t k) refl refl
   one_more widths (Put t k v) value = wrote_one (Put t k v) (item_at (key_at t k) (Some v)) refl refl
   one_more widths (Add t k f up by) value =
-      wrote_one (Add t k f up by) (item_at (key_at t k) (Some (with_field (slice_index widths t) value f (changed up (field_of value f) by)))) refl refl
+      wrote_one (Add t k f up by) (item_at (key_at t k) (Some (with_field (slice_index widths t) value f (changed up (field_of value f) by))))
+      refl refl
   one_more widths (Del t k) value = wrote_one (Del t k) (item_at (key_at t k) None) refl refl
   one_more widths (Need t k f least) value = unchanged (Need t k f least) refl refl
   one_more widths (Guard t k) value = guarded_one (Guard t k) (key_at t k) refl refl

@@ -43,10 +43,13 @@ use Rattle.nam_calls.specs.Reading.{sight_of, read_verb}
 use Rattle.nam_calls.specs.TxnCalls.{txn_verb}
 use Rattle.nam_calls.specs.Scan.{scan_verb}
 use Rattle.nam_calls.specs.Client.{call_verb, client_verb}
-use Rattle.nam_calls.specs.Fits.{IsOf, FindFits, ClaimKeyFits, CurrentFits, WordsFit, InstallFits, CopyFits, RingFits, CellFits, ClaimFits, FillFits, MoveFits, CollectFits, ReadFits}
+use Rattle.nam_calls.specs.Fits.{IsOf, FindFits, ClaimKeyFits, CurrentFits, WordsFit, InstallFits, CopyFits, RingFits, CellFits, ClaimFits}
+use Rattle.nam_calls.specs.Fits.{FillFits, MoveFits, CollectFits, ReadFits}
 use Rattle.nam_calls.specs.TxnFits.{IsTableOf, StateFits, TxnPlaceFits, ScanFits}
 use Rattle.nam_calls.specs.ClientFits.{ClientFits}
-use Rattle.nam_calls.specs.VerbFields.{path_field, claim_key_field, current_field, words_field, install_field, slot_field, copy_field, ring_field, cell_field, claim_field, fill_field, move_field, snap_field, collect_field, read_field, scan_field, txn_field, call_field, Reaches, row_place}
+use Rattle.nam_calls.specs.VerbFields.{path_field, claim_key_field, current_field, words_field, install_field, slot_field, copy_field}
+use Rattle.nam_calls.specs.VerbFields.{ring_field, cell_field, claim_field, fill_field, move_field, snap_field, collect_field, read_field}
+use Rattle.nam_calls.specs.VerbFields.{scan_field, txn_field, call_field, Reaches, row_place}
 
 -- 1. Machines, at the words of a row, of a bucket and of workers
 

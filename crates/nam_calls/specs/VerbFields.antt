@@ -4,7 +4,8 @@ use Rattle.nam_verbs.specs.declared.verb.Verb.{Verb}
 use Rattle.nam_verbs.specs.Verb.{address_of}
 use Rattle.nam_catalog.specs.declared.shape.Shape.{Shape}
 use Rattle.nam_layout.specs.declared.field.Field.{Field}
-use Rattle.nam_layout.specs.declared.field.Field.TheVariants.{Entry, Horizon, Key, Header, Count, Word, SlotHeader, SlotEnd, SlotWord, Tag, Owner, Begin, End, CellWord}
+use Rattle.nam_layout.specs.declared.field.Field.TheVariants.{Entry, Horizon, Key, Header, Count, Word, SlotHeader, SlotEnd, SlotWord, Tag}
+use Rattle.nam_layout.specs.declared.field.Field.TheVariants.{Owner, Begin, End, CellWord}
 use Rattle.nam_layout.specs.declared.field.Place.{Place}
 use Rattle.nam_layout.specs.declared.field.Cells.{Cells}
 use Rattle.nam_layout.specs.Address.{IsField, address}
@@ -31,7 +32,8 @@ use Rattle.nam_calls.specs.declared.overflow.ClaimPlace.TheVariants.{ClaimLook, 
 use Rattle.nam_calls.specs.declared.overflow.FillPlace.{FillPlace}
 use Rattle.nam_calls.specs.declared.overflow.FillPlace.TheVariants.{FillOwner, FillBegin, FillEnding, FillWord}
 use Rattle.nam_calls.specs.declared.mover.MovePlace.{MovePlace}
-use Rattle.nam_calls.specs.declared.mover.MovePlace.TheVariants.{MoveCount, MoveHead, MoveEnding, MoveClaim, MoveWords, MoveFill, MoveAgain, MoveFull, MoveFlag, MoveBack}
+use Rattle.nam_calls.specs.declared.mover.MovePlace.TheVariants.{MoveCount, MoveHead, MoveEnding, MoveClaim, MoveWords, MoveFill, MoveAgain}
+use Rattle.nam_calls.specs.declared.mover.MovePlace.TheVariants.{MoveFull, MoveFlag, MoveBack}
 use Rattle.nam_calls.specs.declared.horizon.CollectPlace.{CollectPlace}
 use Rattle.nam_calls.specs.declared.horizon.CollectPlace.TheVariants.{HorizonLook, HorizonRaise, CollectTag, CollectEnding, CollectFree}
 use Rattle.nam_calls.specs.declared.lock.LockPlace.{LockPlace}

@@ -44,8 +44,7 @@ pub fn read_falls()
 {}
 
 /// The same for each call of a transaction, its commit included: what the transaction has at hand fits after each word,
-/// and a call begins with no more verbs than its bound. The bounds of the snapshot, of the operations and of the commit
-/// add up to that of a whole attempt.
+/// and a call begins with no more verbs than its bound.
 pub fn txn_falls()
     ensures falls { TxnLaw }
     ensures begins { TxnBeginsLaw }

@@ -5,6 +5,7 @@ use crate::top::namdb;
 use nam_io::{MemSink, MemSource};
 use nam_script::Kind;
 use std::alloc::{AllocError, Global};
+use std::test::Fail;
 
 const TRANSFER: &str = "\
 namdb 1
@@ -598,6 +599,18 @@ fn a_script_is_answered_by_its_report(rt: HostRuntime) -> Result<(), AllocError>
 
 fn bad(line: u32, kind: Kind) -> Status {
     Status::BadScript { line, kind }
+}
+
+#[test]
+fn each_worked_script_prints_as_it_was(rt: HostRuntime) -> Result<(), Fail> {
+    for text in [
+        TRANSFER, ONE_ROW, ABSENT_KEY, SPENT, DELETED, DECLINED, WIDE, SCANNED,
+    ] {
+        let script = nam_script::parse(rt.alloc(), text.as_bytes())?;
+        let printed = nam_script::print(rt.alloc(), &script)?;
+        assert!(rt; printed.as_slice() == text.as_bytes(), "{text}");
+    }
+    Ok(())
 }
 
 #[test]

@@ -1,5 +1,5 @@
 -- steps of a call, and where it stands after words
-use Rattle.std.proofs.Common.{◌≡◌, ℕ, zero, suc, ◌+◌, ◌<◌, List, [], ◌∷◌, ◌++◌, map, length, Some, refl, sym, ◌∙◌, ap, subst, arith}
+use Rattle.std.proofs.Common.{◌≡◌, ℕ, zero, suc, ◌+◌, ◌<◌, List, [], ◌∷◌, ◌++◌, map, length, Some, IsSome, refl, sym, ◌∙◌, ap, subst, arith}
 use Rattle.nam_verbs.specs.declared.verb.Verb.{Verb}
 use Rattle.nam_verbs.specs.declared.now.Now.{Now}
 use Rattle.nam_verbs.specs.declared.now.Now.TheVariants.{At, Over}
@@ -11,26 +11,32 @@ use Rattle.nam_verbs.specs.Steps.{Step, Ends, EndsWith, Does, EndsAfter, StepsLa
 module _ {P E : Type 0} (verb : P → Verb) (after : P → ℕ → Now P E) where
   -- 1. Ends by words, and ends with steps
 
-  module _ (left : P → ℕ) (reach : ℕ) where
+  module _ (left : P → ℕ) (reach : ℕ) {M : Type 0} (running : M → Running P E) (takes : M → ℕ → M)
+      (as_call : (m : M) (found : ℕ) → running (takes m found) ≡ after_found (running m) found) where
     abbrev call : Now P E → Running P E
     call now = record { verb = verb; after = after; left = left; reach = reach; state = now }
 
-    pub steps_by : (now : Now P E) (words : List ℕ) (end : E) → EndsBy next_verb after_found end_of (call now) words end
+    abbrev EndsIn : M → List ℕ → E → Type 0
+    EndsIn m words end = EndsBy (λ m. next_verb (running m)) takes (λ m. end_of (running m)) m words end
+
+    pub steps_by : (now : Now P E) (m : M) (words : List ℕ) (end : E) → running m ≡ call now → EndsIn m words end
         → (steps : List Step) × (words_of steps ≡ words) × Ends verb after now steps end
-    steps_by (Over over) [] end ends = let is = ends.1 in ([], refl, cc)
-    steps_by (Over over) (word ∷ words) end ends = let none = ends.0.0 in absurd (cc)
-    steps_by (At place) [] end ends = let none = ends.1 in absurd (cc)
-    steps_by (At place) (word ∷ words) end ends =
-        let later = steps_by (after place word) words end (ends.0.1, ends.1) in
+    steps_by (Over over) m [] end is ends = let none : end_of (call (Over over)) ≡ Some end = rw is at ends.1 in ([], refl, cc)
+    steps_by (Over over) m (word ∷ words) end is ends = let none : IsSome (next_verb (call (Over over))) = rw is at ends.0.0 in absurd (cc)
+    steps_by (At place) m [] end is ends = let none : end_of (call (At place)) ≡ Some end = rw is at ends.1 in absurd (cc)
+    steps_by (At place) m (word ∷ words) end is ends =
+        let goes = as_call m word ∙ ap (λ c. after_found c word) is in
+        let later = steps_by (after place word) (takes m word) words end goes (ends.0.1, ends.1) in
         (record { verb = verb place; found = word } ∷ later.0, ap (λ ws. word ∷ ws) later.1, (refl, later.2))
 
-    pub words_by : (now : Now P E) (steps : List Step) (end : E) → Ends verb after now steps end
-        → EndsBy next_verb after_found end_of (call now) (words_of steps) end
-    words_by (Over over) [] end ends = (tt, ap Some ends)
-    words_by (Over over) (step ∷ steps) end ends = absurd ends
-    words_by (At place) [] end ends = absurd ends
-    words_by (At place) (step ∷ steps) end ends =
-        let later = words_by (after place step.found) steps end ends.1 in ((refl, later.0), later.1)
+    pub words_by : (now : Now P E) (m : M) (steps : List Step) (end : E) → running m ≡ call now → Ends verb after now steps end
+        → EndsIn m (words_of steps) end
+    words_by (Over over) m [] end is ends = (tt, rw is (ap Some ends))
+    words_by (Over over) m (step ∷ steps) end is ends = absurd ends
+    words_by (At place) m [] end is ends = absurd ends
+    words_by (At place) m (step ∷ steps) end is ends =
+        let goes = as_call m step.found ∙ ap (λ c. after_found c step.found) is in
+        let later = words_by (after place step.found) (takes m step.found) steps end goes ends.1 in ((rw is refl, later.0), later.1)
 
   -- 2. Verbs that are done whatever is found
 
@@ -81,11 +87,12 @@ module _ {P E : Type 0} (Holds : P → Type 0) where
 
 -- 4. The laws
 
-pub law_of_steps : (P E : Type 0) → StepsLaw P E
-law_of_steps P E call words end = (
-  steps_by call.verb call.after call.left call.reach call.state words end,
-  λ steps. rw (← steps.1) (words_by call.verb call.after call.left call.reach call.state steps.0 end steps.2),
-)
+pub law_of_steps : (M P E : Type 0) → StepsLaw M P E
+law_of_steps M P E running takes as_call m words end =
+    let call = running m in (
+      steps_by call.verb call.after call.left call.reach running takes as_call call.state m words end refl,
+      λ steps. rw (← steps.1) (words_by call.verb call.after call.left call.reach running takes as_call call.state m steps.0 end refl steps.2),
+    )
 
 pub law_of_verbs : (P E : Type 0) → VerbsLaw P E
 law_of_verbs P E call verbs end does steps other = (

@@ -65,10 +65,12 @@ module _ {P E : Type 0} where
   abbrev pub EndsAfter : Running P E → List Verb → E → Type 0
   EndsAfter call verbs end = Does call.verb call.after call.state verbs end
 
--- a call ends by words exactly where it ends with steps that found them
-abbrev pub StepsLaw : Type 0 → Type 0 → Type 0
-StepsLaw P E = (call : Running P E) (words : List ℕ) (end : E)
-    → EndsBy next_verb after_found end_of call words end ↔ ((steps : List Step) × (words_of steps ≡ words) × EndsWith call steps end)
+-- A machine that is a running call, before each word and after it, ends by words exactly where the call ends with steps that
+-- found them.
+abbrev pub StepsLaw : Type 0 → Type 0 → Type 0 → Type 0
+StepsLaw M P E = (running : M → Running P E) (after : M → ℕ → M) → ((m : M) (found : ℕ) → running (after m found) ≡ after_found (running m) found)
+    → (m : M) (words : List ℕ) (end : E) → EndsBy (λ m. next_verb (running m)) after (λ m. end_of (running m)) m words end
+    ↔ ((steps : List Step) × (words_of steps ≡ words) × EndsWith (running m) steps end)
 
 -- a call that does verbs whatever it finds ends with the steps of these verbs, and with no others
 abbrev pub VerbsLaw : Type 0 → Type 0 → Type 0

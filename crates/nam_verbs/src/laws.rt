@@ -2,9 +2,9 @@
 
 ghost use Rattle.nam_verbs.specs.Steps.{StepsLaw, VerbsLaw};
 
-/// A call ends by found words exactly where it ends with steps that found these words.
-pub fn steps_law<P, E>()
-    ensures { StepsLaw P E }
+/// A machine whose state is a running call ends by found words exactly where the call ends with steps that found them.
+pub fn steps_law<M, P, E>()
+    ensures { StepsLaw M P E }
 {}
 
 /// A call that does the same verbs whatever it finds ends with the steps of these verbs, and with no others.

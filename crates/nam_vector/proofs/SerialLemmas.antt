@@ -11,7 +11,8 @@ use Rattle.nam_vector.specs.declared.snap.SnapPlace.{SnapPlace}
 use Rattle.nam_vector.specs.declared.snap.SnapPlace.TheVariants.{First, Second}
 use Rattle.nam_vector.specs.declared.snap.SnapEnd.{SnapEnd}
 use Rattle.nam_vector.specs.declared.snap.SnapEnd.TheVariants.{Done, Again}
-use Rattle.nam_vector.specs.Snap.{Snapping, snapping, next_verb, after_found, end_of, verbs_left}
+use Rattle.nam_verbs.specs.Running.{verbs_left}
+use Rattle.nam_vector.specs.Snap.{Snapping, snapping, running, next_verb, after_found, end_of}
 
 module _ (workers : ℕ) (words : List ℕ) (within : workers ≤ length words) where
   -- a snapshot of the vector, and where it stands
@@ -50,10 +51,10 @@ module _ (workers : ℕ) (words : List ℕ) (within : workers ≤ length words) 
 
   -- a new snapshot that is driven to its end
   pub snap_alone : 1 ≤ workers → {old new : Snapping} {after : List ℕ} {end : Option SnapEnd} → old ≡ snapping workers
-      → new ≡ (driven next_verb after_found (verbs_left old) old words).0 → after ≡ (driven next_verb after_found (verbs_left old) old words).1
+      → new ≡ (driven next_verb after_found (verbs_left (running old)) old words).0 → after ≡ (driven next_verb after_found (verbs_left (running old)) old words).1
       → end ≡ end_of new → (end ≡ Some (Done (take workers words))) × (after ≡ words)
   snap_alone least {old} {new} {after} {end} begins ends leaves answers =
       let run = first_is_done (workers + (workers - 0)) [] refl least (omega arith) in
-      let ends' : new ≡ (driven next_verb after_found (verbs_left (snapping workers)) (snapping workers) words).0 = rw begins at ends in
-      let leaves' : after ≡ (driven next_verb after_found (verbs_left (snapping workers)) (snapping workers) words).1 = rw begins at leaves in
+      let ends' : new ≡ (driven next_verb after_found (verbs_left (running (snapping workers))) (snapping workers) words).0 = rw begins at ends in
+      let leaves' : after ≡ (driven next_verb after_found (verbs_left (running (snapping workers))) (snapping workers) words).1 = rw begins at leaves in
       (answers ∙ ap end_of (ends' ∙ ap (λ (all : Snapping × List ℕ). all.0) run), leaves' ∙ ap (λ (all : Snapping × List ℕ). all.1) run)

@@ -3,7 +3,7 @@
 ghost use Rattle.std.specs.Prelude.{◌≡◌, ◌≤◌};
 ghost use Rattle.nam_vector.specs.Publish.{publishing, write_of};
 
-use nam_verbs::{Machine, Verb};
+use nam_verbs::{Machine, Now, Verb};
 use std::marker::Model;
 
 /// The write of a worker's own entry. Workers count from 1.
@@ -22,7 +22,7 @@ pub fn publish_verb(worker: u32, number: u64) -> Verb
 pub struct Publish {
     worker: u32,
     number: u64,
-    written: bool,
+    state: Now<(), ()>,
 }
 
 impl Model for Publish {
@@ -31,7 +31,7 @@ impl Model for Publish {
 
     ghost Value = { Publishing };
 
-    ghost view = { λ a. record { worker = a.worker; number = a.number; written = a.written } };
+    ghost view = { λ a. record { worker = a.worker; number = a.number; state = a.state } };
 
     ghost invariant = { λ a. 1 ≤ a.worker };
 }
@@ -46,13 +46,14 @@ impl Publish {
         Publish {
             worker,
             number,
-            written: false,
+            state: Now::At(()),
         }
     }
 }
 
 impl Machine for Publish {
-    ghost use Rattle.nam_vector.specs.Publish.{next_verb, after_found, end_of, verbs_left, stands_until_end as law};
+    ghost use Rattle.nam_verbs.specs.Running.{verbs_left, stands_until_end};
+    ghost use Rattle.nam_vector.specs.Publish.{running, next_verb, after_found, end_of};
 
     type End = ();
 
@@ -62,29 +63,34 @@ impl Machine for Publish {
 
     ghost ended = { end_of };
 
-    ghost rest = { verbs_left };
+    ghost rest = { λ a. verbs_left (running a) };
 
-    ghost reach = { λ a. a.worker };
+    ghost reach = { λ a. (running a).reach };
 
-    ghost stands_until_end = { law };
+    ghost stands_until_end = { λ a. stands_until_end (running a) };
 
     fn verb(&self) -> Option<Verb> {
-        if self.written {
-            None
-        } else {
-            Some(publish_verb(self.worker, self.number))
+        match &self.state {
+            Now::At(()) => Some(publish_verb(self.worker, self.number)),
+            Now::Over(()) => None,
         }
     }
 
     fn take(&mut self, _found: u64) {
-        self.written = true;
+        self.state = Now::Over(());
     }
 
     fn left(&self) -> u64 {
-        if self.written { 0 } else { 1 }
+        match &self.state {
+            Now::At(()) => 1,
+            Now::Over(()) => 0,
+        }
     }
 
     fn end(&self) -> Option<()> {
-        if self.written { Some(()) } else { None }
+        match &self.state {
+            Now::At(()) => None,
+            Now::Over(()) => Some(()),
+        }
     }
 }

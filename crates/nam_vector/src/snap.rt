@@ -1,9 +1,10 @@
 //! Snapshots of the vector.
 
-ghost use Rattle.std.specs.Prelude.{◌≡◌, ◌<◌, ◌≤◌};
+ghost use Rattle.std.specs.Prelude.{◌≡◌, ◌<◌, ◌≤◌, ◌*◌};
 ghost use Rattle.nam_verbs.specs.Now.{FitsNow, left_now};
 ghost use Rattle.nam_vector.specs.SnapPlace.{SnapFits, begin, verb_at, after_word, left_at};
-ghost use Rattle.nam_vector.specs.Snap.{snapping};
+ghost use Rattle.nam_verbs.specs.Running.{verbs_left};
+ghost use Rattle.nam_vector.specs.Snap.{snapping, running};
 
 use nam_verbs::{Machine, Now, Verb};
 use si_model::Snapshot;
@@ -123,11 +124,12 @@ impl Model for Snap {
 }
 
 impl Snap {
-    /// A snapshot of the entries of workers 1 to `workers`.
+    /// A snapshot of the entries of workers 1 to `workers`, of two verbs for each of them.
     pub fn new(workers: u32) -> Snap
         requires least { 1 ≤ workers }
         requires most { workers ≤ 16 }
-        ensures { result ≡ snapping workers }
+        ensures begins { result ≡ snapping workers }
+        ensures left { verbs_left (running result) ≡ 2 * workers }
     {
         Snap {
             workers,
@@ -137,7 +139,8 @@ impl Snap {
 }
 
 impl Machine for Snap {
-    ghost use Rattle.nam_vector.specs.Snap.{next_verb, after_found, end_of, verbs_left, stands_until_end as law};
+    ghost use Rattle.nam_verbs.specs.Running.{verbs_left, stands_until_end};
+    ghost use Rattle.nam_vector.specs.Snap.{running, next_verb, after_found, end_of};
 
     type End = SnapEnd;
 
@@ -147,11 +150,11 @@ impl Machine for Snap {
 
     ghost ended = { end_of };
 
-    ghost rest = { verbs_left };
+    ghost rest = { λ a. verbs_left (running a) };
 
-    ghost reach = { λ a. a.workers };
+    ghost reach = { λ a. (running a).reach };
 
-    ghost stands_until_end = { law };
+    ghost stands_until_end = { λ a. stands_until_end (running a) };
 
     fn verb(&self) -> Option<Verb> {
         match &self.state {

@@ -1,0 +1,4 @@
+pub mod Current
+pub mod Recheck
+pub mod ReadWords
+pub mod Install

@@ -1,10 +1,8 @@
 -- The reading of a current version as a machine.
-use Rattle.std.specs.Prelude.{ℕ, List, Option}
-use Rattle.nam_verbs.specs.declared.verb.Verb.{Verb}
+use Rattle.std.specs.Prelude.{ℕ, List}
 use Rattle.nam_verbs.specs.declared.now.Now.{Now}
 use Rattle.nam_verbs.specs.declared.now.Now.TheVariants.{At}
 use Rattle.nam_verbs.specs.Running.{Running}
-use Rattle.nam_verbs.specs.Running as call
 use Rattle.nam_layout.specs.declared.field.Place.{Place}
 use Rattle.nam_calls.specs.declared.record.CurrentPlace.{CurrentPlace}
 use Rattle.nam_calls.specs.declared.record.CurrentEnd.{CurrentEnd}
@@ -30,15 +28,3 @@ running a = record {
   reach = place_end a.place;
   state = a.state;
 }
-
--- the verb that stands
-abbrev pub next_verb : CurrentReading → Option Verb
-next_verb a = call.next_verb (running a)
-
--- the reading after a found word
-abbrev pub after_found : CurrentReading → ℕ → CurrentReading
-after_found a found = record a { state = (call.after_found (running a) found).state }
-
--- how the reading ended
-abbrev pub end_of : CurrentReading → Option CurrentEnd
-end_of a = call.end_of (running a)

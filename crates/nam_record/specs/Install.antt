@@ -1,10 +1,8 @@
 -- The install of a version as a machine.
 use Rattle.std.specs.Prelude.{ℕ, List, Option}
-use Rattle.nam_verbs.specs.declared.verb.Verb.{Verb}
 use Rattle.nam_verbs.specs.declared.now.Now.{Now}
 use Rattle.nam_verbs.specs.declared.now.Now.TheVariants.{At}
 use Rattle.nam_verbs.specs.Running.{Running}
-use Rattle.nam_verbs.specs.Running as call
 use Rattle.nam_layout.specs.declared.field.Place.{Place}
 use Rattle.nam_calls.specs.declared.record.InstallPlace.{InstallPlace}
 use Rattle.nam_calls.specs.Record.{install_begin, install_verb, install_after, install_left}
@@ -32,15 +30,3 @@ running a = record {
   reach = place_end a.place;
   state = a.state;
 }
-
--- the verb that stands
-abbrev pub next_verb : Installing → Option Verb
-next_verb a = call.next_verb (running a)
-
--- the install after a write
-abbrev pub after_found : Installing → ℕ → Installing
-after_found a found = record a { state = (call.after_found (running a) found).state }
-
--- how the install ended
-abbrev pub end_of : Installing → Option (Unit {0})
-end_of a = call.end_of (running a)

@@ -1,10 +1,8 @@
 -- The reading of a record's data words as a machine.
-use Rattle.std.specs.Prelude.{ℕ, List, Option}
-use Rattle.nam_verbs.specs.declared.verb.Verb.{Verb}
+use Rattle.std.specs.Prelude.{ℕ, List}
 use Rattle.nam_verbs.specs.declared.now.Now.{Now}
 use Rattle.nam_verbs.specs.declared.now.Now.TheVariants.{At}
 use Rattle.nam_verbs.specs.Running.{Running}
-use Rattle.nam_verbs.specs.Running as call
 use Rattle.nam_layout.specs.declared.field.Place.{Place}
 use Rattle.nam_calls.specs.Record.{words_begin, words_verb, words_after, words_left}
 use Rattle.nam_words.specs.Ends.{place_end}
@@ -27,15 +25,3 @@ running a = record {
   reach = place_end a.place;
   state = a.state;
 }
-
--- the verb that stands
-abbrev pub next_verb : WordsReading → Option Verb
-next_verb a = call.next_verb (running a)
-
--- the reading after a found word
-abbrev pub after_found : WordsReading → ℕ → WordsReading
-after_found a found = record a { state = (call.after_found (running a) found).state }
-
--- how the reading ended
-abbrev pub end_of : WordsReading → Option (List ℕ)
-end_of a = call.end_of (running a)

@@ -1,10 +1,8 @@
 -- One more look at a header as a machine.
-use Rattle.std.specs.Prelude.{ℕ, Bool, Option}
-use Rattle.nam_verbs.specs.declared.verb.Verb.{Verb}
+use Rattle.std.specs.Prelude.{ℕ, Bool}
 use Rattle.nam_verbs.specs.declared.now.Now.{Now}
 use Rattle.nam_verbs.specs.declared.now.Now.TheVariants.{At, Over}
 use Rattle.nam_verbs.specs.Running.{Running}
-use Rattle.nam_verbs.specs.Running as call
 use Rattle.nam_layout.specs.declared.field.Place.{Place}
 use Rattle.nam_calls.specs.Record.{recheck_verb, recheck_end}
 use Rattle.nam_words.specs.Ends.{place_end}
@@ -28,15 +26,3 @@ running a = record {
   reach = place_end a.place;
   state = a.state;
 }
-
--- the verb that stands
-abbrev pub next_verb : Rechecking → Option Verb
-next_verb a = call.next_verb (running a)
-
--- the look after a found word
-abbrev pub after_found : Rechecking → ℕ → Rechecking
-after_found a found = record a { state = (call.after_found (running a) found).state }
-
--- how the look ended
-abbrev pub end_of : Rechecking → Option Bool
-end_of a = call.end_of (running a)

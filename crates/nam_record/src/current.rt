@@ -59,7 +59,7 @@ pub fn current_after(
         CurrentPlace::CurrentHead => {
             if !sees(place.form, seen, found) {
                 Now::Over(CurrentEnd::GoOld)
-            } else if is_deleted(found) {
+            } else if is_deleted(place.form, found) {
                 Now::Over(CurrentEnd::Found(None))
             } else {
                 Now::At(CurrentPlace::CurrentWords {
@@ -79,7 +79,7 @@ pub fn current_after(
         CurrentPlace::CurrentAgain { header, value } => {
             if !same_stamp(place.form, found, header) {
                 Now::Over(CurrentEnd::GoOld)
-            } else if is_locked(header) || is_locked(found) {
+            } else if is_locked(place.form, header) || is_locked(place.form, found) {
                 Now::Over(CurrentEnd::Unsure { value, header })
             } else {
                 Now::Over(CurrentEnd::Found(Some(value)))
@@ -155,16 +155,16 @@ impl ReadCurrent {
 }
 
 impl Machine for ReadCurrent {
-    ghost use Rattle.nam_verbs.specs.Running.{verbs_left, stands_until_end};
-    ghost use Rattle.nam_record.specs.Current.{running, next_verb, after_found, end_of};
+    ghost use Rattle.nam_verbs.specs.Running.{next_verb, after_found, end_of, verbs_left, stands_until_end};
+    ghost use Rattle.nam_record.specs.Current.{running};
 
     type End = CurrentEnd;
 
-    ghost next = { next_verb };
+    ghost next = { λ a. next_verb (running a) };
 
-    ghost after = { after_found };
+    ghost after = { λ a found. record a { state = (after_found (running a) found).state } };
 
-    ghost ended = { end_of };
+    ghost ended = { λ a. end_of (running a) };
 
     ghost rest = { λ a. verbs_left (running a) };
 

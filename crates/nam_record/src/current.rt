@@ -2,7 +2,6 @@
 
 ghost use Rattle.std.specs.Prelude.{◌≡◌, ◌<◌, ◌+◌};
 ghost use Rattle.nam_verbs.specs.Verb.{address_of};
-ghost use Rattle.nam_verbs.specs.Now.{FitsNow, left_now};
 ghost use Rattle.nam_verbs.specs.Running.{verbs_left};
 ghost use Rattle.nam_layout.specs.PlaceFits.{FitsPlace};
 ghost use Rattle.nam_calls.specs.Record.{current_begin as begin, current_verb as verb_at, current_after as after_word, current_left as left_at};
@@ -27,7 +26,7 @@ pub fn current_begin() -> CurrentPlace
 
 /// The verb that stands at a place.
 pub fn current_verb(place: &Place, at: &CurrentPlace) -> Verb
-    requires place { FitsPlace place.now }
+    requires fits { FitsPlace place.now }
     requires at { CurrentFits place.now at.now }
     ensures value { result ≡ verb_at place.now at.now }
     ensures within { address_of result < place_end place.now }
@@ -49,11 +48,9 @@ pub fn current_after(
     at: CurrentPlace,
     found: u64,
 ) -> Now<CurrentPlace, CurrentEnd>
-    requires place { FitsPlace place.now }
+    requires fits { FitsPlace place.now }
     requires at { CurrentFits place.now at }
-    ensures value { result ≡ after_word place.now seen.now at found }
-    ensures fits { FitsNow (CurrentFits place.now) result }
-    ensures falls { left_now (left_at place.now) result < left_at place.now at }
+    ensures { result ≡ after_word place.now seen.now at found }
 {
     match at {
         CurrentPlace::CurrentHead => {
@@ -90,7 +87,7 @@ pub fn current_after(
 
 /// A number of verbs that are to come from a place at the most.
 pub fn current_left(place: &Place, at: &CurrentPlace) -> u64
-    requires place { FitsPlace place.now }
+    requires fits { FitsPlace place.now }
     requires at { CurrentFits place.now at.now }
     ensures { result ≡ left_at place.now at.now }
 {
@@ -180,11 +177,10 @@ impl Machine for ReadCurrent {
     }
 
     fn take(&mut self, found: u64) {
-        let before = replace(&mut self.state, Now::At(current_begin()));
-        self.state = match before {
-            Now::At(at) => current_after(&self.place, &self.seen, at, found),
-            Now::Over(end) => Now::Over(end),
-        };
+        match replace(&mut self.state, Now::At(current_begin())) {
+            Now::At(at) => self.state = current_after(&self.place, &self.seen, at, found),
+            Now::Over(end) => self.state = Now::Over(end),
+        }
     }
 
     fn left(&self) -> u64 {

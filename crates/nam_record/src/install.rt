@@ -2,7 +2,6 @@
 
 ghost use Rattle.std.specs.Prelude.{◌≡◌, ◌<◌, ◌+◌, MatchOption};
 ghost use Rattle.nam_verbs.specs.Verb.{address_of};
-ghost use Rattle.nam_verbs.specs.Now.{FitsNow, left_now};
 ghost use Rattle.nam_verbs.specs.Running.{verbs_left};
 ghost use Rattle.nam_layout.specs.PlaceFits.{FitsPlace};
 ghost use Rattle.nam_calls.specs.Record.{install_begin as begin, install_verb as verb_at, install_after as after_write, install_left as left_at};
@@ -17,6 +16,7 @@ use nam_verbs::{Machine, Now, Verb};
 use nam_words::word_at;
 use si_model::Value;
 use std::marker::Model;
+use std::mem::replace;
 
 /// Where the install of a version begins. A deletion has no value, and leaves the data words as they are.
 pub fn install_begin(value: &Option<Value>) -> InstallPlace
@@ -48,7 +48,7 @@ pub fn install_verb(
     header: u64,
     at: &InstallPlace,
 ) -> Verb
-    requires place { FitsPlace place.now }
+    requires fits { FitsPlace place.now }
     requires value { HasWidth place.now.width value.now }
     requires at { InstallFits place.now at.now }
     ensures value { result ≡ verb_at place.now value.now count header at.now }
@@ -72,11 +72,9 @@ pub fn install_verb(
 
 /// The install after its write.
 pub fn install_after(place: &Place, at: InstallPlace) -> Now<InstallPlace, ()>
-    requires place { FitsPlace place.now }
+    requires fits { FitsPlace place.now }
     requires at { InstallFits place.now at }
-    ensures value { result ≡ after_write place.now at }
-    ensures fits { FitsNow (InstallFits place.now) result }
-    ensures falls { left_now (left_at place.now) result < left_at place.now at }
+    ensures { result ≡ after_write place.now at }
 {
     match at {
         InstallPlace::InstallWord { nth } => {
@@ -93,7 +91,7 @@ pub fn install_after(place: &Place, at: InstallPlace) -> Now<InstallPlace, ()>
 
 /// How many verbs are to come from a place.
 pub fn install_left(place: &Place, at: &InstallPlace) -> u64
-    requires place { FitsPlace place.now }
+    requires fits { FitsPlace place.now }
     requires at { InstallFits place.now at.now }
     ensures { result ≡ left_at place.now at.now }
 {
@@ -131,7 +129,7 @@ impl Install {
     /// The install of a version, or of a deletion where there is no value, after the version of number `count`. It has
     /// a verb for each word of the value and two more.
     pub fn new(place: Place, value: Option<Value>, count: u64, header: u64) -> Install
-        requires place { FitsPlace place }
+        requires fits { FitsPlace place }
         requires value { HasWidth place.width value }
         ensures begins { result ≡ installing place value count header }
         ensures left { MatchOption value (verbs_left (running result) ≡ 2) (λ words. verbs_left (running result) ≡ place.width + 2) }
@@ -179,10 +177,10 @@ impl Machine for Install {
     }
 
     fn take(&mut self, _found: u64) {
-        self.state = match &self.state {
-            Now::At(at) => install_after(&self.place, *at),
-            Now::Over(()) => Now::Over(()),
-        };
+        match replace(&mut self.state, Now::Over(())) {
+            Now::At(at) => self.state = install_after(&self.place, at),
+            Now::Over(()) => self.state = Now::Over(()),
+        }
     }
 
     fn left(&self) -> u64 {

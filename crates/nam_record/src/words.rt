@@ -2,7 +2,6 @@
 
 ghost use Rattle.std.specs.Prelude.{◌≡◌, ◌<◌};
 ghost use Rattle.nam_verbs.specs.Verb.{address_of};
-ghost use Rattle.nam_verbs.specs.Now.{FitsNow, left_now};
 ghost use Rattle.nam_verbs.specs.Running.{verbs_left};
 ghost use Rattle.nam_layout.specs.PlaceFits.{FitsPlace};
 ghost use Rattle.nam_calls.specs.Record.{words_begin as begin, words_verb as verb_at, words_after as after_word, words_left as left_at};
@@ -26,7 +25,7 @@ pub fn words_begin() -> Value
 
 /// The verb that stands where these words are got.
 pub fn words_verb(place: &Place, got: &Value) -> Verb
-    requires place { FitsPlace place.now }
+    requires fits { FitsPlace place.now }
     requires got { WordsFit place.now got.now }
     ensures value { result ≡ verb_at place.now got.now }
     ensures within { address_of result < place_end place.now }
@@ -38,11 +37,9 @@ pub fn words_verb(place: &Place, got: &Value) -> Verb
 
 /// The reading after the word that its verb found.
 pub fn words_after(place: &Place, got: Value, found: u64) -> Now<Value, Value>
-    requires place { FitsPlace place.now }
+    requires fits { FitsPlace place.now }
     requires got { WordsFit place.now got }
-    ensures value { result ≡ after_word place.now got found }
-    ensures fits { FitsNow (WordsFit place.now) result }
-    ensures falls { left_now (left_at place.now) result < left_at place.now got }
+    ensures { result ≡ after_word place.now got found }
 {
     let mut more = got;
     more.push(found);
@@ -55,7 +52,7 @@ pub fn words_after(place: &Place, got: Value, found: u64) -> Now<Value, Value>
 
 /// How many verbs are to come where these words are got.
 pub fn words_left(place: &Place, got: &Value) -> u64
-    requires place { FitsPlace place.now }
+    requires fits { FitsPlace place.now }
     requires got { WordsFit place.now got.now }
     ensures { result ≡ left_at place.now got.now }
 {
@@ -122,11 +119,10 @@ impl Machine for ReadWords {
     }
 
     fn take(&mut self, found: u64) {
-        let before = replace(&mut self.state, Now::At(words_begin()));
-        self.state = match before {
-            Now::At(got) => words_after(&self.place, got, found),
-            Now::Over(value) => Now::Over(value),
-        };
+        match replace(&mut self.state, Now::At(words_begin())) {
+            Now::At(got) => self.state = words_after(&self.place, got, found),
+            Now::Over(value) => self.state = Now::Over(value),
+        }
     }
 
     fn left(&self) -> u64 {

@@ -1,12 +1,18 @@
 -- How the reading of a current version ends, by what it saw.
 use Rattle.std.specs.Prelude.{◌≡◌, ◌⊎◌, ◌↔◌, ℕ, IsTrue, IsFalse, List, [], ◌∷◌, ◌++◌, length, Some, None}
+use Rattle.nam_verbs.specs.Running.{Always}
 use Rattle.nam_verbs.specs.Steps.{Step, EndsWith, saw, saw_words}
+use Rattle.nam_catalog.specs.declared.shape.Shape.{Shape}
+use Rattle.nam_catalog.specs.Fits.{FitsLimits}
 use Rattle.nam_layout.specs.declared.field.Place.{Place}
+use Rattle.nam_layout.specs.Address.{IsRow}
 use Rattle.nam_layout.specs.PlaceFits.{FitsPlace}
 use Rattle.nam_calls.specs.declared.record.CurrentEnd.{CurrentEnd}
 use Rattle.nam_calls.specs.declared.record.CurrentEnd.TheVariants.{Found, Unsure, GoOld}
 use Rattle.nam_calls.specs.Stamps.{sees, is_deleted, is_locked, same_stamp}
 use Rattle.nam_calls.specs.Words.{word_at}
+use Rattle.nam_calls.specs.Record.{current_verb}
+use Rattle.nam_calls.specs.VerbFields.{Reaches, row_place, current_field}
 use Rattle.nam_record.specs.Current.{reading_current, running}
 
 -- the reading does these steps, and ends so with the last of them
@@ -83,3 +89,10 @@ UnsureLaw = (place : Place) → FitsPlace place → (seen : List ℕ) (steps : L
 abbrev pub OldLaw : Type 0
 OldLaw = (place : Place) → FitsPlace place → (seen : List ℕ) (steps : List Step)
     → CurrentEndsWith place seen steps GoOld ↔ (SawUnseen place seen steps ⊎ SawAnother place seen steps)
+
+-- 4. Whatever words are found, each verb reads the row's header or a data word
+
+abbrev pub CurrentReachesLaw : Type 0
+CurrentReachesLaw = (shape : Shape) → FitsLimits shape → (row : ℕ) → IsRow shape row → (seen : List ℕ)
+    → Always (λ at. Reaches shape (current_verb (row_place shape row) at) (current_field (row_place shape row) at))
+    (running (reading_current (row_place shape row) seen))

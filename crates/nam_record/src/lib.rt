@@ -12,7 +12,7 @@ mod words;
 
 pub use current::{ReadCurrent, current_after, current_begin, current_left, current_verb};
 pub use install::{Install, install_after, install_begin, install_left, install_verb};
-pub use laws::current_law;
+pub use laws::{current_law, install_law, reach_law, recheck_law, words_law};
 pub use nam_calls::{CurrentEnd, CurrentPlace, InstallPlace};
 pub use recheck::{Recheck, recheck_end, recheck_verb};
 pub use words::{ReadWords, words_after, words_begin, words_left, words_verb};

@@ -46,10 +46,10 @@ module _ (place : Place) (some : 0 < place.width) where
       let all = words_read (words_verb place) (words_after place) (word_at place) place.width (λ got. got) Over (λ got. refl) (λ got word. refl)
       some steps value ends in
       all_told all.0 all.1 value all.2 all.3 all.4 where
-    all_told : (words : List ℕ) (rest : List Step) (value : List ℕ) → steps ≡ saw_words (word_at place) words ++ rest → length words ≡ place.width
-        → Ends (words_verb place) (words_after place) (Over words) rest value → SawData place steps value
-    all_told words [] value is whole over = record { whole = rw (← over) whole; steps_are = rw (← over) (rw append-nil at is) }
-    all_told words (step ∷ rest) value is whole over = absurd over
+        all_told : (words : List ℕ) (rest : List Step) (value : List ℕ) → steps ≡ saw_words (word_at place) words ++ rest → length words ≡ place.width
+            → Ends (words_verb place) (words_after place) (Over words) rest value → SawData place steps value
+        all_told words [] value is whole over = record { whole = rw (← over) whole; steps_are = rw (← over) (rw append-nil at is) }
+        all_told words (step ∷ rest) value is whole over = absurd over
 
   pub told_words : (steps : List Step) (value : List ℕ) → SawData place steps value → WordsEnd steps value
   told_words steps value told =

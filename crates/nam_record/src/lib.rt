@@ -8,6 +8,8 @@ mod current;
 mod install;
 mod laws;
 mod recheck;
+#[cfg(test)]
+mod tests;
 mod words;
 
 pub use current::{ReadCurrent, current_after, current_begin, current_left, current_verb};

@@ -1,3 +1,4 @@
 pub mod Check
 pub mod Copy
 pub mod Search
+pub mod SearchLaw

@@ -1,8 +1,6 @@
 -- which word each verb reaches, whatever words are found
-use Rattle.std.proofs.Common.{ℕ, List, [], Option, Some, None, refl}
-use Rattle.nam_verbs.specs.declared.now.Now.{Now}
+use Rattle.std.proofs.Common.{ℕ, List, Option, Some, None, refl}
 use Rattle.nam_verbs.specs.declared.now.Now.TheVariants.{At}
-use Rattle.nam_verbs.specs.Now.{FitsNow}
 use Rattle.nam_verbs.specs.Running.{Always}
 use Rattle.nam_verbs.proofs.StepsLemmas.{always, always_also}
 use Rattle.nam_catalog.specs.declared.shape.Shape.{Shape}
@@ -12,9 +10,7 @@ use Rattle.nam_layout.specs.declared.field.Field.TheVariants.{Header}
 use Rattle.nam_layout.specs.Address.{IsRow}
 use Rattle.nam_layout.specs.PlaceFits.{FitsPlace}
 use Rattle.nam_layout.proofs.LimitLemmas.{place_within_limits}
-use Rattle.nam_calls.specs.declared.record.CurrentPlace.{CurrentPlace}
 use Rattle.nam_calls.specs.declared.record.CurrentPlace.TheVariants.{CurrentHead}
-use Rattle.nam_calls.specs.declared.record.InstallPlace.{InstallPlace}
 use Rattle.nam_calls.specs.Record.{current_verb, current_after, current_left, recheck_verb, words_verb, words_after, words_left}
 use Rattle.nam_calls.specs.Record.{install_verb, install_after, install_left, install_begin}
 use Rattle.nam_calls.specs.Fits.{CurrentFits, CurrentEnds, WordsFit, WordsEnd, InstallFits, HasWidth, Any}

@@ -1,18 +1,16 @@
 -- what one more look, the reading of the data words and an install do
-use Rattle.std.proofs.Common.{◌≡◌, ℕ, ◌+◌, ◌<◌, Bool, List, [], ◌∷◌, ◌++◌, length, Option, Some, None, refl, sym, ◌∙◌, ap, subst, arith}
+use Rattle.std.proofs.Common.{◌≡◌, ℕ, ◌+◌, ◌<◌, Bool, List, [], ◌∷◌, ◌++◌, length, Option, Some, None, refl, sym, ap, arith}
 use Rattle.std.proofs.lemmas.List.{append-nil}
-use Rattle.nam_verbs.specs.declared.verb.Verb.{Verb}
 use Rattle.nam_verbs.specs.declared.verb.Verb.TheVariants.{Write}
-use Rattle.nam_verbs.specs.declared.now.Now.{Now}
 use Rattle.nam_verbs.specs.declared.now.Now.TheVariants.{At, Over}
-use Rattle.nam_verbs.specs.Steps.{Step, Ends, EndsWith, EndsAfter, Does, saw, saw_words, verbs_of}
+use Rattle.nam_verbs.specs.Steps.{Step, Ends, EndsWith, EndsAfter, saw_words, verbs_of}
 use Rattle.nam_verbs.proofs.StepsLemmas.{law_of_verbs}
 use Rattle.nam_layout.specs.declared.field.Place.{Place}
 use Rattle.nam_calls.specs.declared.record.InstallPlace.{InstallPlace}
-use Rattle.nam_calls.specs.declared.record.InstallPlace.TheVariants.{InstallWord, InstallCount, InstallHead}
-use Rattle.nam_calls.specs.Stamps.{same_stamp, wrapped}
+use Rattle.nam_calls.specs.declared.record.InstallPlace.TheVariants.{InstallWord, InstallCount}
+use Rattle.nam_calls.specs.Stamps.{wrapped}
 use Rattle.nam_calls.specs.Words.{word_at}
-use Rattle.nam_calls.specs.Record.{recheck_end, words_verb, words_after, install_verb, install_after, install_begin}
+use Rattle.nam_calls.specs.Record.{words_verb, words_after, install_verb, install_after}
 use Rattle.nam_calls.specs.Fits.{HasWidth}
 use Rattle.nam_words.proofs.ReadingLemmas.{step_of, words_read, reads_words}
 use Rattle.nam_words.proofs.WritingLemmas.{writes_words}

@@ -22,7 +22,8 @@ const LOCK: u64 = 1;
 
 // A position of a store of one worker, whose table has two positions of two words and one slot.
 fn place(position: u32) -> Option<Place>
-    ensures { IfSome result FitsPlace }
+    ensures fits { IfSome result FitsPlace }
+    ensures width { IfSome result (λ place. place.width ≡ 2) }
 {
     let mut tables = ShortList::new();
     tables.push(Table {
@@ -69,7 +70,9 @@ fn seen(number: u64) -> Snapshot {
     seen
 }
 
-fn value(first: u64, second: u64) -> Value {
+fn value(first: u64, second: u64) -> Value
+    ensures { length result ≡ 2 }
+{
     let mut value = Value::new();
     value.push(first);
     value.push(second);

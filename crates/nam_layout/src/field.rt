@@ -53,6 +53,23 @@ pub struct Place {
     pub form: Form,
 }
 
+impl Default for Place {
+    /// No place of a store: no words, at address 0.
+    fn default() -> Place {
+        Place {
+            row: 0,
+            key_at: 0,
+            header_at: 0,
+            count_at: 0,
+            words_at: 0,
+            ring_at: 0,
+            width: 0,
+            ring: 0,
+            form: Form::Narrow,
+        }
+    }
+}
+
 /// The cells of a bucket, of 12 words each from the address `first` on.
 #[derive(Clone, Copy, Debug, PartialEq, Eq)]
 pub struct Cells {

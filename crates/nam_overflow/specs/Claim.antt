@@ -1,10 +1,7 @@
--- the claim of a cell as a machine
-use Rattle.std.specs.Prelude.{ℕ, Option}
-use Rattle.nam_verbs.specs.declared.verb.Verb.{Verb}
+-- The claim of a cell as a machine.
 use Rattle.nam_verbs.specs.declared.now.Now.{Now}
 use Rattle.nam_verbs.specs.declared.now.Now.TheVariants.{At}
 use Rattle.nam_verbs.specs.Running.{Running}
-use Rattle.nam_verbs.specs.Running as call
 use Rattle.nam_layout.specs.declared.field.Cells.{Cells}
 use Rattle.nam_calls.specs.declared.overflow.ClaimPlace.{ClaimPlace}
 use Rattle.nam_calls.specs.declared.overflow.ClaimEnd.{ClaimEnd}
@@ -29,15 +26,3 @@ running a = record {
   reach = cells_end a.cells;
   state = a.state;
 }
-
--- the verb that stands
-abbrev pub next_verb : Claiming → Option Verb
-next_verb a = call.next_verb (running a)
-
--- the claim after a found word
-abbrev pub after_found : Claiming → ℕ → Claiming
-after_found a found = record a { state = (call.after_found (running a) found).state }
-
--- how the claim ended
-abbrev pub end_of : Claiming → Option ClaimEnd
-end_of a = call.end_of (running a)

@@ -1,11 +1,9 @@
--- the filling of a cell as a machine
-use Rattle.std.specs.Prelude.{ℕ, ◌<◌, ◌≤◌, List, length, Option}
-use Rattle.nam_verbs.specs.declared.verb.Verb.{Verb}
+-- The filling of a cell as a machine.
+use Rattle.std.specs.Prelude.{ℕ, ◌<◌, ◌≤◌, List, length}
 use Rattle.nam_verbs.specs.declared.now.Now.{Now}
 use Rattle.nam_verbs.specs.declared.now.Now.TheVariants.{At}
 use Rattle.nam_verbs.specs.Now.{FitsNow}
 use Rattle.nam_verbs.specs.Running.{Running}
-use Rattle.nam_verbs.specs.Running as call
 use Rattle.nam_layout.specs.declared.field.Cells.{Cells}
 use Rattle.nam_layout.specs.PlaceFits.{FitsCells}
 use Rattle.nam_calls.specs.declared.overflow.Version.{Version}
@@ -44,15 +42,3 @@ running a = record {
   reach = cells_end a.cells;
   state = a.state;
 }
-
--- the verb that stands
-abbrev pub next_verb : Filling → Option Verb
-next_verb a = call.next_verb (running a)
-
--- the filling after a write
-abbrev pub after_found : Filling → ℕ → Filling
-after_found a found = record a { state = (call.after_found (running a) found).state }
-
--- how the filling ended
-abbrev pub end_of : Filling → Option (Unit {0})
-end_of a = call.end_of (running a)

@@ -14,8 +14,9 @@ use nam_layout::Cells;
 use nam_verbs::{Machine, Now, Verb};
 use nam_words::{is_free, tag_at, written};
 use std::marker::Model;
+use std::mem::replace;
 
-/// Where a claim begins.
+/// Where a claim begins: at the first cell.
 pub fn claim_begin() -> ClaimPlace
     ensures { result ≡ begin }
 {
@@ -23,20 +24,20 @@ pub fn claim_begin() -> ClaimPlace
 }
 
 /// The verb that stands at a place.
-pub fn claim_verb(cells: &Cells, at: ClaimPlace) -> Verb
+pub fn claim_verb(cells: &Cells, at: &ClaimPlace) -> Verb
     requires fits { FitsCells cells.now }
-    requires at { ClaimFits cells.now at }
-    ensures value { result ≡ verb_at cells.now at }
+    requires at { ClaimFits cells.now at.now }
+    ensures value { result ≡ verb_at cells.now at.now }
     ensures within { address_of result < cells_end cells.now }
 {
     match at {
         ClaimPlace::ClaimLook { cell } => Verb::Read {
-            at: tag_at(cells, cell),
+            at: tag_at(cells, *cell),
         },
         ClaimPlace::ClaimTake { cell, tag } => Verb::Exchange {
-            at: tag_at(cells, cell),
-            expect: tag,
-            word: written(tag),
+            at: tag_at(cells, *cell),
+            expect: *tag,
+            word: written(*tag),
         },
     }
 }
@@ -53,7 +54,7 @@ fn next_cell(cells: &Cells, cell: u32) -> Now<ClaimPlace, ClaimEnd>
     }
 }
 
-/// The claim after the word that its verb found.
+/// What follows the word that the verb of a place found.
 pub fn claim_after(cells: &Cells, at: ClaimPlace, found: u64) -> Now<ClaimPlace, ClaimEnd>
     requires fits { FitsCells cells.now }
     requires at { ClaimFits cells.now at }
@@ -81,13 +82,14 @@ pub fn claim_after(cells: &Cells, at: ClaimPlace, found: u64) -> Now<ClaimPlace,
 }
 
 /// A number of verbs that are to come from a place at the most.
-pub fn claim_left(cells: &Cells, at: ClaimPlace) -> u64
-    requires { ClaimFits cells.now at }
-    ensures { result ≡ left_at cells.now at }
+pub fn claim_left(cells: &Cells, at: &ClaimPlace) -> u64
+    requires fits { FitsCells cells.now }
+    requires at { ClaimFits cells.now at.now }
+    ensures { result ≡ left_at cells.now at.now }
 {
     match at {
-        ClaimPlace::ClaimLook { cell } => (cells.cells - cell - 1) as u64 * 2 + 2,
-        ClaimPlace::ClaimTake { cell, .. } => (cells.cells - cell - 1) as u64 * 2 + 1,
+        ClaimPlace::ClaimLook { cell } => (cells.cells - *cell - 1) as u64 * 2 + 2,
+        ClaimPlace::ClaimTake { cell, .. } => (cells.cells - *cell - 1) as u64 * 2 + 1,
     }
 }
 
@@ -127,16 +129,16 @@ impl ClaimCell {
 }
 
 impl Machine for ClaimCell {
-    ghost use Rattle.nam_verbs.specs.Running.{verbs_left, stands_until_end};
-    ghost use Rattle.nam_overflow.specs.Claim.{running, next_verb, after_found, end_of};
+    ghost use Rattle.nam_verbs.specs.Running.{next_verb, after_found, end_of, verbs_left, stands_until_end};
+    ghost use Rattle.nam_overflow.specs.Claim.{running};
 
     type End = ClaimEnd;
 
-    ghost next = { next_verb };
+    ghost next = { λ a. next_verb (running a) };
 
-    ghost after = { after_found };
+    ghost after = { λ a found. record a { state = (after_found (running a) found).state } };
 
-    ghost ended = { end_of };
+    ghost ended = { λ a. end_of (running a) };
 
     ghost rest = { λ a. verbs_left (running a) };
 
@@ -146,21 +148,21 @@ impl Machine for ClaimCell {
 
     fn verb(&self) -> Option<Verb> {
         match &self.state {
-            Now::At(at) => Some(claim_verb(&self.cells, *at)),
+            Now::At(at) => Some(claim_verb(&self.cells, at)),
             Now::Over(_) => None,
         }
     }
 
     fn take(&mut self, found: u64) {
-        self.state = match &self.state {
-            Now::At(at) => claim_after(&self.cells, *at, found),
-            Now::Over(end) => Now::Over(*end),
-        };
+        match replace(&mut self.state, Now::At(claim_begin())) {
+            Now::At(at) => self.state = claim_after(&self.cells, at, found),
+            Now::Over(end) => self.state = Now::Over(end),
+        }
     }
 
     fn left(&self) -> u64 {
         match &self.state {
-            Now::At(at) => claim_left(&self.cells, *at),
+            Now::At(at) => claim_left(&self.cells, at),
             Now::Over(_) => 0,
         }
     }

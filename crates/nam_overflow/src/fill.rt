@@ -15,8 +15,9 @@ use nam_verbs::{Machine, Now, Verb};
 use nam_words::{begin_at, cell_word_at, end_at, owner_at};
 use si_model::Value;
 use std::marker::Model;
+use std::mem::replace;
 
-/// Where a filling begins.
+/// Where a filling begins: at the owner.
 pub fn fill_begin() -> FillPlace
     ensures { result ≡ begin }
 {
@@ -24,12 +25,12 @@ pub fn fill_begin() -> FillPlace
 }
 
 /// The verb that stands at a place: a write of the row that owns the cell, or of a word of the version.
-pub fn fill_verb(cells: &Cells, cell: u32, owner: u32, version: &Version, at: FillPlace) -> Verb
+pub fn fill_verb(cells: &Cells, cell: u32, owner: u32, version: &Version, at: &FillPlace) -> Verb
     requires fits { FitsCells cells.now }
     requires cell { cell < cells.now.cells }
     requires words { length version.now.value ≤ 8 }
-    requires at { FillFits (length version.now.value) at }
-    ensures value { result ≡ verb_at cells.now cell owner version.now at }
+    requires at { FillFits (length version.now.value) at.now }
+    ensures value { result ≡ verb_at cells.now cell owner version.now at.now }
     ensures within { address_of result < cells_end cells.now }
 {
     match at {
@@ -46,13 +47,13 @@ pub fn fill_verb(cells: &Cells, cell: u32, owner: u32, version: &Version, at: Fi
             word: version.end,
         },
         FillPlace::FillWord { nth } => Verb::Write {
-            at: cell_word_at(cells, cell, nth),
-            word: *version.value.at(nth as usize),
+            at: cell_word_at(cells, cell, *nth),
+            word: *version.value.at(*nth as usize),
         },
     }
 }
 
-/// The filling with a version of so many words after a write.
+/// What follows the write of a place, where the version has so many words.
 pub fn fill_after(width: u32, at: FillPlace) -> Now<FillPlace, ()>
     requires { FillFits width at }
     ensures { result ≡ after_word width at }
@@ -72,16 +73,16 @@ pub fn fill_after(width: u32, at: FillPlace) -> Now<FillPlace, ()>
 }
 
 /// How many verbs are to come from a place.
-pub fn fill_left(width: u32, at: FillPlace) -> u64
-    requires { FillFits width at }
-    ensures { result ≡ left_at width at }
+pub fn fill_left(width: u32, at: &FillPlace) -> u64
+    requires { FillFits width at.now }
+    ensures { result ≡ left_at width at.now }
 {
     let width = width as u64;
     match at {
         FillPlace::FillOwner => width + 3,
         FillPlace::FillBegin => width + 2,
         FillPlace::FillEnding => width + 1,
-        FillPlace::FillWord { nth } => width - nth as u64,
+        FillPlace::FillWord { nth } => width - *nth as u64,
     }
 }
 
@@ -132,16 +133,16 @@ impl FillCell {
 }
 
 impl Machine for FillCell {
-    ghost use Rattle.nam_verbs.specs.Running.{verbs_left, stands_until_end};
-    ghost use Rattle.nam_overflow.specs.Fill.{running, next_verb, after_found, end_of};
+    ghost use Rattle.nam_verbs.specs.Running.{next_verb, after_found, end_of, verbs_left, stands_until_end};
+    ghost use Rattle.nam_overflow.specs.Fill.{running};
 
     type End = ();
 
-    ghost next = { next_verb };
+    ghost next = { λ a. next_verb (running a) };
 
-    ghost after = { after_found };
+    ghost after = { λ a found. record a { state = (after_found (running a) found).state } };
 
-    ghost ended = { end_of };
+    ghost ended = { λ a. end_of (running a) };
 
     ghost rest = { λ a. verbs_left (running a) };
 
@@ -151,21 +152,21 @@ impl Machine for FillCell {
 
     fn verb(&self) -> Option<Verb> {
         match &self.state {
-            Now::At(at) => Some(fill_verb(&self.cells, self.cell, self.owner, &self.version, *at)),
+            Now::At(at) => Some(fill_verb(&self.cells, self.cell, self.owner, &self.version, at)),
             Now::Over(()) => None,
         }
     }
 
     fn take(&mut self, _found: u64) {
-        self.state = match &self.state {
-            Now::At(at) => fill_after(self.version.value.len() as u32, *at),
-            Now::Over(()) => Now::Over(()),
-        };
+        match replace(&mut self.state, Now::Over(())) {
+            Now::At(at) => self.state = fill_after(self.version.value.len() as u32, at),
+            Now::Over(()) => self.state = Now::Over(()),
+        }
     }
 
     fn left(&self) -> u64 {
         match &self.state {
-            Now::At(at) => fill_left(self.version.value.len() as u32, *at),
+            Now::At(at) => fill_left(self.version.value.len() as u32, at),
             Now::Over(()) => 0,
         }
     }

@@ -18,7 +18,7 @@ use si_model::{Snapshot, Value};
 use std::marker::Model;
 use std::mem::replace;
 
-/// Where a search begins.
+/// Where a search begins: at the first cell.
 pub fn cell_begin() -> CellPlace
     ensures { result ≡ begin }
 {
@@ -33,26 +33,14 @@ pub fn cell_verb(cells: &Cells, place: &Place, at: &CellPlace) -> Verb
     ensures value { result ≡ verb_at cells.now at.now }
     ensures within { address_of result < cells_end cells.now }
 {
-    match at {
-        CellPlace::CellTag { cell } => Verb::Read {
-            at: tag_at(cells, *cell),
-        },
-        CellPlace::CellOwner { cell, .. } => Verb::Read {
-            at: owner_at(cells, *cell),
-        },
-        CellPlace::CellBegin { cell, .. } => Verb::Read {
-            at: begin_at(cells, *cell),
-        },
-        CellPlace::CellEnding { cell, .. } => Verb::Read {
-            at: end_at(cells, *cell),
-        },
-        CellPlace::CellWords { cell, got, .. } => Verb::Read {
-            at: cell_word_at(cells, *cell, got.len() as u32),
-        },
-        CellPlace::CellAgain { cell, .. } => Verb::Read {
-            at: tag_at(cells, *cell),
-        },
-    }
+    let at = match at {
+        CellPlace::CellTag { cell } | CellPlace::CellAgain { cell, .. } => tag_at(cells, *cell),
+        CellPlace::CellOwner { cell, .. } => owner_at(cells, *cell),
+        CellPlace::CellBegin { cell, .. } => begin_at(cells, *cell),
+        CellPlace::CellEnding { cell, .. } => end_at(cells, *cell),
+        CellPlace::CellWords { cell, got, .. } => cell_word_at(cells, *cell, got.len() as u32),
+    };
+    Verb::Read { at }
 }
 
 fn next_cell(cells: &Cells, cell: u32) -> Now<CellPlace, SearchEnd>
@@ -67,7 +55,7 @@ fn next_cell(cells: &Cells, cell: u32) -> Now<CellPlace, SearchEnd>
     }
 }
 
-/// The search of the cells for a version of the row that the snapshot sees, after the word that its verb found.
+/// What follows the word that the verb of a place found.
 pub fn cell_after(
     cells: &Cells,
     place: &Place,
@@ -149,7 +137,7 @@ pub fn cell_after(
         } => {
             if found != tag {
                 next_cell(cells, cell)
-            } else if is_deleted(header) {
+            } else if is_deleted(place.form, header) {
                 Now::Over(SearchEnd::Found(None))
             } else {
                 Now::Over(SearchEnd::Found(Some(value)))
@@ -158,7 +146,6 @@ pub fn cell_after(
     }
 }
 
-/// The verbs that the cells after one take at the most.
 fn cells_left(cells: &Cells, place: &Place, cell: u32) -> u64
     requires place { FitsPlace place.now }
     requires cell { cell < cells.now.cells }
@@ -198,13 +185,16 @@ pub struct SearchCells {
 }
 
 impl Model for SearchCells {
-    ghost use Rattle.nam_overflow.specs.Search.{Searching, SearchingFits};
+    ghost use Rattle.nam_verbs.specs.Now.{FitsNow};
+    ghost use Rattle.nam_layout.specs.PlaceFits.{FitsPlace, FitsCells};
+    ghost use Rattle.nam_calls.specs.Fits.{CellFits};
+    ghost use Rattle.nam_overflow.specs.Search.{Searching};
 
     ghost Value = { Searching };
 
     ghost view = { λ a. record { cells = a.cells; place = a.place; seen = a.seen; state = a.state } };
 
-    ghost invariant = { λ a. SearchingFits a.cells a.place a.state };
+    ghost invariant = { λ a. FitsCells a.cells × FitsPlace a.place × FitsNow (CellFits a.cells a.place) a.state };
 }
 
 impl SearchCells {
@@ -225,16 +215,16 @@ impl SearchCells {
 }
 
 impl Machine for SearchCells {
-    ghost use Rattle.nam_verbs.specs.Running.{verbs_left, stands_until_end};
-    ghost use Rattle.nam_overflow.specs.Search.{running, next_verb, after_found, end_of};
+    ghost use Rattle.nam_verbs.specs.Running.{next_verb, after_found, end_of, verbs_left, stands_until_end};
+    ghost use Rattle.nam_overflow.specs.Search.{running};
 
     type End = SearchEnd;
 
-    ghost next = { next_verb };
+    ghost next = { λ a. next_verb (running a) };
 
-    ghost after = { after_found };
+    ghost after = { λ a found. record a { state = (after_found (running a) found).state } };
 
-    ghost ended = { end_of };
+    ghost ended = { λ a. end_of (running a) };
 
     ghost rest = { λ a. verbs_left (running a) };
 
@@ -250,11 +240,12 @@ impl Machine for SearchCells {
     }
 
     fn take(&mut self, found: u64) {
-        let before = replace(&mut self.state, Now::At(cell_begin()));
-        self.state = match before {
-            Now::At(at) => cell_after(&self.cells, &self.place, &self.seen, at, found),
-            Now::Over(end) => Now::Over(end),
-        };
+        match replace(&mut self.state, Now::At(cell_begin())) {
+            Now::At(at) => {
+                self.state = cell_after(&self.cells, &self.place, &self.seen, at, found)
+            }
+            Now::Over(end) => self.state = Now::Over(end),
+        }
     }
 
     fn left(&self) -> u64 {

@@ -1,1 +1,3 @@
 pub mod TakenLemmas
+pub mod ReadingLemmas
+pub mod WritingLemmas

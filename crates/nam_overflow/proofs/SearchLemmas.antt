@@ -167,10 +167,12 @@ module _ (cells : Cells) (place : Place) (room : FitsCells cells) (fits : FitsPl
       → sees place.form seen ending ≡ false → length words ≡ place.width → EndsFrom (At (CellAgain cell tag header words)) steps end
       → EndsFrom (At (CellTag cell)) (looked cells place seen cell tag header ending words ++ steps) end
   from_words cell tag header ending words steps end shows newest whole ends =
-      from_header cell tag header (saw (end_at cells cell) ending ∷ saw_words (cell_word_at cells cell) words ++ steps) end shows
-      (refl, chosen (sees place.form seen ending) false (next_cell cells cell) (At (CellWords cell tag header [])) (saw_words (cell_word_at cells cell) words ++ steps) end newest
-      (reads_words (cell_verb cells) (cell_after cells place seen) (cell_word_at cells cell) place.width (CellWords cell tag header)
-      (λ words. At (CellAgain cell tag header words)) (λ got. refl) (λ got word. if_in At _ _ _) words fits.least_width whole steps end ends))
+      from_header cell tag header (saw (end_at cells cell) ending ∷ saw_words (cell_word_at cells cell) words ++ steps) end shows (
+        refl,
+        chosen (sees place.form seen ending) false (next_cell cells cell) (At (CellWords cell tag header [])) (saw_words (cell_word_at cells cell) words ++ steps) end newest
+            (reads_words (cell_verb cells) (cell_after cells place seen) (cell_word_at cells cell) place.width (CellWords cell tag header)
+            (λ words. At (CellAgain cell tag header words)) (λ got. refl) (λ got word. if_in At _ _ _) words fits.least_width whole steps end ends),
+      )
 
   passed_cell : (cell : ℕ) (first rest : List Step) (end : SearchEnd) → CellEnded cells place seen cell first → EndsFrom (next_cell cells cell) rest end
       → EndsFrom (At (CellTag cell)) (first ++ rest) end

@@ -26,5 +26,5 @@ FillReachesLaw =
     → length words ≤ 8
     → Always
     (λ at. Reaches shape (fill_verb (cells_of shape bucket) cell owner record { begin = begin; «end» = ending; value = words } at)
-        (fill_field (cells_of shape bucket) cell at))
+    (fill_field (cells_of shape bucket) cell at))
     (running (filling (cells_of shape bucket) cell owner begin ending words))

@@ -10,6 +10,8 @@ mod claim;
 mod fill;
 mod laws;
 mod search;
+#[cfg(test)]
+mod tests;
 
 pub use claim::{ClaimCell, claim_after, claim_begin, claim_left, claim_verb};
 pub use fill::{FillCell, fill_after, fill_begin, fill_left, fill_verb};

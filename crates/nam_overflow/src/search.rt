@@ -70,28 +70,28 @@ pub fn cell_after(
 {
     match at {
         CellPlace::CellTag { cell } => {
-            if is_full(found) {
-                Now::At(CellPlace::CellOwner { cell, tag: found })
-            } else {
+            if !is_full(found) {
                 next_cell(cells, cell)
+            } else {
+                Now::At(CellPlace::CellOwner { cell, tag: found })
             }
         }
         CellPlace::CellOwner { cell, tag } => {
-            if found == place.row as u64 {
-                Now::At(CellPlace::CellBegin { cell, tag })
-            } else {
+            if found != place.row as u64 {
                 next_cell(cells, cell)
+            } else {
+                Now::At(CellPlace::CellBegin { cell, tag })
             }
         }
         CellPlace::CellBegin { cell, tag } => {
-            if sees(place.form, seen, found) {
+            if !sees(place.form, seen, found) {
+                next_cell(cells, cell)
+            } else {
                 Now::At(CellPlace::CellEnding {
                     cell,
                     tag,
                     header: found,
                 })
-            } else {
-                next_cell(cells, cell)
             }
         }
         CellPlace::CellEnding { cell, tag, header } => {

@@ -1,6 +1,9 @@
--- the key words of a table's positions, which stand one after another
-use Rattle.std.proofs.Common.{◌≡◌, ℕ, zero, suc, ◌+◌, ◌-◌, ◌*◌, ◌^◌, ◌%◌, ◌<◌, ◌≤◌, List, [], ◌∷◌, length, refl, sym, ◌∙◌, ap, arith}
+-- paths, and the key words of a table's positions, which stand one after another
+use Rattle.std.proofs.Common.{◌≡◌, ◌⊎◌, inl, inr, ℕ, zero, suc, ◌+◌, ◌-◌, ◌*◌, ◌^◌, ◌%◌, ◌<◌, ◌≤◌, List, [], ◌∷◌, length, refl, sym, ◌∙◌, ap, arith}
 use Rattle.std.specs.Prelude.{All, slice_index}
+use Rattle.std.proofs.Math.Nat.{add-mod_left, mod-eq_of_lt}
+use Rattle.std.proofs.lemmas.Bool.{cases_lt}
+use Rattle.std.proofs.lemmas.Nat.{mod_below}
 use Rattle.std.proofs.lemmas.List.Elements.{All-head, All-tail}
 use Rattle.nam_catalog.specs.declared.shape.Table.{Table}
 use Rattle.nam_catalog.specs.declared.shape.Shape.{Shape}
@@ -9,10 +12,11 @@ use Rattle.nam_catalog.specs.Tables.{widths_of, capacities_of, rings_of}
 use Rattle.nam_catalog.specs.Words.{position_words, table_words, tables_words}
 use Rattle.nam_layout.specs.Rows.{row_of, row_at}
 use Rattle.nam_layout.proofs.TestLemmas.{if_less, if_not_less}
-use Rattle.nam_calls.specs.Words.{capacity_of, path_at}
+use Rattle.nam_calls.specs.Words.{capacity_of, on_path, path_at}
 use Rattle.nam_calls.specs.TxnFits.{IsTableOf}
 use Rattle.nam_calls.proofs.FallsKeys.{has_capacity}
 use Rattle.nam_index.specs.Path.{path_of, position_at, key_at, FitsPath}
+use Rattle.nam_index.specs.PathLaw.{GoesThrough}
 
 -- the positions of a table stand one after another, among the words of the tables
 record StandInOrder (tables : List Table) (table : ℕ) : Type 0 where
@@ -75,3 +79,59 @@ module _ (shape : Shape) (limits : FitsLimits shape) (table : ℕ) (is : IsTable
         last = omega arith;
         reach = most;
       }
+
+-- the remainder of a sum of two numbers below the capacity
+remainder : (capacity n : ℕ) → n < capacity + capacity → ((n < capacity) × (n % capacity ≡ n)) ⊎ ((capacity ≤ n) × (n % capacity + capacity ≡ n))
+remainder capacity n less = elim (cases_lt n capacity) [
+  | inl below ↦ inl (below, mod-eq_of_lt below)
+  | inr least ↦
+    let rest = n - capacity in
+    let sum : capacity + rest ≡ n = omega arith in
+    let below : rest < capacity = omega arith in
+    let same : n % capacity ≡ rest = ap (λ m. m % capacity) (sym sum) ∙ add-mod_left capacity rest ∙ mod-eq_of_lt below in
+    inr (least, omega arith)
+]
+
+module _ (capacity key : ℕ) (some : 1 ≤ capacity) where
+  abbrev first : ℕ
+  first = key % capacity
+
+  first_below : first < capacity
+  first_below = mod_below key capacity some
+
+  turn : (passed : ℕ) → passed < capacity
+      → ((first + passed < capacity) × (on_path capacity key passed ≡ first + passed))
+      ⊎ ((capacity ≤ first + passed) × (on_path capacity key passed + capacity ≡ first + passed))
+  turn passed less = let f = first_below in remainder capacity (first + passed) (omega arith)
+
+  reaches : (position : ℕ) → position < capacity → (passed : ℕ) × (passed < capacity) × (on_path capacity key passed ≡ position)
+  reaches position less = elim (cases_lt position first) [
+    | inl before ↦
+      let f = first_below in
+      let passed = position + capacity - first in
+      let within : passed < capacity = omega arith in
+      (passed, within, elim (turn passed within) [ | inl t ↦ let a = t.0 in absurd (omega arith) | inr t ↦ let a = t.1 in omega arith ])
+    | inr after ↦
+      let passed = position - first in
+      let within : passed < capacity = omega arith in
+      (passed, within, elim (turn passed within) [ | inl t ↦ let a = t.1 in omega arith | inr t ↦ let a = t.0 in absurd (omega arith) ])
+  ]
+
+  same_turn : (a b : ℕ) → a < capacity → b < capacity → on_path capacity key a ≡ on_path capacity key b → a ≡ b
+  same_turn a b less_a less_b same = elim (turn a less_a) [
+    | inl s ↦ elim (turn b less_b) [
+      | inl t ↦ let x = s.1 in let y = t.1 in omega arith
+      | inr t ↦ let x = s.1 in let y = t.1 in absurd (omega arith)
+    ]
+    | inr s ↦ elim (turn b less_b) [
+      | inl t ↦ let x = s.1 in let y = t.1 in absurd (omega arith)
+      | inr t ↦ let x = s.1 in let y = t.1 in omega arith
+    ]
+  ]
+
+  pub goes_through : GoesThrough capacity key
+  goes_through = record {
+    within = λ passed less. mod_below (first + passed) capacity some;
+    each = reaches;
+    once = same_turn;
+  }

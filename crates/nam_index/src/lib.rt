@@ -11,6 +11,8 @@ mod claim;
 mod find;
 mod laws;
 mod path;
+#[cfg(test)]
+mod tests;
 
 pub use claim::{
     FindOrClaim, claim_key_after, claim_key_begin, claim_key_left, claim_key_verb,

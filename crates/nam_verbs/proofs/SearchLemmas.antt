@@ -34,10 +34,15 @@ module _ {P E : Type 0} (verb : P → Verb) (after : P → ℕ → Now P E) (sta
   then_later : (from more : ℕ) (first rest : List Step) (end : E) → Passed from first → Found (from + 1) more rest end
       → Found from (suc more) (first ++ rest) end
   then_later from more first rest end passed found =
-      let nth = found.0 in let before = found.2 in let last = found.3 in
-      (suc nth, omega (arith, found.1), first ++ before, last, (rw (found.4) (sym (append_assoc first before last))),
-      (first, before, refl, passed, found.5),
-      (let same : from + 1 + nth ≡ from + suc nth = omega arith in subst (λ n. Stops end n last) same found.6))
+      let nth = found.0 in let before = found.2 in let last = found.3 in (
+        suc nth,
+        omega (arith, found.1),
+        first ++ before,
+        last,
+        (rw (found.4) (sym (append_assoc first before last))),
+        (first, before, refl, passed, found.5),
+        (let same : from + 1 + nth ≡ from + suc nth = omega arith in subst (λ n. Stops end n last) same found.6),
+      )
 
   -- after an item that was passed, where the items after it are searched so
   after_passed : (more from : ℕ) (steps : List Step) (end : E) (first rest : List Step) → steps ≡ first ++ rest → Passed from first
@@ -50,13 +55,13 @@ module _ {P E : Type 0} (verb : P → Verb) (after : P → ℕ → Now P E) (sta
   search_from parted zero from all steps end ends = elim (parted from (omega arith) steps end ends) [
     | inl stops ↦ inl (at_first from zero steps end stops)
     | inr passed ↦
-      let over = over_is miss end passed.1 (subst (λ now. Ends verb after now passed.1 end) (misses from (omega arith)) passed.4) in
-      after_passed zero from steps end passed.0 passed.1 passed.2 passed.3 (inr (over.0, over.1))
+        let over = over_is miss end passed.1 (subst (λ now. Ends verb after now passed.1 end) (misses from (omega arith)) passed.4) in
+        after_passed zero from steps end passed.0 passed.1 passed.2 passed.3 (inr (over.0, over.1))
   ]
   search_from parted (suc more) from all steps end ends = elim (parted from (omega arith) steps end ends) [
     | inl stops ↦ inl (at_first from (suc more) steps end stops)
     | inr passed ↦ after_passed (suc more) from steps end passed.0 passed.1 passed.2 passed.3
-      (search_from parted more (from + 1) (omega arith) passed.1 end (subst (λ now. Ends verb after now passed.1 end) (goes_on from (omega arith)) passed.4))
+        (search_from parted more (from + 1) (omega arith) passed.1 end (subst (λ now. Ends verb after now passed.1 end) (goes_on from (omega arith)) passed.4))
   ]
 
   -- 2. By steps it ends so

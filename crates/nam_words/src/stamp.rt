@@ -1,7 +1,6 @@
 //! Header words.
 
 ghost use Rattle.std.specs.Prelude.{◌≡◌};
-ghost use Rattle.nam_catalog.specs.declared.form.Form.{Form};
 ghost use Rattle.nam_calls.specs.Stamps.{stamp_in as stamp_of, is_locked as locked, is_deleted as deleted_by, is_moved as moved_by};
 ghost use Rattle.nam_calls.specs.Stamps.{same_stamp as same, sees as seen_by, is_within as within_by, without_moved as unmoved};
 ghost use Rattle.nam_calls.specs.Stamps.{version_word as word_of_version, stamp_word as word_of_stamp, mark};
@@ -14,10 +13,6 @@ use si_model::{Snapshot, Stamp};
 /// The header of a slot without a version: it is empty, or is being written.
 pub const MARK: u64 = 5;
 
-const LOCKED: u64 = 1;
-
-const DELETED: u64 = 2;
-
 const MOVED: u64 = 4;
 
 /// The stamp that a header word bears.
@@ -27,25 +22,25 @@ pub fn stamp_in(form: Form, word: u64) -> Stamp
     unpack(form, word).stamp
 }
 
-/// Whether the record is locked. This flag and the next two stand alike in all forms.
-pub fn is_locked(word: u64) -> bool
-    ensures { (form : Form) → result ≡ locked form word }
+/// Whether the record is locked.
+pub fn is_locked(form: Form, word: u64) -> bool
+    ensures { result ≡ locked form word }
 {
-    word / LOCKED % 2 == 1
+    unpack(form, word).locked
 }
 
 /// Whether the version is a deletion.
-pub fn is_deleted(word: u64) -> bool
-    ensures { (form : Form) → result ≡ deleted_by form word }
+pub fn is_deleted(form: Form, word: u64) -> bool
+    ensures { result ≡ deleted_by form word }
 {
-    word / DELETED % 2 == 1
+    unpack(form, word).deleted
 }
 
 /// Whether the version has been moved into a cell.
-pub fn is_moved(word: u64) -> bool
-    ensures { (form : Form) → result ≡ moved_by form word }
+pub fn is_moved(form: Form, word: u64) -> bool
+    ensures { result ≡ moved_by form word }
 {
-    word / MOVED % 2 == 1
+    unpack(form, word).moved
 }
 
 /// Whether two words bear one stamp.

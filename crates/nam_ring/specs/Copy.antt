@@ -1,0 +1,34 @@
+-- The copy of a version into its slot as a machine.
+use Rattle.std.specs.Prelude.{ℕ, List}
+use Rattle.nam_verbs.specs.declared.now.Now.{Now}
+use Rattle.nam_verbs.specs.declared.now.Now.TheVariants.{At}
+use Rattle.nam_verbs.specs.Running.{Running}
+use Rattle.si_model.specs.declared.log.Stamp.{Stamp}
+use Rattle.nam_layout.specs.declared.field.Place.{Place}
+use Rattle.nam_calls.specs.declared.ring.CopyPlace.{CopyPlace}
+use Rattle.nam_calls.specs.Ring.{copy_begin, copy_verb, copy_after, copy_left}
+use Rattle.nam_words.specs.Ends.{place_end}
+
+-- a copy of the version with this number, header, words and successor, and where it stands
+pub record Copying : Type 0 where
+  pub place : Place
+  pub count : ℕ
+  pub header : ℕ
+  pub old : List ℕ
+  pub ending : Stamp
+  pub state : Now CopyPlace (Unit {0})
+
+-- a new copy
+abbrev pub copying : Place → ℕ → ℕ → List ℕ → Stamp → Copying
+copying place count header old ending =
+    record { place = place; count = count; header = header; old = old; ending = ending; state = At copy_begin }
+
+-- the same as a running call
+abbrev pub running : Copying → Running CopyPlace (Unit {0})
+running a = record {
+  verb = copy_verb a.place a.count a.header a.old a.ending;
+  after = λ at found. copy_after a.place at;
+  left = copy_left a.place;
+  reach = place_end a.place;
+  state = a.state;
+}

@@ -1,0 +1,3 @@
+pub mod Check
+pub mod Copy
+pub mod Search

@@ -1,0 +1,30 @@
+-- The search of a ring as a machine.
+use Rattle.std.specs.Prelude.{ℕ, List}
+use Rattle.nam_verbs.specs.declared.now.Now.{Now}
+use Rattle.nam_verbs.specs.declared.now.Now.TheVariants.{At}
+use Rattle.nam_verbs.specs.Running.{Running}
+use Rattle.nam_layout.specs.declared.field.Place.{Place}
+use Rattle.nam_calls.specs.declared.ring.RingPlace.{RingPlace}
+use Rattle.nam_calls.specs.declared.ring.SearchEnd.{SearchEnd}
+use Rattle.nam_calls.specs.Ring.{ring_begin, ring_verb, ring_after, ring_left}
+use Rattle.nam_words.specs.Ends.{place_end}
+
+-- a search of a position's ring under a snapshot, and where it stands
+pub record Searching : Type 0 where
+  pub place : Place
+  pub seen : List ℕ
+  pub state : Now RingPlace SearchEnd
+
+-- a new search
+abbrev pub searching : Place → List ℕ → Searching
+searching place seen = record { place = place; seen = seen; state = At ring_begin }
+
+-- the same as a running call
+abbrev pub running : Searching → Running RingPlace SearchEnd
+running a = record {
+  verb = ring_verb a.place;
+  after = ring_after a.place a.seen;
+  left = ring_left a.place;
+  reach = place_end a.place;
+  state = a.state;
+}

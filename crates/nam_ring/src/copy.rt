@@ -1,0 +1,200 @@
+//! The copy of a record's current version into its slot.
+
+ghost use Rattle.std.specs.Prelude.{◌≡◌, ◌<◌, ◌+◌, length};
+ghost use Rattle.nam_verbs.specs.Verb.{address_of};
+ghost use Rattle.nam_verbs.specs.Running.{verbs_left};
+ghost use Rattle.nam_layout.specs.PlaceFits.{FitsPlace};
+ghost use Rattle.nam_calls.specs.Fits.{CopyFits};
+ghost use Rattle.nam_calls.specs.Ring.{copy_begin as begin, copy_verb as verb_at, copy_after as after_word, copy_left as left_at};
+ghost use Rattle.nam_words.specs.Ends.{place_end};
+ghost use Rattle.nam_words.specs.StampFits.{FitsStamp};
+ghost use Rattle.nam_ring.specs.Copy.{copying, running};
+
+use nam_calls::CopyPlace;
+use nam_layout::Place;
+use nam_verbs::{Machine, Now, Verb};
+use nam_words::{MARK, slot_at, slot_end_at, slot_of, slot_word_at, stamp_word};
+use si_model::{Stamp, Value};
+use std::marker::Model;
+use std::mem::replace;
+
+/// Where a copy begins: at the mark.
+pub fn copy_begin() -> CopyPlace
+    ensures { result ≡ begin }
+{
+    CopyPlace::CopyMark
+}
+
+/// The verb that stands at a place: `count` is the version's number, `header` its header without a lock, `old` its words,
+/// and `ending` its successor's stamp.
+pub fn copy_verb(
+    place: &Place,
+    count: u64,
+    header: u64,
+    old: &Value,
+    ending: Stamp,
+    at: &CopyPlace,
+) -> Verb
+    requires fits { FitsPlace place.now }
+    requires old { length old.now ≡ place.now.width }
+    requires ending { FitsStamp place.now.form ending }
+    requires at { CopyFits place.now at.now }
+    ensures value { result ≡ verb_at place.now count header old.now ending at.now }
+    ensures within { address_of result < place_end place.now }
+{
+    let slot = slot_of(place, count);
+    match at {
+        CopyPlace::CopyMark => Verb::Write {
+            at: slot_at(place, slot),
+            word: MARK,
+        },
+        CopyPlace::CopyEnding => Verb::Write {
+            at: slot_end_at(place, slot),
+            word: stamp_word(place.form, ending),
+        },
+        CopyPlace::CopyWord { nth } => Verb::Write {
+            at: slot_word_at(place, slot, *nth),
+            word: *old.at(*nth as usize),
+        },
+        CopyPlace::CopyHead => Verb::Write {
+            at: slot_at(place, slot),
+            word: header,
+        },
+    }
+}
+
+/// What follows the write of a place.
+pub fn copy_after(place: &Place, at: CopyPlace) -> Now<CopyPlace, ()>
+    requires fits { FitsPlace place.now }
+    requires at { CopyFits place.now at }
+    ensures { result ≡ after_word place.now at }
+{
+    match at {
+        CopyPlace::CopyMark => Now::At(CopyPlace::CopyEnding),
+        CopyPlace::CopyEnding => Now::At(CopyPlace::CopyWord { nth: 0 }),
+        CopyPlace::CopyWord { nth } => {
+            if nth + 1 == place.width {
+                Now::At(CopyPlace::CopyHead)
+            } else {
+                Now::At(CopyPlace::CopyWord { nth: nth + 1 })
+            }
+        }
+        CopyPlace::CopyHead => Now::Over(()),
+    }
+}
+
+/// How many verbs are to come from a place.
+pub fn copy_left(place: &Place, at: &CopyPlace) -> u64
+    requires fits { FitsPlace place.now }
+    requires at { CopyFits place.now at.now }
+    ensures { result ≡ left_at place.now at.now }
+{
+    let width = place.width as u64;
+    match at {
+        CopyPlace::CopyMark => width + 3,
+        CopyPlace::CopyEnding => width + 2,
+        CopyPlace::CopyWord { nth } => width - *nth as u64 + 1,
+        CopyPlace::CopyHead => 1,
+    }
+}
+
+/// The copy of a record's current version into the slot of its number: the mark, the end, the words, the header.
+#[derive(Debug, Drop)]
+pub struct CopyOld {
+    place: Place,
+    count: u64,
+    header: u64,
+    old: Value,
+    ending: Stamp,
+    state: Now<CopyPlace, ()>,
+}
+
+impl Model for CopyOld {
+    ghost use Rattle.std.specs.Prelude.{◌≡◌, length};
+    ghost use Rattle.nam_verbs.specs.Now.{FitsNow};
+    ghost use Rattle.nam_layout.specs.PlaceFits.{FitsPlace};
+    ghost use Rattle.nam_calls.specs.Fits.{CopyFits};
+    ghost use Rattle.nam_words.specs.StampFits.{FitsStamp};
+    ghost use Rattle.nam_ring.specs.Copy.{Copying};
+
+    ghost Value = { Copying };
+
+    ghost view = { λ a. record { place = a.place; count = a.count; header = a.header; old = a.old; ending = a.ending; state = a.state } };
+
+    ghost invariant = { λ a. FitsPlace a.place × (length a.old ≡ a.place.width) × FitsStamp a.place.form a.ending × FitsNow (CopyFits a.place) a.state };
+}
+
+impl CopyOld {
+    /// The copy of a position's current version, which has this number, this header without a lock, and these words. Its
+    /// successor has the stamp `end`.
+    pub fn new(place: Place, count: u64, header: u64, old: Value, end: Stamp) -> CopyOld
+        requires fits { FitsPlace place }
+        requires old { length old ≡ place.width }
+        requires stamp { FitsStamp place.form end }
+        ensures begins { result ≡ copying place count header old end }
+        ensures left { verbs_left (running result) ≡ place.width + 3 }
+    {
+        CopyOld {
+            place,
+            count,
+            header,
+            old,
+            ending: end,
+            state: Now::At(copy_begin()),
+        }
+    }
+}
+
+impl Machine for CopyOld {
+    ghost use Rattle.nam_verbs.specs.Running.{next_verb, after_found, end_of, verbs_left, stands_until_end};
+    ghost use Rattle.nam_ring.specs.Copy.{running};
+
+    type End = ();
+
+    ghost next = { λ a. next_verb (running a) };
+
+    ghost after = { λ a found. record a { state = (after_found (running a) found).state } };
+
+    ghost ended = { λ a. end_of (running a) };
+
+    ghost rest = { λ a. verbs_left (running a) };
+
+    ghost reach = { λ a. (running a).reach };
+
+    ghost stands_until_end = { λ a. stands_until_end (running a) };
+
+    fn verb(&self) -> Option<Verb> {
+        match &self.state {
+            Now::At(at) => Some(copy_verb(
+                &self.place,
+                self.count,
+                self.header,
+                &self.old,
+                self.ending,
+                at,
+            )),
+            Now::Over(()) => None,
+        }
+    }
+
+    fn take(&mut self, _found: u64) {
+        match replace(&mut self.state, Now::Over(())) {
+            Now::At(at) => self.state = copy_after(&self.place, at),
+            Now::Over(()) => self.state = Now::Over(()),
+        }
+    }
+
+    fn left(&self) -> u64 {
+        match &self.state {
+            Now::At(at) => copy_left(&self.place, at),
+            Now::Over(()) => 0,
+        }
+    }
+
+    fn end(&self) -> Option<()> {
+        match &self.state {
+            Now::At(_) => None,
+            Now::Over(()) => Some(()),
+        }
+    }
+}

@@ -1,10 +1,8 @@
 -- The locking of records as a machine.
-use Rattle.std.specs.Prelude.{ℕ, List, [], length, Option}
-use Rattle.nam_verbs.specs.declared.verb.Verb.{Verb}
+use Rattle.std.specs.Prelude.{ℕ, List, [], length}
 use Rattle.nam_verbs.specs.declared.now.Now.{Now}
 use Rattle.nam_verbs.specs.declared.now.Now.TheVariants.{At, Over}
 use Rattle.nam_verbs.specs.Running.{Running}
-use Rattle.nam_verbs.specs.Running as call
 use Rattle.nam_layout.specs.declared.field.Place.{Place}
 use Rattle.nam_calls.specs.declared.lock.LockPlace.{LockPlace}
 use Rattle.nam_calls.specs.declared.lock.LockEnd.{LockEnd}
@@ -32,18 +30,6 @@ running a = record {
   reach = headers_end a.places;
   state = a.state;
 }
-
--- the verb that stands
-abbrev pub next_verb : Locking → Option Verb
-next_verb a = call.next_verb (running a)
-
--- the locking after a found word
-abbrev pub after_found : Locking → ℕ → Locking
-after_found a found = record a { state = (call.after_found (running a) found).state }
-
--- how the locking ended
-abbrev pub end_of : Locking → Option LockEnd
-end_of a = call.end_of (running a)
 
 -- how many locks were taken so far, those that are given back among them
 abbrev pub taken_by : Now LockPlace LockEnd → ℕ

@@ -1,9 +1,7 @@
 -- The writing back of headers as a machine.
-use Rattle.std.specs.Prelude.{ℕ, List, Option}
-use Rattle.nam_verbs.specs.declared.verb.Verb.{Verb}
+use Rattle.std.specs.Prelude.{ℕ, List}
 use Rattle.nam_verbs.specs.declared.now.Now.{Now}
 use Rattle.nam_verbs.specs.Running.{Running}
-use Rattle.nam_verbs.specs.Running as call
 use Rattle.nam_layout.specs.declared.field.Place.{Place}
 use Rattle.nam_calls.specs.Lock.{unlock_begin, unlock_verb, unlock_after, unlock_left}
 use Rattle.nam_lock.specs.Headers.{headers_end}
@@ -26,15 +24,3 @@ running a = record {
   reach = headers_end a.places;
   state = a.state;
 }
-
--- the verb that stands
-abbrev pub next_verb : Unlocking → Option Verb
-next_verb a = call.next_verb (running a)
-
--- the call after its verb
-abbrev pub after_found : Unlocking → ℕ → Unlocking
-after_found a found = record a { state = (call.after_found (running a) found).state }
-
--- how the call ended
-abbrev pub end_of : Unlocking → Option (Unit {0})
-end_of a = call.end_of (running a)

@@ -31,6 +31,7 @@ pub fn lock_begin() -> LockPlace
 }
 
 /// The verb that stands at a place.
+#[tactic(auto, using(crate::proofs::HeadersLemmas::is_below_end))]
 pub fn lock_verb(worker: u32, places: &[Place], at: &LockPlace) -> Verb
     requires worker { worker ≤ 16 }
     requires at { LockFits (length places.now) at.now }
@@ -60,7 +61,7 @@ pub fn lock_verb(worker: u32, places: &[Place], at: &LockPlace) -> Verb
 fn loss_of(form: Form, nth: u32, found: u64) -> LockEnd
     ensures { result ≡ loss_by form nth found }
 {
-    if is_locked(found) {
+    if is_locked(form, found) {
         LockEnd::Locked { nth, found }
     } else {
         LockEnd::Newer { nth, found }
@@ -108,13 +109,14 @@ pub fn lock_after(
 {
     match at {
         LockPlace::Peek { held } => {
-            if !is_locked(found) && sees(places[held.len()].form, seen, found) {
+            let form = places[held.len()].form;
+            if is_locked(form, found) || !sees(form, seen, found) {
+                give_back(places, held, 0, found)
+            } else {
                 Now::At(LockPlace::Seize {
                     held,
                     header: found,
                 })
-            } else {
-                give_back(places, held, 0, found)
             }
         }
         LockPlace::Seize { mut held, header } => {
@@ -219,16 +221,16 @@ impl LockAll {
 }
 
 impl Machine for LockAll {
-    ghost use Rattle.nam_verbs.specs.Running.{verbs_left, stands_until_end};
-    ghost use Rattle.nam_lock.specs.Locking.{running, next_verb, after_found, end_of};
+    ghost use Rattle.nam_verbs.specs.Running.{next_verb, after_found, end_of, verbs_left, stands_until_end};
+    ghost use Rattle.nam_lock.specs.Locking.{running};
 
     type End = LockEnd;
 
-    ghost next = { next_verb };
+    ghost next = { λ a. next_verb (running a) };
 
-    ghost after = { after_found };
+    ghost after = { λ a found. record a { state = (after_found (running a) found).state } };
 
-    ghost ended = { end_of };
+    ghost ended = { λ a. end_of (running a) };
 
     ghost rest = { λ a. verbs_left (running a) };
 
@@ -244,11 +246,12 @@ impl Machine for LockAll {
     }
 
     fn take(&mut self, found: u64) {
-        let before = replace(&mut self.state, Now::At(lock_begin()));
-        self.state = match before {
-            Now::At(at) => lock_after(self.places.as_slice(), &self.seen, at, found),
-            Now::Over(end) => Now::Over(end),
-        };
+        match replace(&mut self.state, Now::At(lock_begin())) {
+            Now::At(at) => {
+                self.state = lock_after(self.places.as_slice(), &self.seen, at, found)
+            }
+            Now::Over(end) => self.state = Now::Over(end),
+        }
     }
 
     fn left(&self) -> u64 {

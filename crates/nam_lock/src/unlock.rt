@@ -25,6 +25,7 @@ pub fn unlock_begin(places: &[Place]) -> Now<u32, ()>
 }
 
 /// The verb that stands where so many headers were written.
+#[tactic(auto, using(crate::proofs::HeadersLemmas::is_below_end))]
 pub fn unlock_verb(places: &[Place], headers: &[u64], given: u32) -> Verb
     requires places { given < length places.now }
     requires headers { given < length headers.now }
@@ -96,16 +97,16 @@ impl UnlockAll {
 }
 
 impl Machine for UnlockAll {
-    ghost use Rattle.nam_verbs.specs.Running.{verbs_left, stands_until_end};
-    ghost use Rattle.nam_lock.specs.Unlocking.{running, next_verb, after_found, end_of};
+    ghost use Rattle.nam_verbs.specs.Running.{next_verb, after_found, end_of, verbs_left, stands_until_end};
+    ghost use Rattle.nam_lock.specs.Unlocking.{running};
 
     type End = ();
 
-    ghost next = { next_verb };
+    ghost next = { λ a. next_verb (running a) };
 
-    ghost after = { after_found };
+    ghost after = { λ a found. record a { state = (after_found (running a) found).state } };
 
-    ghost ended = { end_of };
+    ghost ended = { λ a. end_of (running a) };
 
     ghost rest = { λ a. verbs_left (running a) };
 

@@ -3,8 +3,8 @@ use Rattle.std.specs.Prelude.{◌≡◌, ℕ, ◌+◌, ◌==◌, if◌then◌els
 use Rattle.nam_verbs.specs.declared.verb.Verb.{Verb}
 use Rattle.nam_verbs.specs.declared.verb.Verb.TheVariants.{Exchange}
 use Rattle.nam_verbs.specs.Machine.{after_words}
-use Rattle.nam_layout.specs.declared.field.Place.{Place}
 use Rattle.nam_verbs.specs.Running.{Running, next_verb, after_found}
+use Rattle.nam_layout.specs.declared.field.Place.{Place}
 use Rattle.nam_calls.specs.declared.lock.LockPlace.{LockPlace}
 use Rattle.nam_calls.specs.declared.lock.LockEnd.{LockEnd}
 use Rattle.nam_lock.specs.Locking.{locking, running, taken_by}
@@ -22,4 +22,5 @@ exchanges call (word ∷ words) = stored (next_verb call) word + exchanges (afte
 -- whatever words were found, a locking has taken as many locks as there were such exchanges
 abbrev pub TakenLaw : Type 0
 TakenLaw = (worker : ℕ) (places : List Place) (seen words : List ℕ)
-    → let call = running (locking worker places seen) in taken_by (after_words after_found call words).state ≡ exchanges call words
+    → let call = running (locking worker places seen) in
+    taken_by (after_words after_found call words).state ≡ exchanges call words

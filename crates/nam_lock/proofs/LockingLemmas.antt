@@ -44,8 +44,12 @@ module _ (worker : ℕ) (places : List Place) (seen : List ℕ) where
   abbrev Free : ℕ → ℕ → Type 0
   Free = IsFree places seen
 
+  abbrev Missed : ℕ → ℕ → List Step → Type 0
+  Missed = MissesLock worker places seen
+
   abbrev Misses : ℕ → ℕ → List Step → Type 0
-  Misses nth found steps = ReadsTaken worker places seen nth found steps ⊎ LosesExchange worker places seen nth found steps
+  Misses nth found steps =
+      ReadsTaken worker places seen nth found steps ⊎ LosesExchange worker places seen nth found steps
 
   -- where it begins to give back, what it writes then, and how it ends
   abbrev missed_by : List ℕ → ℕ → Now LockPlace LockEnd
@@ -59,10 +63,12 @@ module _ (worker : ℕ) (places : List Place) (seen : List ℕ) where
 
   -- 1. Each word that was found, and what follows it
 
-  peek_free : (held : List ℕ) (found : ℕ) → Free (length held) found → after (Peek held) found ≡ At (Seize held found)
-  peek_free held found free = let unlocked = free.0 in let visible = free.1 in rw (unlocked, visible) refl
+  peek_free : (held : List ℕ) (word : ℕ) → Free (length held) word
+      → after (Peek held) word ≡ At (Seize held word)
+  peek_free held word free = let unlocked = free.0 in let visible = free.1 in rw (unlocked, visible) refl
 
-  peek_taken : (held : List ℕ) (found : ℕ) → IsLocked places (length held) found ⊎ IsUnseen places seen (length held) found
+  peek_taken : (held : List ℕ) (found : ℕ)
+      → IsLocked places (length held) found ⊎ IsUnseen places seen (length held) found
       → after (Peek held) found ≡ missed_by held found
   peek_taken held found (inl taken) = rw taken refl
   peek_taken held found (inr unseen) =
@@ -79,10 +85,12 @@ module _ (worker : ℕ) (places : List Place) (seen : List ℕ) where
       let other : (found == header) ≡ false = grind (arith, nat_tests) in rw other refl
 
   next_last : (held : List ℕ) → length held ≡ length places → lock_next places held ≡ Over (Held held)
-  next_last held full = let last : (length held == length places) ≡ true = grind (arith, nat_tests) in rw last refl
+  next_last held full =
+      let last : (length held == length places) ≡ true = grind (arith, nat_tests) in rw last refl
 
   next_more : (held : List ℕ) → length held < length places → lock_next places held ≡ At (Peek held)
-  next_more held more = let other : (length held == length places) ≡ false = grind (arith, nat_tests) in rw other refl
+  next_more held more =
+      let other : (length held == length places) ≡ false = grind (arith, nat_tests) in rw other refl
 
   -- all that it holds is written back, whatever is found
   gives_back : (held : List ℕ) (found : ℕ) → Does verb after (missed_by held found) (writes held) (loss held found)
@@ -90,8 +98,9 @@ module _ (worker : ℕ) (places : List Place) (seen : List ℕ) where
   gives_back (header ∷ headers) found =
       let held = header ∷ headers in
       let some : (0 == length held) ≡ false = grind (arith, nat_tests) in
-      let all = writes_words verb after (header_at places) held (λ given. GiveBack held given found) (Over (loss held found))
-      (λ nth. refl) (λ nth word. refl) [] (loss held found) refl (omega arith) in
+      let end = loss held found in
+      let all = writes_words verb after (header_at places) held (λ given. GiveBack held given found) (Over end)
+      (λ nth. refl) (λ nth word. refl) [] end refl (omega arith) in
       rw some (subst (λ verbs. Does verb after (At (GiveBack held 0 found)) verbs (loss held found))
       (append-nil (writes held)) all)
 
@@ -253,7 +262,8 @@ module _ (worker : ℕ) (places : List Place) (seen : List ℕ) where
             rw taken.0 (refl, subst (λ now. EndsFrom now back end) (sym (peek_taken held found taken.1)) ends)
         | inr lost ↦
             let tries = try_of (length held) lost.header found ∷ back in
-            let seizes = subst (λ now. EndsFrom now back end) (sym (seize_other held lost.header found lost.differs)) ends in
+            let lose = seize_other held lost.header found lost.differs in
+            let seizes = subst (λ now. EndsFrom now back end) (sym lose) ends in
             rw lost.steps_are (
               refl,
               subst (λ now. EndsFrom now tries end) (sym (peek_free held lost.header lost.free))
@@ -324,8 +334,9 @@ module _ (worker : ℕ) (places : List Place) (seen : List ℕ) where
 
   -- 5. Both
 
-  misses_lock : (nth found : ℕ) (steps : List Step) (headers : List ℕ) (later : List Step) → AreFree places seen 0 headers
-      → steps ≡ locks 0 headers ++ later → GivenBack headers nth found later → MissesLock worker places seen nth found steps
+  misses_lock : (nth found : ℕ) (steps : List Step) (headers : List ℕ) (later : List Step)
+      → AreFree places seen 0 headers → steps ≡ locks 0 headers ++ later → GivenBack headers nth found later
+      → Missed nth found steps
   misses_lock nth found steps headers later free steps_are given = record {
     within = given.within;
     held = headers;
@@ -353,7 +364,7 @@ module _ (worker : ℕ) (places : List Place) (seen : List ℕ) where
   law_of steps (Newer nth found) headers later free steps_are finish =
       (misses_lock nth found steps headers later free steps_are finish.0, finish.1)
 
-  given_of : (nth found : ℕ) (steps : List Step) (missed : MissesLock worker places seen nth found steps)
+  given_of : (nth found : ℕ) (steps : List Step) (missed : Missed nth found steps)
       → GivenBack missed.held nth found (missed.last ++ missed.back)
   given_of nth found steps missed = record {
     within = missed.within;
@@ -365,7 +376,7 @@ module _ (worker : ℕ) (places : List Place) (seen : List ℕ) where
     steps_are = refl;
   }
 
-  from_missed : (nth found : ℕ) (steps : List Step) (end : LockEnd) (missed : MissesLock worker places seen nth found steps)
+  from_missed : (nth found : ℕ) (steps : List Step) (end : LockEnd) (missed : Missed nth found steps)
       → Finish missed.held (missed.last ++ missed.back) end → From [] 0 steps end
   from_missed nth found steps end missed finish = record {
     headers = missed.held;
@@ -391,6 +402,8 @@ module _ (worker : ℕ) (places : List Place) (seen : List ℕ) where
   pub locking_ends : (steps : List Step) (end : LockEnd)
       → EndsFrom (lock_next places []) steps end ↔ IsLockingOf worker places seen end steps
   locking_ends steps end = (
-    λ ends. let from = from_start steps end ends in law_of steps end from.headers from.later from.free from.steps_are from.finish,
+    λ ends.
+        let from = from_start steps end ends in
+        law_of steps end from.headers from.later from.free from.steps_are from.finish,
     λ law. ends_start steps end (from_law steps end law),
   )

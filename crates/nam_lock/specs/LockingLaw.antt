@@ -75,8 +75,8 @@ module _ (worker : ℕ) (places : List Place) (seen : List ℕ) where
     pub differs : found ≢ header
     pub steps_are : steps ≡ saw (header_at places nth) header ∷ tried_lock places worker nth header found ∷ []
 
-  -- The records before this one were free, and were locked in order; this one was missed, by the word that was found. Then
-  -- each header that was exchanged was written back as it was, in order, and nothing else was done.
+  -- The records before this one were free, and were locked in order; this one was missed, by the word that was found.
+  -- Then each header that was exchanged was written back as it was, in order, and nothing else was done.
   pub record MissesLock (nth found : ℕ) (steps : List Step) : Type 0 where
     pub within : nth < length places
     pub held : List ℕ

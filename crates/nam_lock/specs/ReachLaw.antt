@@ -25,7 +25,8 @@ unlock_field places given = Header (nth_place places given).row
 abbrev pub LockingReaches : Type 0
 LockingReaches = (shape : Shape) (rows : List ℕ) → All (IsRow shape) rows → (worker : ℕ) (seen : List ℕ)
     → let places = places_of shape rows in
-    Always (λ at. Reaches shape (lock_verb worker places at) (lock_field places at)) (lock.running (locking worker places seen))
+    Always (λ at. Reaches shape (lock_verb worker places at) (lock_field places at))
+    (lock.running (locking worker places seen))
 
 abbrev pub UnlockingReaches : Type 0
 UnlockingReaches = (shape : Shape) (rows : List ℕ) → All (IsRow shape) rows → (headers : List ℕ)

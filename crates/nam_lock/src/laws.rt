@@ -5,10 +5,11 @@ ghost use Rattle.nam_lock.specs.TakenLaw.{TakenLaw};
 ghost use Rattle.nam_lock.specs.UnlockingLaw.{UnlockingLaw};
 ghost use Rattle.nam_lock.specs.ReachLaw.{LockingReaches, UnlockingReaches};
 
-/// A locking ends with all locks exactly where each header in order was read unlocked and visible and then exchanged for
-/// the same with the lock. It ends without a lock exactly where, after some records were locked so, the next was read
-/// locked or not visible, or its exchange found another word; and then each header was written back as it was, in order.
-/// The record is locked exactly where the word that was found is, and else newer.
+/// A locking ends with all locks exactly where each header in order was read unlocked and visible, and the exchange for
+/// the same with the lock then found what was read. It ends without a lock exactly where some records were locked so, the
+/// next was read locked or not visible, or its exchange found another word than the read, and then each header that was
+/// exchanged was written back as it was, in order. The answer is `Locked` exactly where the word that was found in the
+/// way is locked, and else `Newer`.
 pub fn locking_law()
     ensures { LockingLaw }
 {}

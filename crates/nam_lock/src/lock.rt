@@ -5,8 +5,9 @@ ghost use Rattle.nam_verbs.specs.Verb.{address_of};
 ghost use Rattle.nam_verbs.specs.Running.{verbs_left};
 ghost use Rattle.nam_layout.specs.PlaceFits.{FitsPlace};
 ghost use Rattle.nam_calls.specs.Fits.{LockFits};
-ghost use Rattle.nam_calls.specs.Lock.{nth_place as place_of, lock_begin as begin, lock_verb as verb_at, lock_next as next_of};
-ghost use Rattle.nam_calls.specs.Lock.{give_back as back_from, loss_of as loss_by, lock_after as after_word, lock_left as left_at};
+ghost use Rattle.nam_calls.specs.Lock.{lock_begin as begin, lock_verb as verb_at, lock_after as after_word};
+ghost use Rattle.nam_calls.specs.Lock.{lock_left as left_at, lock_next as next_of, give_back as back_from};
+ghost use Rattle.nam_calls.specs.Lock.{loss_of as loss_by};
 ghost use Rattle.nam_lock.specs.Headers.{headers_end};
 ghost use Rattle.nam_lock.specs.Locking.{locking, running, taken_by};
 
@@ -188,13 +189,15 @@ impl Model for LockAll {
 
 impl LockAll {
     /// The locking of records by `worker`, under headers that `seen` sees, of at most three verbs for each record. Where
-    /// there are none it has ended, and holds none.
+    /// there are no records it has ended with no lock held.
+    #[tactic(auto, using(crate::proofs::HeadersLemmas::end_fits))]
     pub fn new(worker: u32, places: ShortList<Place, 16>, seen: Snapshot) -> LockAll
         requires least { 1 ≤ worker }
         requires most { worker ≤ 16 }
         requires places { All FitsPlace places }
         ensures begins { result ≡ locking worker places seen }
         ensures left { verbs_left (running result) ≡ 3 * length places }
+        ensures within { (running result).reach ≤ 4194304 }
     {
         let state = lock_next(places.as_slice(), ShortList::new());
         LockAll {

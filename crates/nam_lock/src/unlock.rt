@@ -4,7 +4,8 @@ ghost use Rattle.std.specs.Prelude.{◌≡◌, ◌<◌, ◌≤◌, All, length};
 ghost use Rattle.nam_verbs.specs.Verb.{address_of};
 ghost use Rattle.nam_verbs.specs.Running.{verbs_left};
 ghost use Rattle.nam_layout.specs.PlaceFits.{FitsPlace};
-ghost use Rattle.nam_calls.specs.Lock.{unlock_begin as begin, unlock_verb as verb_at, unlock_after as after_word, unlock_left as left_at};
+ghost use Rattle.nam_calls.specs.Lock.{unlock_begin as begin, unlock_verb as verb_at};
+ghost use Rattle.nam_calls.specs.Lock.{unlock_after as after_word, unlock_left as left_at};
 ghost use Rattle.nam_lock.specs.Headers.{headers_end};
 ghost use Rattle.nam_lock.specs.Unlocking.{unlocking, running};
 
@@ -76,16 +77,19 @@ impl Model for UnlockAll {
 
     ghost view = { λ a. record { places = a.places; headers = a.headers; state = a.state } };
 
-    ghost invariant = { λ a. (length a.places ≤ 16) × (length a.headers ≡ length a.places) × FitsNow (λ given. given < length a.places) a.state };
+    ghost invariant = { λ a. (length a.places ≤ 16) × (length a.headers ≡ length a.places)
+        × FitsNow (λ given. given < length a.places) a.state };
 }
 
 impl UnlockAll {
     /// The writing of each record's header, of one verb for each.
+    #[tactic(auto, using(crate::proofs::HeadersLemmas::end_fits))]
     pub fn new(places: ShortList<Place, 16>, headers: ShortList<u64, 16>) -> UnlockAll
         requires places { All FitsPlace places }
         requires headers { length headers ≡ length places }
         ensures begins { result ≡ unlocking places headers }
         ensures left { verbs_left (running result) ≡ length places }
+        ensures within { (running result).reach ≤ 4194304 }
     {
         let state = unlock_begin(places.as_slice());
         UnlockAll {

@@ -10,6 +10,8 @@ mod check;
 mod copy;
 mod laws;
 mod search;
+#[cfg(test)]
+mod tests;
 
 pub use check::{CheckSlot, slot_after, slot_begin, slot_left, slot_verb};
 pub use copy::{CopyOld, copy_after, copy_begin, copy_left, copy_verb};

@@ -1,6 +1,6 @@
 -- what the reading of a current version saw, by its end
-use Rattle.std.proofs.Common.{◌≡◌, ◌⊎◌, inl, inr, ℕ, ◌<◌, Bool, true, false, ◌||◌, List, [], ◌∷◌, ◌++◌, length, Some, None}
-use Rattle.std.proofs.Common.{refl, sym, subst}
+use Rattle.std.proofs.Common.{◌≡◌, ◌⊎◌, inl, inr, ℕ, ◌<◌, Bool, true, false, ◌||◌, Some, None}
+use Rattle.std.proofs.Common.{List, [], ◌∷◌, ◌++◌, length, refl, sym, subst}
 use Rattle.std.specs.Prelude.{if◌then◌else◌, IsTrue, IsFalse}
 use Rattle.nam_verbs.specs.declared.verb.Verb.{Verb}
 use Rattle.nam_verbs.specs.declared.now.Now.{Now}
@@ -69,10 +69,14 @@ module _ (place : Place) (seen : List ℕ) where
   abbrev looked_on : ℕ → List ℕ → List Step → List Step
   looked_on first value rest = looked first ∷ saw_words (word_at place) value ++ rest
 
+  abbrev goes_again : ℕ → List ℕ → Now CurrentPlace CurrentEnd
+  goes_again header value = At (CurrentAgain header value)
+
   -- the words are read one after another
   takes : (header : ℕ) (got : List ℕ) (word : ℕ) → after (CurrentWords header got) word
-      ≡ until place.width (got ++ word ∷ []) (λ all. At (CurrentWords header all)) (λ all. At (CurrentAgain header all))
-  takes header got word = at_choice _ (CurrentAgain header (got ++ word ∷ [])) (CurrentWords header (got ++ word ∷ []))
+      ≡ until place.width (got ++ word ∷ []) (λ all. At (CurrentWords header all)) (goes_again header)
+  takes header got word =
+      let more = got ++ word ∷ [] in at_choice _ (CurrentAgain header more) (CurrentWords header more)
 
   -- what each end tells of the steps
   abbrev pub Tells : CurrentEnd → List Step → Type 0
@@ -84,13 +88,14 @@ module _ (place : Place) (seen : List ℕ) where
   -- 2. From the steps to what they tell
 
   -- a reading that is over takes no step
-  told_over : (shown : List Step → List Step) (over : CurrentEnd) → Tells over (shown []) → (steps : List Step) (end : CurrentEnd)
-      → EndsSo (Over over) steps end → Tells end (shown steps)
+  told_over : (shown : List Step → List Step) (over : CurrentEnd) → Tells over (shown [])
+      → (steps : List Step) (end : CurrentEnd) → EndsSo (Over over) steps end → Tells end (shown steps)
   told_over shown over told [] end ends = subst (λ e. Tells e (shown [])) ends told
   told_over shown over told (step ∷ steps) end ends = absurd ends
 
   -- after the words, by the header read again
-  again_tells : (first : ℕ) (value : List ℕ) → length value ≡ place.width → IsTrue (visible_at first) → IsFalse (deleted_at first)
+  again_tells : (first : ℕ) (value : List ℕ) → length value ≡ place.width
+      → IsTrue (visible_at first) → IsFalse (deleted_at first)
       → (steps : List Step) (end : CurrentEnd) → EndsSo (At (CurrentAgain first value)) steps end
       → Tells end (looked_on first value steps)
   again_tells first value whole visible present [] end ends = absurd ends
@@ -107,7 +112,8 @@ module _ (place : Place) (seen : List ℕ) where
       by_test Claim (same_stamp place.form again first) (if locked_at first again then unsure else found) (Over GoOld)
       (λ same. by_test Claim (locked_at first again) unsure found
       (λ locked. let one = one_says _ _ locked in
-      told_over shown (Unsure value first) record { again = again; looks = looks; same = same; locked = one } steps end)
+      told_over shown (Unsure value first)
+      record { again = again; looks = looks; same = same; locked = one } steps end)
       (λ free. let both = none_says _ _ free in told_over shown (Found (Some value)) record {
         first = first;
         again = again;
@@ -121,7 +127,8 @@ module _ (place : Place) (seen : List ℕ) where
       ends.1 in
       subst (λ s. Tells end (looked_on first value (s ∷ steps))) is told
 
-  pub current_tells : 0 < place.width → (steps : List Step) (end : CurrentEnd) → EndsSo (At CurrentHead) steps end → Tells end steps
+  pub current_tells : 0 < place.width → (steps : List Step) (end : CurrentEnd) → EndsSo (At CurrentHead) steps end
+      → Tells end steps
   current_tells some [] end ends = absurd ends
   current_tells some (step ∷ steps) end ends =
       let header = step.found in
@@ -135,7 +142,7 @@ module _ (place : Place) (seen : List ℕ) where
       (λ deleted. told_over shown (Found None)
       record { header = header; steps_are = refl; visible = visible; deleted = deleted } steps end)
       (λ present goes.
-      let all = words_read verb after (word_at place) place.width (CurrentWords header) (λ value. At (CurrentAgain header value))
+      let all = words_read verb after (word_at place) place.width (CurrentWords header) (goes_again header)
       (λ got. refl) (takes header) some steps end goes in
       rw all.2 (again_tells header all.0 all.3 visible present all.1 end all.4)))
       (λ unseen. told_over shown GoOld (inl record { header = header; steps_are = refl; unseen = unseen }) steps end)
@@ -151,12 +158,13 @@ module _ (place : Place) (seen : List ℕ) where
   ends_again steps value first again end some looks leads =
       let begins : after CurrentHead first ≡ At (CurrentWords first []) = rw (looks.visible, looks.present) refl in
       let last : EndsSo (At (CurrentAgain first value)) (looked again ∷ []) end = (refl, rw leads refl) in
-      let words = reads_words verb after (word_at place) place.width (CurrentWords first) (λ value. At (CurrentAgain first value))
+      let words = reads_words verb after (word_at place) place.width (CurrentWords first) (goes_again first)
       (λ got. refl) (takes first) value some looks.whole (looked again ∷ []) end last in
       rw looks.steps_are
       (refl, subst (λ now. EndsSo now (saw_words (word_at place) value ++ looked again ∷ []) end) (sym begins) words)
 
-  pub told_ends : 0 < place.width → (steps : List Step) (end : CurrentEnd) → Tells end steps → EndsSo (At CurrentHead) steps end
+  pub told_ends : 0 < place.width → (steps : List Step) (end : CurrentEnd) → Tells end steps
+      → EndsSo (At CurrentHead) steps end
   told_ends some steps (Found None) told =
       let goes : after CurrentHead told.header ≡ Over (Found None) = rw (told.visible, told.deleted) refl in
       rw told.steps_are (refl, rw goes refl)

@@ -36,10 +36,16 @@ pub record SawDeletion (place : Place) (seen : List ℕ) (steps : List Step) : T
 
 -- 2. After two looks
 
--- the header of a version that the snapshot sees and that is no deletion, all data words in order, and the header again
-pub record SawTwice (place : Place) (seen : List ℕ) (steps : List Step) (value : List ℕ) (first again : ℕ) : Type 0 where
+-- the header, the data words in order, and the header again
+abbrev pub looks_around : Place → ℕ → List ℕ → ℕ → List Step
+looks_around place first value again =
+    saw place.header_at first ∷ saw_words (word_at place) value ++ saw place.header_at again ∷ []
+
+-- the first look found a version that the snapshot sees and that is no deletion, and all data words were read
+pub record SawTwice (place : Place) (seen : List ℕ) (steps : List Step) (value : List ℕ) (first again : ℕ)
+    : Type 0 where
   pub whole : length value ≡ place.width
-  pub steps_are : steps ≡ saw place.header_at first ∷ saw_words (word_at place) value ++ saw place.header_at again ∷ []
+  pub steps_are : steps ≡ looks_around place first value again
   pub visible : IsTrue (sees place.form seen first)
   pub present : IsFalse (is_deleted place.form first)
 
@@ -81,11 +87,12 @@ FoundLaw = (place : Place) → FitsPlace place → (seen : List ℕ) (steps : Li
 
 -- unsure exactly by two headers of one stamp, of which one is locked; the end has the words between them and the first
 abbrev pub UnsureLaw : Type 0
-UnsureLaw = (place : Place) → FitsPlace place → (seen : List ℕ) (steps : List Step) (value : List ℕ) (header : ℕ)
+UnsureLaw = (place : Place) → FitsPlace place
+    → (seen : List ℕ) (steps : List Step) (value : List ℕ) (header : ℕ)
     → CurrentEndsWith place seen steps (Unsure value header) ↔ SawLocked place seen steps value header
 
--- older versions are to be searched exactly where the snapshot does not see the first header, or the second bears another
--- stamp
+-- older versions are to be searched exactly where the snapshot does not see the first header, or the second bears
+-- another stamp
 abbrev pub OldLaw : Type 0
 OldLaw = (place : Place) → FitsPlace place → (seen : List ℕ) (steps : List Step)
     → CurrentEndsWith place seen steps GoOld ↔ (SawUnseen place seen steps ⊎ SawAnother place seen steps)

@@ -28,17 +28,20 @@ version_writes place value count header =
 
 -- an install does these writes in order, and ends with the last of them
 abbrev pub InstallLaw : Type 0
-InstallLaw = (place : Place) → FitsPlace place → (value : Option (List ℕ)) → HasWidth place.width value → (count header : ℕ)
+InstallLaw = (place : Place) → FitsPlace place → (value : Option (List ℕ)) → HasWidth place.width value
+    → (count header : ℕ)
     → EndsAfter (running (installing place value count header)) (version_writes place value count header) tt
 
 -- and it does nothing else
 abbrev pub OnlyWritesLaw : Type 0
-OnlyWritesLaw = (place : Place) → FitsPlace place → (value : Option (List ℕ)) → HasWidth place.width value → (count header : ℕ) (steps : List Step)
-    → EndsWith (running (installing place value count header)) steps tt ↔ (verbs_of steps ≡ version_writes place value count header)
+OnlyWritesLaw = (place : Place) → FitsPlace place → (value : Option (List ℕ)) → HasWidth place.width value
+    → (count header : ℕ) (steps : List Step)
+    → EndsWith (running (installing place value count header)) steps tt
+    ↔ (verbs_of steps ≡ version_writes place value count header)
 
 -- each verb writes a data word of the row, its number or its header
 abbrev pub InstallReachesLaw : Type 0
 InstallReachesLaw = (shape : Shape) → FitsLimits shape → (row : ℕ) → IsRow shape row
-    → (value : Option (List ℕ)) → HasWidth (row_place shape row).width value → (count header : ℕ)
-    → Always (λ at. Reaches shape (install_verb (row_place shape row) value count header at) (install_field (row_place shape row) at))
-    (running (installing (row_place shape row) value count header))
+    → (value : Option (List ℕ)) (count header : ℕ)
+    → Always (λ at. Reaches shape (install_verb (row_place shape row) value count header at)
+    (install_field (row_place shape row) at)) (running (installing (row_place shape row) value count header))

@@ -26,4 +26,5 @@ RecheckLaw = (place : Place) (header : ℕ) (steps : List Step) (same : Bool)
 -- the verb reads the row's header
 abbrev pub RecheckReachesLaw : Type 0
 RecheckReachesLaw = (shape : Shape) → FitsLimits shape → (row : ℕ) → IsRow shape row → (header : ℕ)
-    → Always (λ at. Reaches shape (recheck_verb (row_place shape row)) (Header row)) (running (rechecking (row_place shape row) header))
+    → Always (λ at. Reaches shape (recheck_verb (row_place shape row)) (Header row))
+    (running (rechecking (row_place shape row) header))

@@ -6,9 +6,9 @@ ghost use Rattle.nam_record.specs.WordsLaw.{WordsLaw, WordsReachLaw};
 ghost use Rattle.nam_record.specs.InstallLaw.{InstallLaw, OnlyWritesLaw, InstallReachesLaw};
 
 /// The reading of a current version ends by its first look at the header exactly where the snapshot doesn't see that
-/// version, or sees that it is a deletion. Else it reads all data words in order and the header again, and ends exactly by
-/// these two headers: with the words where both bear one stamp and neither is locked, unsure where both bear one stamp and
-/// one is locked, and without an answer where the stamps differ.
+/// version, or sees that it is a deletion. Else it reads all data words in order and the header again, and ends by
+/// these two headers exactly: with the words where both bear one stamp and neither is locked, unsure where both bear
+/// one stamp and one is locked, and sent to older versions where the stamps differ.
 pub fn current_law()
     ensures deleted { DeletedLaw }
     ensures found { FoundLaw }
@@ -26,8 +26,8 @@ pub fn words_law()
     ensures { WordsLaw }
 {}
 
-/// An install writes the data words in order, which a deletion has not, then the number after that of the version before,
-/// modulo 2^64, and the header last, and does nothing else.
+/// An install writes the data words in order, which a deletion has not, then the number after that of the version
+/// before, modulo 2^64, and the header last, and does nothing else.
 pub fn install_law()
     ensures writes { InstallLaw }
     ensures only { OnlyWritesLaw }

@@ -1,12 +1,10 @@
-ghost use Rattle.std.specs.Prelude.{◌≡◌, IfSome, IfOk, length};
-ghost use Rattle.nam_verbs.specs.Verb.{address_of};
+ghost use Rattle.std.specs.Prelude.{◌≡◌, length};
 ghost use Rattle.nam_layout.specs.PlaceFits.{FitsPlace};
 
 use crate::{CurrentEnd, Install, ReadCurrent, ReadWords, Recheck};
-use lists::ShortList;
-use nam_catalog::{Form, Shape, Table, TableName, check};
-use nam_layout::{Layout, Place};
-use nam_verbs::{Machine, PlainRegion, Region, Verb};
+use nam_layout::Place;
+use nam_trial::{PlainStore, plain_shape};
+use nam_verbs::{Machine, Verb};
 use si_model::{Snapshot, Value};
 use std::alloc::{AllocError, Global};
 
@@ -20,53 +18,25 @@ const SECOND: u64 = 34_359_738_384;
 
 const LOCK: u64 = 1;
 
-// A position of a store of one worker, whose table has two positions of two words and one slot.
-fn place(position: u32) -> Option<Place>
-    ensures fits { IfSome result FitsPlace }
-    ensures width { IfSome result (λ place. place.width ≡ 2) }
-{
-    let mut tables = ShortList::new();
-    tables.push(Table {
-        name: TableName::from_text("acct"),
-        width: 2,
-        capacity: 2,
-        ring: 1,
-    });
-    let shape = Shape {
-        form: Form::Narrow,
-        workers: 1,
-        tables,
-        buckets: 1,
-        cells: 1,
-        start: 0,
-    };
-    match check(&shape) {
-        Ok(_) => {
-            let layout = Layout::new(&shape);
-            if position < layout.capacity(0) {
-                Some(layout.place(0, position))
-            } else {
-                None
+// Two positions of two words. The first has its header at address 5, and is loaded with the words 3 and 4.
+fn opened(alloc: Global) -> Result<Option<PlainStore>, AllocError> {
+    let store = PlainStore::new(alloc, plain_shape(2, 2, 1, 1))?;
+    match store {
+        Some(mut store) => match store.place(0, 0) {
+            Some(place) => {
+                store.load(&place, 7, [3, 4].as_slice());
+                Ok(Some(store))
             }
-        }
-        Err(_) => None,
+            None => Ok(None),
+        },
+        None => Ok(None),
     }
 }
 
-// The store's words at its opening: the first position is loaded with key 7 and the words 3 and 4.
-fn opening(alloc: Global) -> Result<PlainRegion, AllocError>
-    ensures { IfOk result (λ region. length region ≡ 32) }
-{
-    let words = vec![in alloc;
-        0, 0, 8, 0, 0, 3, 4, 5, 0, 0, 0, 0, 2, 0, 0, 0, 5, 0, 0, 0, 0, 0, 0, 0, 0, 0, 0, 0, 0, 0,
-        0, 0,
-    ]?;
-    Ok(PlainRegion::new(words))
-}
-
-fn seen(number: u64) -> Snapshot {
+fn seen(first: u64) -> Snapshot {
     let mut seen = Snapshot::new();
-    seen.push(number);
+    seen.push(first);
+    seen.push(0);
     seen
 }
 
@@ -79,169 +49,125 @@ fn value(first: u64, second: u64) -> Value
     value
 }
 
-// Whether a call does these verbs on the store's words, finds these words there, and ends with the last.
-fn does<M: Machine>(region: &mut PlainRegion, machine: &mut M, steps: &[(Verb, u64)]) -> bool
-    requires { length region.old ≡ 32 }
-    ensures { length region.new ≡ 32 }
-{
-    for (verb, word) in steps {
-        if machine.verb() != Some(*verb) || address(verb) >= 32 {
-            return false;
-        }
-        let found = region.verb(*verb);
-        if found != *word {
-            return false;
-        }
-        machine.take(found);
-    }
-    machine.verb().is_none()
+fn read(at: u64) -> Verb {
+    Verb::Read { at }
 }
 
-fn address(verb: &Verb) -> u64
-    ensures { result ≡ address_of verb.now }
-{
-    match verb {
-        Verb::Read { at } | Verb::Write { at, .. } | Verb::Exchange { at, .. } => *at,
-    }
-}
-
-// Whether a call does these verbs, where they find these words, and ends with the last.
-fn takes<M: Machine>(machine: &mut M, steps: &[(Verb, u64)]) -> bool {
-    for (verb, found) in steps {
-        if machine.verb() != Some(*verb) {
-            return false;
-        }
-        machine.take(*found);
-    }
-    machine.verb().is_none()
-}
-
-fn read(at: u64, found: u64) -> (Verb, u64) {
-    (Verb::Read { at }, found)
-}
-
-fn write(at: u64, word: u64) -> (Verb, u64) {
-    (Verb::Write { at, word }, 0)
+fn write(at: u64, word: u64) -> Verb {
+    Verb::Write { at, word }
 }
 
 #[test]
 fn a_loaded_value_is_found(rt: HostRuntime) -> Result<(), AllocError> {
-    let place = place(0).expect(&rt, "a place");
-    let mut region = opening(rt.alloc())?;
+    let mut store = opened(rt.alloc())?.expect(&rt, "a store");
+    let place = store.place(0, 0).expect(&rt, "a position");
+    assert_eq!(rt; place.width, 2);
     let mut current = ReadCurrent::new(place, seen(0));
     assert_eq!(rt; current.left(), 4);
-    let steps = [read(3, 0), read(5, 3), read(6, 4), read(3, 0)];
-    assert!(rt; does(&mut region, &mut current, &steps));
+    let verbs = store.run(rt.alloc(), &mut current)?;
+    assert!(rt; verbs.as_slice() == [read(5), read(7), read(8), read(5)].as_slice());
     assert!(rt; current.end() == Some(CurrentEnd::Found(Some(value(3, 4)))));
     Ok(())
 }
 
 #[test]
 fn an_empty_position_has_no_value(rt: HostRuntime) -> Result<(), AllocError> {
-    let place = place(1).expect(&rt, "a place");
-    let mut region = opening(rt.alloc())?;
+    let mut store = opened(rt.alloc())?.expect(&rt, "a store");
+    let place = store.place(0, 1).expect(&rt, "a position");
     let mut current = ReadCurrent::new(place, seen(0));
-    assert!(rt; does(&mut region, &mut current, &[read(12, 2)]));
+    let verbs = store.run(rt.alloc(), &mut current)?;
+    assert!(rt; verbs.as_slice() == [read(14)].as_slice());
     assert!(rt; current.end() == Some(CurrentEnd::Found(None)));
     Ok(())
 }
 
 #[test]
-fn a_newer_version_is_passed(rt: HostRuntime) {
-    let place = place(0).expect(&rt, "a place");
-    let mut current = ReadCurrent::new(place, seen(0));
-    assert!(rt; takes(&mut current, &[read(3, FIRST)]));
-    assert!(rt; current.end() == Some(CurrentEnd::GoOld));
-}
-
-#[test]
-fn a_version_that_was_replaced_meanwhile_is_passed(rt: HostRuntime) {
-    let place = place(0).expect(&rt, "a place");
-    let mut current = ReadCurrent::new(place, seen(2));
-    let steps = [read(3, FIRST), read(5, 3), read(6, 4), read(3, SECOND)];
-    assert!(rt; takes(&mut current, &steps));
-    assert!(rt; current.end() == Some(CurrentEnd::GoOld));
-}
-
-#[test]
-fn a_version_that_was_locked_at_either_look_is_unsure(rt: HostRuntime) {
-    let place = place(0).expect(&rt, "a place");
-    let mut first = ReadCurrent::new(place, seen(1));
-    let steps = [
-        read(3, FIRST + LOCK),
-        read(5, 3),
-        read(6, 4),
-        read(3, FIRST),
-    ];
-    assert!(rt; takes(&mut first, &steps));
-    let unsure = CurrentEnd::Unsure {
-        value: value(3, 4),
-        header: FIRST + LOCK,
-    };
-    assert!(rt; first.end() == Some(unsure));
-    let mut again = ReadCurrent::new(place, seen(1));
-    let steps = [
-        read(3, FIRST),
-        read(5, 3),
-        read(6, 4),
-        read(3, FIRST + LOCK),
-    ];
-    assert!(rt; takes(&mut again, &steps));
-    let unsure = CurrentEnd::Unsure {
-        value: value(3, 4),
-        header: FIRST,
-    };
-    assert!(rt; again.end() == Some(unsure));
-}
-
-#[test]
-fn a_further_look_minds_the_stamp_alone(rt: HostRuntime) {
-    let place = place(0).expect(&rt, "a place");
-    let mut same = Recheck::new(place, FIRST);
-    assert_eq!(rt; same.left(), 1);
-    assert!(rt; takes(&mut same, &[read(3, FIRST + LOCK)]));
-    assert_eq!(rt; same.end(), Some(true));
-    let mut other = Recheck::new(place, FIRST);
-    assert!(rt; takes(&mut other, &[read(3, SECOND)]));
-    assert_eq!(rt; other.end(), Some(false));
-}
-
-#[test]
 fn the_data_words_are_read_in_order(rt: HostRuntime) -> Result<(), AllocError> {
-    let place = place(0).expect(&rt, "a place");
-    let mut region = opening(rt.alloc())?;
+    let mut store = opened(rt.alloc())?.expect(&rt, "a store");
+    let place = store.place(0, 0).expect(&rt, "a position");
     let mut words = ReadWords::new(place);
-    assert_eq!(rt; words.left(), 2);
-    assert!(rt; does(&mut region, &mut words, &[read(5, 3), read(6, 4)]));
+    let verbs = store.run(rt.alloc(), &mut words)?;
+    assert!(rt; verbs.as_slice() == [read(7), read(8)].as_slice());
     assert!(rt; words.end() == Some(value(3, 4)));
     Ok(())
 }
 
 #[test]
 fn an_installed_value_is_found(rt: HostRuntime) -> Result<(), AllocError> {
-    let place = place(0).expect(&rt, "a place");
-    let mut region = opening(rt.alloc())?;
+    let mut store = opened(rt.alloc())?.expect(&rt, "a store");
+    let place = store.place(0, 0).expect(&rt, "a position");
+    assert_eq!(rt; place.width, 2);
     let mut install = Install::new(place, Some(value(8, 9)), 0, FIRST);
     assert_eq!(rt; install.left(), 4);
-    let writes = [write(5, 8), write(6, 9), write(4, 1), write(3, FIRST)];
-    assert!(rt; does(&mut region, &mut install, &writes));
-    assert_eq!(rt; install.end(), Some(()));
+    let verbs = store.run(rt.alloc(), &mut install)?;
+    let expected = [write(7, 8), write(8, 9), write(6, 1), write(5, FIRST)];
+    assert!(rt; verbs.as_slice() == expected.as_slice());
     let mut current = ReadCurrent::new(place, seen(1));
-    let steps = [read(3, FIRST), read(5, 8), read(6, 9), read(3, FIRST)];
-    assert!(rt; does(&mut region, &mut current, &steps));
+    store.run(rt.alloc(), &mut current)?;
     assert!(rt; current.end() == Some(CurrentEnd::Found(Some(value(8, 9)))));
     Ok(())
 }
 
 #[test]
 fn a_deletion_leaves_the_data_words(rt: HostRuntime) -> Result<(), AllocError> {
-    let place = place(0).expect(&rt, "a place");
-    let mut region = opening(rt.alloc())?;
+    let mut store = opened(rt.alloc())?.expect(&rt, "a store");
+    let place = store.place(0, 0).expect(&rt, "a position");
     let mut install = Install::new(place, None, u64::MAX, FIRST_DELETED);
     assert_eq!(rt; install.left(), 2);
-    let writes = [write(4, 0), write(3, FIRST_DELETED)];
-    assert!(rt; does(&mut region, &mut install, &writes));
+    let verbs = store.run(rt.alloc(), &mut install)?;
+    assert!(rt; verbs.as_slice() == [write(6, 0), write(5, FIRST_DELETED)].as_slice());
     let mut words = ReadWords::new(place);
-    assert!(rt; does(&mut region, &mut words, &[read(5, 3), read(6, 4)]));
+    store.run(rt.alloc(), &mut words)?;
+    assert!(rt; words.end() == Some(value(3, 4)));
+    Ok(())
+}
+
+fn unsure(header: u64) -> Option<CurrentEnd> {
+    Some(CurrentEnd::Unsure {
+        value: value(3, 4),
+        header,
+    })
+}
+
+// How the reading of the first position ends where it finds these headers.
+fn reading(store: &PlainStore, number: u64, first: u64, again: u64) -> Option<CurrentEnd> {
+    let mut current = ReadCurrent::new(store.place(0, 0)?, seen(number));
+    for found in [first, 3, 4, again] {
+        if current.verb().is_some() {
+            current.take(found);
+        }
+    }
+    current.end()
+}
+
+#[test]
+fn a_reading_ends_by_its_two_headers(rt: HostRuntime) -> Result<(), AllocError> {
+    let store = opened(rt.alloc())?.expect(&rt, "a store");
+    assert!(rt; reading(&store, 0, FIRST, FIRST) == Some(CurrentEnd::GoOld));
+    assert!(rt; reading(&store, 2, FIRST, SECOND) == Some(CurrentEnd::GoOld));
+    assert!(rt; reading(&store, 1, FIRST_DELETED, FIRST_DELETED) == Some(CurrentEnd::Found(None)));
+    assert!(rt; reading(&store, 1, FIRST + LOCK, FIRST) == unsure(FIRST + LOCK));
+    assert!(rt; reading(&store, 1, FIRST, FIRST + LOCK) == unsure(FIRST));
+    Ok(())
+}
+
+// Whether a further look at a header that was FIRST, where it finds this one, finds the stamp again.
+fn looks_again(place: Place, found: u64) -> Option<bool>
+    requires { FitsPlace place }
+{
+    let mut recheck = Recheck::new(place, FIRST);
+    recheck.take(found);
+    recheck.end()
+}
+
+#[test]
+fn a_further_look_minds_the_stamp_alone(rt: HostRuntime) -> Result<(), AllocError> {
+    let store = opened(rt.alloc())?.expect(&rt, "a store");
+    let place = store.place(0, 0).expect(&rt, "a position");
+    let recheck = Recheck::new(place, FIRST);
+    assert_eq!(rt; recheck.left(), 1);
+    assert_eq!(rt; recheck.verb(), Some(read(5)));
+    assert_eq!(rt; looks_again(place, FIRST + LOCK), Some(true));
+    assert_eq!(rt; looks_again(place, SECOND), Some(false));
     Ok(())
 }

@@ -1,6 +1,6 @@
 -- Addresses of headers.
-use Rattle.std.proofs.Common.{◌≡◌, ℕ, zero, suc, ◌+◌, ◌<◌, ◌≤◌, List, [], ◌∷◌, length, arith, true, false}
-use Rattle.std.specs.Prelude.{nat_le, All, if◌then◌else◌}
+use Rattle.std.proofs.Common.{ℕ, zero, suc, ◌+◌, ◌<◌, ◌≤◌, List, [], ◌∷◌, length, arith}
+use Rattle.std.specs.Prelude.{nat_le, All}
 use Rattle.std.proofs.lemmas.Bool.Decides.{nat_tests}
 use Rattle.std.proofs.lemmas.List.Elements.{All-head, All-tail}
 use Rattle.nam_verbs.proofs.TestLemmas.{by_test}

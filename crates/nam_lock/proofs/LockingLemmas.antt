@@ -72,9 +72,10 @@ module _ (worker : ℕ) (places : List Place) (seen : List ℕ) where
       → after (Peek held) found ≡ missed_by held found
   peek_taken held found (inl taken) = rw taken refl
   peek_taken held found (inr unseen) =
-      by_test (λ now. now ≡ missed_by held found) (is_locked (form_at places (length held)) found) (missed_by held found)
-      (if sees (form_at places (length held)) seen found then At (Seize held found) else missed_by held found)
-      (λ taken. refl) (λ unlocked. rw unseen refl)
+      let form = form_at places (length held) in
+      by_test (λ now. now ≡ missed_by held found) (is_locked form found) (missed_by held found)
+      (if sees form seen found then At (Seize held found) else missed_by held found) (λ taken. refl)
+      (λ unlocked. rw unseen refl)
 
   seize_same : (held : List ℕ) (header : ℕ) → after (Seize held header) header ≡ lock_next places (held ++ header ∷ [])
   seize_same held header = let same : (header == header) ≡ true = grind (arith, nat_tests) in rw same refl

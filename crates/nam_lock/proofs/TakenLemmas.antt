@@ -1,6 +1,6 @@
 -- How many locks a locking has taken, and that its verbs fall.
-use Rattle.std.proofs.Common.{◌≡◌, ◌∙◌, refl, arith, true, false}
-use Rattle.std.proofs.Common.{ℕ, ◌+◌, ◌<◌, List, [], ◌∷◌, ◌++◌, length}
+use Rattle.std.proofs.Common.{◌≡◌, ◌∙◌, refl, arith}
+use Rattle.std.proofs.Common.{ℕ, ◌+◌, List, [], ◌∷◌, ◌++◌, length}
 use Rattle.std.specs.Prelude.{◌==◌, if◌then◌else◌}
 use Rattle.std.proofs.lemmas.List.{length-append}
 use Rattle.nam_verbs.specs.declared.now.Now.{Now}

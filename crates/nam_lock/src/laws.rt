@@ -5,16 +5,16 @@ ghost use Rattle.nam_lock.specs.TakenLaw.{TakenLaw};
 ghost use Rattle.nam_lock.specs.UnlockingLaw.{UnlockingLaw};
 ghost use Rattle.nam_lock.specs.ReachLaw.{LockingReaches, UnlockingReaches};
 
-/// A locking ends with all locks exactly where each header in order was read unlocked and visible, and the exchange for
-/// the same with the lock then found what was read. It ends without a lock exactly where some records were locked so, the
-/// next was read locked or not visible, or its exchange found another word than the read, and then each header that was
-/// exchanged was written back as it was, in order. The answer is `Locked` exactly where the word that was found in the
-/// way is locked, and else `Newer`.
+/// A locking ends with all locks exactly where each header in order was read unlocked and visible, and its exchange
+/// for the same with the lock found what was read. It ends without a lock exactly where some records were locked so,
+/// the next was read locked or not visible, or its exchange found another word than the read, and then each header
+/// that was exchanged was written back as it was, in order, and nothing else was done. The end is `Locked` where the
+/// word found in the way is locked, and else `Newer`.
 pub fn locking_law()
     ensures { LockingLaw }
 {}
 
-/// After any words, a locking has taken as many locks as exchanges have found the word that they expected.
+/// After any words, a locking has taken as many locks as there were exchanges that found the word that they expected.
 pub fn taken_law()
     ensures { TakenLaw }
 {}

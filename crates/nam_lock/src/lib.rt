@@ -1,10 +1,10 @@
 //! Locking records and writing their headers back.
 //!
-//! `LockAll` locks records in their order, each under a header that nobody has locked and that a snapshot sees. It ends
-//! with all locks or with none: where a record is locked by another or newer than the snapshot, it writes the headers of
-//! those that it has locked back as they were. `UnlockAll` writes headers back. Whatever words their verbs find,
-//! `locking_law` says exactly when a locking ends how, `taken_law` how many locks it has taken, `unlocking_law` what
-//! `UnlockAll` does, and `reach_law` that each verb is at the header of its record. No call takes memory.
+//! `LockAll` locks records in order, each under a header that is unlocked and that a snapshot sees. It ends with all
+//! locks or with none: where a record is locked or newer than the snapshot, it writes back the headers of those that
+//! it has locked, as they were. `UnlockAll` writes headers back. Whatever words their verbs find, `locking_law` says
+//! exactly when a locking ends how, `taken_law` how many locks it has taken, `unlocking_law` what `UnlockAll` does,
+//! and `reach_law` that each verb is at the header of its record. No call takes memory.
 #![tactic(auto)]
 
 mod laws;

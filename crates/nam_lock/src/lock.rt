@@ -188,8 +188,8 @@ impl Model for LockAll {
 }
 
 impl LockAll {
-    /// The locking of records by `worker`, under headers that `seen` sees, of at most three verbs for each record. Where
-    /// there are no records it has ended with no lock held.
+    /// The locking of records by `worker`, under headers that `seen` sees, of at most three verbs for each record.
+    /// Where there are no records it has ended, and holds none.
     #[tactic(auto, using(crate::proofs::HeadersLemmas::end_fits))]
     pub fn new(worker: u32, places: ShortList<Place, 16>, seen: Snapshot) -> LockAll
         requires least { 1 ≤ worker }

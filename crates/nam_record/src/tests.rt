@@ -1,11 +1,9 @@
-ghost use Rattle.std.specs.Prelude.{◌≡◌, length};
 ghost use Rattle.nam_layout.specs.PlaceFits.{FitsPlace};
 
 use crate::{CurrentEnd, Install, ReadCurrent, ReadWords, Recheck};
 use nam_layout::Place;
-use nam_trial::{PlainStore, plain_shape};
-use nam_verbs::{Machine, Verb};
-use si_model::{Snapshot, Value};
+use nam_trial::{PlainStore, pair, plain_shape, read, write};
+use nam_verbs::Machine;
 use std::alloc::{AllocError, Global};
 
 // The stamp (1, 1), and that of a deletion.
@@ -33,40 +31,16 @@ fn opened(alloc: Global) -> Result<Option<PlainStore>, AllocError> {
     }
 }
 
-fn seen(first: u64) -> Snapshot {
-    let mut seen = Snapshot::new();
-    seen.push(first);
-    seen.push(0);
-    seen
-}
-
-fn value(first: u64, second: u64) -> Value
-    ensures { length result ≡ 2 }
-{
-    let mut value = Value::new();
-    value.push(first);
-    value.push(second);
-    value
-}
-
-fn read(at: u64) -> Verb {
-    Verb::Read { at }
-}
-
-fn write(at: u64, word: u64) -> Verb {
-    Verb::Write { at, word }
-}
-
 #[test]
 fn a_loaded_value_is_found(rt: HostRuntime) -> Result<(), AllocError> {
     let mut store = opened(rt.alloc())?.expect(&rt, "a store");
     let place = store.place(0, 0).expect(&rt, "a position");
     assert_eq!(rt; place.width, 2);
-    let mut current = ReadCurrent::new(place, seen(0));
+    let mut current = ReadCurrent::new(place, pair(0, 0));
     assert_eq!(rt; current.left(), 4);
     let verbs = store.run(rt.alloc(), &mut current)?;
     assert!(rt; verbs.as_slice() == [read(5), read(7), read(8), read(5)].as_slice());
-    assert!(rt; current.end() == Some(CurrentEnd::Found(Some(value(3, 4)))));
+    assert!(rt; current.end() == Some(CurrentEnd::Found(Some(pair(3, 4)))));
     Ok(())
 }
 
@@ -74,7 +48,7 @@ fn a_loaded_value_is_found(rt: HostRuntime) -> Result<(), AllocError> {
 fn an_empty_position_has_no_value(rt: HostRuntime) -> Result<(), AllocError> {
     let mut store = opened(rt.alloc())?.expect(&rt, "a store");
     let place = store.place(0, 1).expect(&rt, "a position");
-    let mut current = ReadCurrent::new(place, seen(0));
+    let mut current = ReadCurrent::new(place, pair(0, 0));
     let verbs = store.run(rt.alloc(), &mut current)?;
     assert!(rt; verbs.as_slice() == [read(14)].as_slice());
     assert!(rt; current.end() == Some(CurrentEnd::Found(None)));
@@ -88,7 +62,7 @@ fn the_data_words_are_read_in_order(rt: HostRuntime) -> Result<(), AllocError> {
     let mut words = ReadWords::new(place);
     let verbs = store.run(rt.alloc(), &mut words)?;
     assert!(rt; verbs.as_slice() == [read(7), read(8)].as_slice());
-    assert!(rt; words.end() == Some(value(3, 4)));
+    assert!(rt; words.end() == Some(pair(3, 4)));
     Ok(())
 }
 
@@ -97,14 +71,14 @@ fn an_installed_value_is_found(rt: HostRuntime) -> Result<(), AllocError> {
     let mut store = opened(rt.alloc())?.expect(&rt, "a store");
     let place = store.place(0, 0).expect(&rt, "a position");
     assert_eq!(rt; place.width, 2);
-    let mut install = Install::new(place, Some(value(8, 9)), 0, FIRST);
+    let mut install = Install::new(place, Some(pair(8, 9)), 0, FIRST);
     assert_eq!(rt; install.left(), 4);
     let verbs = store.run(rt.alloc(), &mut install)?;
     let expected = [write(7, 8), write(8, 9), write(6, 1), write(5, FIRST)];
     assert!(rt; verbs.as_slice() == expected.as_slice());
-    let mut current = ReadCurrent::new(place, seen(1));
+    let mut current = ReadCurrent::new(place, pair(1, 0));
     store.run(rt.alloc(), &mut current)?;
-    assert!(rt; current.end() == Some(CurrentEnd::Found(Some(value(8, 9)))));
+    assert!(rt; current.end() == Some(CurrentEnd::Found(Some(pair(8, 9)))));
     Ok(())
 }
 
@@ -118,20 +92,20 @@ fn a_deletion_leaves_the_data_words(rt: HostRuntime) -> Result<(), AllocError> {
     assert!(rt; verbs.as_slice() == [write(6, 0), write(5, FIRST_DELETED)].as_slice());
     let mut words = ReadWords::new(place);
     store.run(rt.alloc(), &mut words)?;
-    assert!(rt; words.end() == Some(value(3, 4)));
+    assert!(rt; words.end() == Some(pair(3, 4)));
     Ok(())
 }
 
 fn unsure(header: u64) -> Option<CurrentEnd> {
     Some(CurrentEnd::Unsure {
-        value: value(3, 4),
+        value: pair(3, 4),
         header,
     })
 }
 
 // How the reading of the first position ends where it finds these headers.
 fn reading(store: &PlainStore, number: u64, first: u64, again: u64) -> Option<CurrentEnd> {
-    let mut current = ReadCurrent::new(store.place(0, 0)?, seen(number));
+    let mut current = ReadCurrent::new(store.place(0, 0)?, pair(number, 0));
     for found in [first, 3, 4, again] {
         if current.verb().is_some() {
             current.take(found);

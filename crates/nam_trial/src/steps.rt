@@ -35,8 +35,8 @@ pub fn takes<M: Machine>(machine: &mut M, steps: &[(Verb, u64)]) -> bool {
     true
 }
 
-/// A list of two words, as a value or a snapshot.
-pub fn pair<const N: usize>(first: u64, second: u64) -> ShortList<u64, N>
+/// A list of two: as a value, a snapshot or the places of two records.
+pub fn pair<T: Default + Drop, const N: usize>(first: T, second: T) -> ShortList<T, N>
     requires { 2 ≤ N }
     ensures { result ≡ first ∷ second ∷ [] }
 {

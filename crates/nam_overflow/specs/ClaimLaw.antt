@@ -1,8 +1,9 @@
 -- When a cell is claimed, and when there is no room.
-use Rattle.std.specs.Prelude.{◌≡◌, ◌≢◌, ℕ, ◌<◌, ◌≤◌, true, false, List, [], ◌∷◌, ◌↔◌}
+use Rattle.std.specs.Prelude.{◌≡◌, ◌≢◌, ℕ, ◌<◌, true, false, List, [], ◌∷◌, ◌↔◌}
 use Rattle.nam_verbs.specs.Running.{Always}
 use Rattle.nam_verbs.specs.Steps.{Step, saw, tried, EndsWith, Stretches, StopsAt}
 use Rattle.nam_catalog.specs.declared.shape.Shape.{Shape}
+use Rattle.nam_catalog.specs.Fits.{FitsLimits}
 use Rattle.nam_layout.specs.declared.field.Cells.{Cells}
 use Rattle.nam_layout.specs.PlaceFits.{FitsCells}
 use Rattle.nam_layout.specs.Place.{cells_of}
@@ -41,6 +42,6 @@ NoRoomLaw = (cells : Cells) → FitsCells cells → (steps : List Step)
 
 -- whatever words are found, each verb is at the tag of its place's cell
 abbrev pub ClaimReachesLaw : Type 0
-ClaimReachesLaw = (shape : Shape) (bucket : ℕ) → 1 ≤ shape.cells → bucket < shape.buckets
+ClaimReachesLaw = (shape : Shape) → FitsLimits shape → (bucket : ℕ) → bucket < shape.buckets
     → Always (λ at. Reaches shape (claim_verb (cells_of shape bucket) at) (claim_field (cells_of shape bucket) at))
     (running (claiming (cells_of shape bucket)))

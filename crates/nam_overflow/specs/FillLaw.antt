@@ -22,8 +22,8 @@ FillLaw = (cells : Cells) (cell owner begin ending : ℕ) (words : List ℕ) →
 -- each verb writes the field of its place in the cell
 abbrev pub FillReachesLaw : Type 0
 FillReachesLaw =
-    (shape : Shape) (bucket cell owner begin ending : ℕ) (words : List ℕ) → bucket < shape.buckets → cell < shape.cells → 1 ≤ length words
-    → length words ≤ 8
+    (shape : Shape) (bucket : ℕ) → bucket < shape.buckets → (cell : ℕ) → cell < shape.cells → (owner begin ending : ℕ) (words : List ℕ)
+    → 1 ≤ length words → length words ≤ 8
     → Always
     (λ at. Reaches shape (fill_verb (cells_of shape bucket) cell owner record { begin = begin; «end» = ending; value = words } at)
     (fill_field (cells_of shape bucket) cell at))

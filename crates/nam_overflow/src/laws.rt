@@ -9,7 +9,7 @@ ghost use Rattle.nam_overflow.specs.FillLaw.{FillLaw, FillReachesLaw};
 /// the words. It finds none exactly where each cell was ended by a word found.
 pub fn search_law()
     ensures found { FoundLaw }
-    ensures missed { NotThereLaw }
+    ensures not_there { NotThereLaw }
 {}
 
 /// A cell is claimed exactly where its tag was found free and its exchange found the same tag, after each cell before it
@@ -24,8 +24,7 @@ pub fn fill_law()
     ensures { FillLaw }
 {}
 
-/// Whatever words are found, each verb is at the field that its place says, of the bucket's cells, and that field is one of
-/// the shape's.
+/// Whatever words are found, each verb is at a field of the bucket's cells, the one that its place names.
 pub fn reach_law()
     ensures search { SearchReachesLaw }
     ensures claim { ClaimReachesLaw }

@@ -46,4 +46,4 @@ abbrev pub ClaimedLaw : Type 0
 ClaimedLaw = (place : Place) (cells : Cells) → FitsPlace place → FitsCells cells → (words : List ℕ) (stamp : Stamp)
     → (claimed_in place (after_words after_found (running (moving place cells)) words).state ≡ Some stamp)
     ↔ (IsNone (end_of (after_words after_found (running (moving place cells)) words))
-        × HasTaken place cells stamp (steps_by (running (moving place cells)) words))
+    × HasTaken place cells stamp (steps_by (running (moving place cells)) words))

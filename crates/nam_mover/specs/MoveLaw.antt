@@ -29,6 +29,11 @@ module _ (place : Place) (cells : Cells) where
   abbrev pub dated : ℕ → ℕ → ℕ → List Step
   dated count header ending = looked count header ++ saw (slot_end_at place (slot_of place count)) ending ∷ []
 
+  -- and after these the claims of a cell, the slot's words, and the writes of the cell
+  abbrev pub copy_steps : ℕ → ℕ → ℕ → List Step → List ℕ → List Step → List Step
+  copy_steps count header ending claims words writes =
+      dated count header ending ++ claims ++ saw_words (slot_word_at place (slot_of place count)) words ++ writes
+
   -- the version in the slot was moved before
   pub record WasMoved (steps : List Step) : Type 0 where
     pub count : ℕ
@@ -48,44 +53,41 @@ module _ (place : Place) (cells : Cells) where
 
   -- A version that wasn't moved was copied from its slot into a cell that was claimed for it: the slot's words were read; the
   -- row, the version's header, its end and these words were written into the cell; and then the slot's header was read again.
-  pub record Copied (slot header cell tag again : ℕ) (steps : List Step) : Type 0 where
-    pub count : ℕ
+  pub record Copied (count header cell tag again : ℕ) (steps : List Step) : Type 0 where
     pub ending : ℕ
     pub claims : List Step
     pub words : List ℕ
     pub writes : List Step
-    pub slot_is : slot ≡ slot_of place count
     pub unmoved : is_moved place.form header ≡ false
     pub claimed : StopsAt (CellLost cells) (CellTaken cells cell tag) cells.cells claims
     pub whole : length words ≡ place.width
     pub filled : verbs_of writes ≡ fill_verbs cells cell place.row (without_moved place.form header) ending words
-    pub steps_are : steps
-        ≡ dated count header ending ++ claims ++ saw_words (slot_word_at place slot) words ++ writes ++ saw (slot_at place slot) again ∷ []
+    pub steps_are : steps ≡ copy_steps count header ending claims words writes ++ saw (slot_at place (slot_of place count)) again ∷ []
 
   -- the slot bore the same header after the copy; the cell's tag was made full, and only then the slot's moved flag was tried
   pub record WasCopied (stamp : Stamp) (steps : List Step) : Type 0 where
-    pub slot : ℕ
+    pub count : ℕ
     pub header : ℕ
     pub cell : ℕ
     pub tag : ℕ
     pub copy : List Step
     pub last : List Step
-    pub copied : Copied slot header cell tag header copy
+    pub copied : Copied count header cell tag header copy
     pub shown : verbs_of last
-        ≡ Write (tag_at cells cell) (full tag) ∷ Exchange (slot_at place slot) header (with_moved place.form header) ∷ []
+        ≡ Write (tag_at cells cell) (full tag) ∷ Exchange (slot_at place (slot_of place count)) header (with_moved place.form header) ∷ []
     pub stamp_is : stamp ≡ stamp_in place.form header
     pub steps_are : steps ≡ copy ++ last
 
   -- the slot bore another header after the copy, and the cell was set free for the next generation
   pub record WasGivenBack (stamp : Stamp) (steps : List Step) : Type 0 where
-    pub slot : ℕ
+    pub count : ℕ
     pub header : ℕ
     pub cell : ℕ
     pub tag : ℕ
     pub again : ℕ
     pub copy : List Step
     pub last : List Step
-    pub copied : Copied slot header cell tag again copy
+    pub copied : Copied count header cell tag again copy
     pub changed : again ≢ header
     pub freed_by : verbs_of last ≡ Write (tag_at cells cell) (freed tag) ∷ []
     pub stamp_is : stamp ≡ stamp_in place.form header
@@ -116,5 +118,5 @@ abbrev pub MoveReachesLaw : Type 0
 MoveReachesLaw = (shape : Shape) → FitsLimits shape → (row : ℕ) → IsRow shape row → (bucket : ℕ) → bucket < shape.buckets
     → Always
     (λ at. Reaches shape (move_verb (row_place shape row) (cells_of shape bucket) at)
-        (move_field (row_place shape row) (cells_of shape bucket) at))
+    (move_field (row_place shape row) (cells_of shape bucket) at))
     (running (moving (row_place shape row) (cells_of shape bucket)))

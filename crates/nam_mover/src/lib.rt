@@ -7,9 +7,11 @@
 //! No call takes memory.
 #![tactic(auto)]
 
+mod laws;
 mod place;
 mod running;
 
+pub use laws::{claimed_law, move_law, reach_law};
 pub use nam_calls::{MoveAnswer, MovePlace};
 pub use place::{move_after, move_begin, move_claimed, move_left, move_verb};
 pub use running::Move;

@@ -1,3 +1,5 @@
 mod PartLemmas
 mod MoveLemmas
 mod ReachLemmas
+mod HistoryLemmas
+mod ClaimedLemmas

@@ -167,16 +167,18 @@ module _ (place : Place) (cells : Cells) (fits : FitsPlace place) (room : FitsCe
   claim_over count header ending claims (claim.Claimed cell tag) unmoved claimed steps end ends =
       part_words count header ending cell tag claims unmoved (claimed_by cells room.least_cells claims cell tag claimed) steps end ends
   claim_over count header ending claims claim.NoRoom unmoved lost (step ∷ steps) end ends = absurd ends
-  claim_over count header ending claims claim.NoRoom unmoved lost [] (NoRoom bucket) ends =
-      (cc, record {
-        count = count;
-        header = header;
-        ending = ending;
-        claims = claims;
-        unmoved = unmoved;
-        lost = lost_by cells room.least_cells claims lost;
-        steps_are = rw append-nil refl;
-      })
+  claim_over count header ending claims claim.NoRoom unmoved lost [] (NoRoom bucket) ends = (
+    cc,
+    record {
+      count = count;
+      header = header;
+      ending = ending;
+      claims = claims;
+      unmoved = unmoved;
+      lost = lost_by cells room.least_cells claims lost;
+      steps_are = rw append-nil refl;
+    },
+  )
   claim_over count header ending claims claim.NoRoom unmoved lost [] Nothing ends = absurd (cc)
   claim_over count header ending claims claim.NoRoom unmoved lost [] (Moved stamp) ends = absurd (cc)
   claim_over count header ending claims claim.NoRoom unmoved lost [] (Back stamp) ends = absurd (cc)
@@ -232,9 +234,14 @@ module _ (place : Place) (cells : Cells) (fits : FitsPlace place) (room : FitsCe
   from_end : (count header ending : ℕ) (steps : List Step) (end : MoveAnswer) → is_moved place.form header ≡ false
       → EndsFrom (At (MoveClaim (slot_of place count) header ending (ClaimLook 0))) steps end
       → EndsFrom (At MoveCount) (dated place cells count header ending ++ steps) end
-  from_end count header ending steps end unmoved ends =
-      (refl, (refl, chosen (is_moved place.form header) false (Over Nothing) (At (MoveEnding (slot_of place count) header))
-      (saw (slot_end_at place (slot_of place count)) ending ∷ steps) end unmoved (refl, ends)))
+  from_end count header ending steps end unmoved ends = (
+    refl,
+    (
+      refl,
+      chosen (is_moved place.form header) false (Over Nothing) (At (MoveEnding (slot_of place count) header))
+          (saw (slot_end_at place (slot_of place count)) ending ∷ steps) end unmoved (refl, ends),
+    ),
+  )
 
   from_claim : (count header ending : ℕ) (claims rest : List Step) (over : ClaimEnd) (end : MoveAnswer)
       → Ends (claim_verb cells) (claim_after cells) (At (ClaimLook 0)) claims over

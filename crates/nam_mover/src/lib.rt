@@ -10,6 +10,8 @@
 mod laws;
 mod place;
 mod running;
+#[cfg(test)]
+mod tests;
 
 pub use laws::{claimed_law, move_law, reach_law};
 pub use nam_calls::{MoveAnswer, MovePlace};

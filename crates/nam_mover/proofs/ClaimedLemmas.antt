@@ -31,7 +31,8 @@ use Rattle.nam_words.specs.Ends.{place_end, cells_end, later}
 use Rattle.nam_overflow.proofs.ClaimLemmas.{claimed_by, claims_by}
 use Rattle.nam_mover.specs.Move.{moving, running, claimed_in}
 use Rattle.nam_mover.specs.MoveLaw.{looked, dated}
-use Rattle.nam_mover.specs.ClaimedLaw.{steps_by, HasTaken}
+use Rattle.nam_mover.specs.SoFar.{steps_by}
+use Rattle.nam_mover.specs.ClaimedLaw.{HasTaken}
 use Rattle.nam_mover.proofs.HistoryLemmas as past
 
 -- the word that the second of the steps found
@@ -41,11 +42,15 @@ second_found (first ∷ []) = 0
 second_found (first ∷ second ∷ steps) = second.found
 
 module _ (place : Place) (cells : Cells) (room : FitsCells cells) where
-  abbrev ClaimLeads : Now ClaimPlace ClaimEnd → List Step → Now ClaimPlace ClaimEnd → Type 0
+  abbrev pub ClaimLeads : Now ClaimPlace ClaimEnd → List Step → Now ClaimPlace ClaimEnd → Type 0
   ClaimLeads = past.Leads (claim_verb cells) (claim_after cells)
 
+  -- the steps took a cell for the version of this header, and it is this one
+  abbrev pub Took : ℕ → ℕ → List Step → Type 0
+  Took header cell steps = (taken : HasTaken place cells (stamp_in place.form header) steps) × (taken.cell ≡ cell)
+
   -- the steps that led to each place
-  abbrev Holds : MovePlace → List Step → Type 0
+  abbrev pub Holds : MovePlace → List Step → Type 0
   Holds MoveCount steps = steps ≡ []
   Holds (MoveHead slot) steps = (count : ℕ) × (slot ≡ slot_of place count) × (steps ≡ saw place.count_at count ∷ [])
   Holds (MoveEnding slot header) steps =
@@ -53,19 +58,19 @@ module _ (place : Place) (cells : Cells) (room : FitsCells cells) where
   Holds (MoveClaim slot header ending at) steps =
       (count : ℕ) × (claims : List Step) × (is_moved place.form header ≡ false) × (steps ≡ dated place cells count header ending ++ claims)
       × ClaimLeads (At (ClaimLook 0)) claims (At at)
-  Holds (MoveWords slot header ending cell tag got) steps = HasTaken place cells (stamp_in place.form header) steps
-  Holds (MoveFill slot header cell tag version at) steps = HasTaken place cells (stamp_in place.form header) steps
-  Holds (MoveAgain slot header cell tag) steps = HasTaken place cells (stamp_in place.form header) steps
-  Holds (MoveFull slot header cell tag) steps = HasTaken place cells (stamp_in place.form header) steps
+  Holds (MoveWords slot header ending cell tag got) steps = Took header cell steps
+  Holds (MoveFill slot header cell tag version at) steps = Took header cell steps
+  Holds (MoveAgain slot header cell tag) steps = Took header cell steps
+  Holds (MoveFull slot header cell tag) steps = Took header cell steps
   Holds (MoveFlag slot header) steps = HasTaken place cells (stamp_in place.form header) steps
-  Holds (MoveBack header cell tag) steps = HasTaken place cells (stamp_in place.form header) steps
+  Holds (MoveBack header cell tag) steps = Took header cell steps
 
-  abbrev HoldsNow : Now MovePlace MoveAnswer → List Step → Type 0
+  abbrev pub HoldsNow : Now MovePlace MoveAnswer → List Step → Type 0
   HoldsNow = past.HoldsNow (move_verb place cells) (move_after place cells) (move_left place cells) (later (place_end place) (cells_end cells)) Holds
 
   -- 1. Each place comes from the one before
 
-  taken_longer : (stamp : Stamp) (steps more : List Step) → HasTaken place cells stamp steps → HasTaken place cells stamp (steps ++ more)
+  abbrev taken_longer : (stamp : Stamp) (steps more : List Step) → HasTaken place cells stamp steps → HasTaken place cells stamp (steps ++ more)
   taken_longer stamp steps more t = record {
     count = t.count;
     header = t.header;
@@ -80,11 +85,14 @@ module _ (place : Place) (cells : Cells) (room : FitsCells cells) where
     steps_are = ap (λ all. all ++ more) t.steps_are ∙ append_assoc (dated place cells t.count t.header t.ending ++ t.claims) t.later more;
   }
 
+  took_longer : (header cell : ℕ) (steps more : List Step) → Took header cell steps → Took header cell (steps ++ more)
+  took_longer header cell steps more took = (taken_longer (stamp_in place.form header) steps more took.0, took.1)
+
   on_claim_keeps : (slot header ending count : ℕ) → is_moved place.form header ≡ false → (now : Now ClaimPlace ClaimEnd) (claims : List Step)
       → ClaimLeads (At (ClaimLook 0)) claims now → HoldsNow (on_claim cells slot header ending now) (dated place cells count header ending ++ claims)
   on_claim_keeps slot header ending count unmoved (At at) claims leads = (count, claims, unmoved, refl, leads)
   on_claim_keeps slot header ending count unmoved (Over claim.NoRoom) claims leads = tt
-  on_claim_keeps slot header ending count unmoved (Over (claim.Claimed cell tag)) claims leads = record {
+  on_claim_keeps slot header ending count unmoved (Over (claim.Claimed cell tag)) claims leads = (record {
     count = count;
     header = header;
     ending = ending;
@@ -97,10 +105,10 @@ module _ (place : Place) (cells : Cells) (room : FitsCells cells) where
         (past.leads_to_end (claim_verb cells) (claim_after cells) (At (ClaimLook 0)) claims (claim.Claimed cell tag) leads);
     stamp_is = refl;
     steps_are = rw append-nil refl;
-  }
+  }, refl)
 
   on_fill_keeps : (slot header cell tag : ℕ) (version : Version) (now : Now FillPlace (Unit {0})) (steps : List Step)
-      → HasTaken place cells (stamp_in place.form header) steps → HoldsNow (on_fill slot header cell tag version now) steps
+      → Took header cell steps → HoldsNow (on_fill slot header cell tag version now) steps
   on_fill_keeps slot header cell tag version (At at) steps taken = taken
   on_fill_keeps slot header cell tag version (Over done) steps taken = taken
 
@@ -124,20 +132,20 @@ module _ (place : Place) (cells : Cells) (room : FitsCells cells) where
       let step = step_at (MoveWords slot header ending cell tag got) found in
       let all = got ++ found ∷ [] in
       let version : Version = record { begin = without_moved place.form header; «end» = ending; value = all } in
-      let longer = taken_longer (stamp_in place.form header) before (step ∷ []) holds in
+      let longer = took_longer header cell before (step ∷ []) holds in
       by_test (λ at. Holds at (before ++ step ∷ [])) (length all == place.width) (MoveFill slot header cell tag version fill_begin)
       (MoveWords slot header ending cell tag all) (λ test. longer) (λ test. longer)
   keeps (MoveFill slot header cell tag version at) before holds found =
       let step = step_at (MoveFill slot header cell tag version at) found in
       on_fill_keeps slot header cell tag version (fill_after place.width at) (before ++ step ∷ [])
-      (taken_longer (stamp_in place.form header) before (step ∷ []) holds)
+      (took_longer header cell before (step ∷ []) holds)
   keeps (MoveAgain slot header cell tag) before holds found =
       let step = step_at (MoveAgain slot header cell tag) found in
-      let longer = taken_longer (stamp_in place.form header) before (step ∷ []) holds in
+      let longer = took_longer header cell before (step ∷ []) holds in
       by_test (λ now. HoldsNow now (before ++ step ∷ [])) (found == header) (At (MoveFull slot header cell tag)) (At (MoveBack header cell tag))
       (λ test. longer) (λ test. longer)
   keeps (MoveFull slot header cell tag) before holds found =
-      taken_longer (stamp_in place.form header) before (step_at (MoveFull slot header cell tag) found ∷ []) holds
+      taken_longer (stamp_in place.form header) before (step_at (MoveFull slot header cell tag) found ∷ []) holds.0
   keeps (MoveFlag slot header) before holds found = tt
   keeps (MoveBack header cell tag) before holds found = tt
 
@@ -157,12 +165,12 @@ module _ (place : Place) (cells : Cells) (room : FitsCells cells) where
   taken_by (At (MoveHead slot)) steps stamp holds is = absurd (cc)
   taken_by (At (MoveEnding slot header)) steps stamp holds is = absurd (cc)
   taken_by (At (MoveClaim slot header ending at)) steps stamp holds is = absurd (cc)
-  taken_by (At (MoveWords slot header ending cell tag got)) steps stamp holds is = (refl, same_stamp header stamp steps holds is)
-  taken_by (At (MoveFill slot header cell tag version at)) steps stamp holds is = (refl, same_stamp header stamp steps holds is)
-  taken_by (At (MoveAgain slot header cell tag)) steps stamp holds is = (refl, same_stamp header stamp steps holds is)
-  taken_by (At (MoveFull slot header cell tag)) steps stamp holds is = (refl, same_stamp header stamp steps holds is)
+  taken_by (At (MoveWords slot header ending cell tag got)) steps stamp holds is = (refl, same_stamp header stamp steps holds.0 is)
+  taken_by (At (MoveFill slot header cell tag version at)) steps stamp holds is = (refl, same_stamp header stamp steps holds.0 is)
+  taken_by (At (MoveAgain slot header cell tag)) steps stamp holds is = (refl, same_stamp header stamp steps holds.0 is)
+  taken_by (At (MoveFull slot header cell tag)) steps stamp holds is = (refl, same_stamp header stamp steps holds.0 is)
   taken_by (At (MoveFlag slot header)) steps stamp holds is = (refl, same_stamp header stamp steps holds is)
-  taken_by (At (MoveBack header cell tag)) steps stamp holds is = (refl, same_stamp header stamp steps holds is)
+  taken_by (At (MoveBack header cell tag)) steps stamp holds is = (refl, same_stamp header stamp steps holds.0 is)
 
   -- the steps name one header
   one_stamp : (a b : Stamp) (steps : List Step) → HasTaken place cells a steps → HasTaken place cells b steps → Some a ≡ Some b
@@ -183,16 +191,16 @@ module _ (place : Place) (cells : Cells) (room : FitsCells cells) where
       absurd (past.ended_before (claim_verb cells) (claim_after cells) (At (ClaimLook 0)) t.claims t.later (claim.Claimed t.cell t.tag) at
       (claims_by cells room.least_cells t.claims t.cell t.tag t.claimed)
       (subst (λ steps. ClaimLeads (At (ClaimLook 0)) steps (At at)) same holds.4))
-  by_taken (At (MoveWords slot header ending cell tag got)) steps stamp holds is = one_stamp (stamp_in place.form header) stamp steps holds is.1
-  by_taken (At (MoveFill slot header cell tag version at)) steps stamp holds is = one_stamp (stamp_in place.form header) stamp steps holds is.1
-  by_taken (At (MoveAgain slot header cell tag)) steps stamp holds is = one_stamp (stamp_in place.form header) stamp steps holds is.1
-  by_taken (At (MoveFull slot header cell tag)) steps stamp holds is = one_stamp (stamp_in place.form header) stamp steps holds is.1
+  by_taken (At (MoveWords slot header ending cell tag got)) steps stamp holds is = one_stamp (stamp_in place.form header) stamp steps holds.0 is.1
+  by_taken (At (MoveFill slot header cell tag version at)) steps stamp holds is = one_stamp (stamp_in place.form header) stamp steps holds.0 is.1
+  by_taken (At (MoveAgain slot header cell tag)) steps stamp holds is = one_stamp (stamp_in place.form header) stamp steps holds.0 is.1
+  by_taken (At (MoveFull slot header cell tag)) steps stamp holds is = one_stamp (stamp_in place.form header) stamp steps holds.0 is.1
   by_taken (At (MoveFlag slot header)) steps stamp holds is = one_stamp (stamp_in place.form header) stamp steps holds is.1
-  by_taken (At (MoveBack header cell tag)) steps stamp holds is = one_stamp (stamp_in place.form header) stamp steps holds is.1
+  by_taken (At (MoveBack header cell tag)) steps stamp holds is = one_stamp (stamp_in place.form header) stamp steps holds.0 is.1
 
   -- 3. After any words
 
-  holds_after : (words : List ℕ)
+  pub holds_after : (words : List ℕ)
       → HoldsNow (after_words after_found (running (moving place cells)) words).state (steps_by (running (moving place cells)) words)
   holds_after words =
       past.history (move_verb place cells) (move_after place cells) (move_left place cells) (later (place_end place) (cells_end cells)) Holds keeps

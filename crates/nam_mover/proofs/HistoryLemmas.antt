@@ -1,13 +1,20 @@
 -- The steps that led a call to where it stands, whatever words it found.
-use Rattle.std.proofs.Common.{◌≡◌, ℕ, List, [], ◌∷◌, ◌++◌, refl, ap}
+use Rattle.std.proofs.Common.{◌≡◌, ℕ, List, [], ◌∷◌, ◌++◌, refl, sym}
 use Rattle.std.proofs.lemmas.List.{append_assoc, append-nil}
 use Rattle.nam_verbs.specs.declared.verb.Verb.{Verb}
 use Rattle.nam_verbs.specs.declared.now.Now.{Now}
 use Rattle.nam_verbs.specs.declared.now.Now.TheVariants.{At, Over}
+use Rattle.nam_verbs.specs.Now.{verb_now}
 use Rattle.nam_verbs.specs.Machine.{after_words}
-use Rattle.nam_verbs.specs.Running.{Running, after_found}
+use Rattle.nam_verbs.specs.Running.{Running, next_verb, after_found}
 use Rattle.nam_verbs.specs.Steps.{Step, Ends}
-use Rattle.nam_mover.specs.ClaimedLaw.{steps_from}
+use Rattle.nam_mover.specs.SoFar.{steps_from}
+
+-- words change where a call stands, and not its places' verbs
+pub next_after : {P E : Type 0} (call : Running P E) (words : List ℕ)
+    → next_verb (after_words after_found call words) ≡ verb_now call.verb (after_words after_found call words).state
+next_after call [] = refl
+next_after call (word ∷ words) = next_after (after_found call word) words
 
 module _ {P E : Type 0} (verb : P → Verb) (after : P → ℕ → Now P E) where
   abbrev pub step_at : P → ℕ → Step
@@ -61,3 +68,10 @@ module _ {P E : Type 0} (verb : P → Verb) (after : P → ℕ → Now P E) wher
     history keeps (At place) before holds (word ∷ words) =
         rw (← append_assoc before (step_at place word ∷ []) (steps_from verb after (after place word) words))
         (history keeps (after place word) (before ++ step_at place word ∷ []) (keeps place before holds word) words)
+
+    -- the steps by which a call takes words lead there
+    pub leads_by : (now : Now P E) (words : List ℕ) → Leads now (steps_from verb after now words) (after_words after_found (call now) words).state
+    leads_by (Over end) [] = refl
+    leads_by (At place) [] = refl
+    leads_by (Over end) (word ∷ words) = sym (stays_over end words)
+    leads_by (At place) (word ∷ words) = (refl, leads_by (after place word) words)

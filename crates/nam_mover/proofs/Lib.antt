@@ -3,3 +3,4 @@ mod MoveLemmas
 mod ReachLemmas
 mod HistoryLemmas
 mod ClaimedLemmas
+mod OrderLemmas

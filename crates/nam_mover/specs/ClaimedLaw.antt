@@ -1,31 +1,17 @@
 -- For which version a move holds a claimed cell.
-use Rattle.std.specs.Prelude.{◌≡◌, ℕ, false, List, [], ◌∷◌, ◌++◌, Some, IsNone, ◌↔◌}
+use Rattle.std.specs.Prelude.{◌≡◌, ℕ, false, List, ◌++◌, Some, IsNone, ◌↔◌}
 use Rattle.si_model.specs.declared.log.Stamp.{Stamp}
-use Rattle.nam_verbs.specs.declared.verb.Verb.{Verb}
-use Rattle.nam_verbs.specs.declared.now.Now.{Now}
-use Rattle.nam_verbs.specs.declared.now.Now.TheVariants.{At, Over}
 use Rattle.nam_verbs.specs.Machine.{after_words}
-use Rattle.nam_verbs.specs.Running.{Running, after_found, end_of}
+use Rattle.nam_verbs.specs.Running.{after_found, end_of}
 use Rattle.nam_verbs.specs.Steps.{Step, StopsAt}
 use Rattle.nam_layout.specs.declared.field.Place.{Place}
 use Rattle.nam_layout.specs.declared.field.Cells.{Cells}
 use Rattle.nam_layout.specs.PlaceFits.{FitsPlace, FitsCells}
-use Rattle.nam_calls.specs.declared.mover.MovePlace.{MovePlace}
-use Rattle.nam_calls.specs.declared.mover.MoveAnswer.{MoveAnswer}
 use Rattle.nam_calls.specs.Stamps.{stamp_in, is_moved}
 use Rattle.nam_overflow.specs.ClaimLaw.{CellLost, CellTaken}
 use Rattle.nam_mover.specs.Move.{moving, running, claimed_in}
 use Rattle.nam_mover.specs.MoveLaw.{dated}
-
--- the steps by which a call takes these words, up to its end
-module _ {P E : Type 0} (verb : P → Verb) (after : P → ℕ → Now P E) where
-  abbrev pub steps_from : Now P E → List ℕ → List Step
-  steps_from now [] = []
-  steps_from (Over end) (word ∷ words) = []
-  steps_from (At place) (word ∷ words) = record { verb = verb place; found = word } ∷ steps_from (after place word) words
-
-abbrev pub steps_by : {P E : Type 0} → Running P E → List ℕ → List Step
-steps_by call words = steps_from call.verb call.after call.state words
+use Rattle.nam_mover.specs.SoFar.{steps_by}
 
 -- the first of these steps took a cell for the version in the slot, which wasn't moved and bears this stamp
 pub record HasTaken (place : Place) (cells : Cells) (stamp : Stamp) (steps : List Step) : Type 0 where

@@ -30,9 +30,11 @@ module _ {P E : Type 0} (verb : P → Verb) (after : P → ℕ → Now P E) wher
       → Leads now (steps ++ step_at place found ∷ []) (after place found)
   one_more now [] place found is = rw is (refl, refl)
   one_more (Over end) (step ∷ steps) place found leads = absurd leads
-  one_more (At here) (step ∷ steps) place found leads = (leads.0, one_more (after here step.found) steps place found leads.1)
+  one_more (At here) (step ∷ steps) place found leads =
+      (leads.0, one_more (after here step.found) steps place found leads.1)
 
-  pub leads_to_end : (now : Now P E) (steps : List Step) (end : E) → Leads now steps (Over end) → Ends verb after now steps end
+  pub leads_to_end : (now : Now P E) (steps : List Step) (end : E) → Leads now steps (Over end)
+      → Ends verb after now steps end
   leads_to_end now [] end is = rw is refl
   leads_to_end (Over other) (step ∷ steps) end leads = absurd leads
   leads_to_end (At here) (step ∷ steps) end leads = (leads.0, leads_to_end (after here step.found) steps end leads.1)
@@ -44,7 +46,8 @@ module _ {P E : Type 0} (verb : P → Verb) (after : P → ℕ → Now P E) wher
   ended_before (Over other) [] (step ∷ rest) end place ends leads = leads
   ended_before (Over other) (step ∷ first) rest end place ends leads = absurd ends
   ended_before (At here) [] rest end place ends leads = absurd ends
-  ended_before (At here) (step ∷ first) rest end place ends leads = ended_before (after here step.found) first rest end place ends.1 leads.1
+  ended_before (At here) (step ∷ first) rest end place ends leads =
+      ended_before (after here step.found) first rest end place ends.1 leads.1
 
   -- what holds of a place and the steps up to it
   module _ (left : P → ℕ) (reach : ℕ) (Holds : P → List Step → Type 0) where
@@ -70,7 +73,8 @@ module _ {P E : Type 0} (verb : P → Verb) (after : P → ℕ → Now P E) wher
         (history keeps (after place word) (before ++ step_at place word ∷ []) (keeps place before holds word) words)
 
     -- the steps by which a call takes words lead there
-    pub leads_by : (now : Now P E) (words : List ℕ) → Leads now (steps_from verb after now words) (after_words after_found (call now) words).state
+    pub leads_by : (now : Now P E) (words : List ℕ)
+        → Leads now (steps_from verb after now words) (after_words after_found (call now) words).state
     leads_by (Over end) [] = refl
     leads_by (At place) [] = refl
     leads_by (Over end) (word ∷ words) = sym (stays_over end words)

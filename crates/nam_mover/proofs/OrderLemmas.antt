@@ -1,5 +1,6 @@
 -- What a move has done before a write and before an exchange, whatever words it found.
-use Rattle.std.proofs.Common.{◌≡◌, ◌⊎◌, inl, inr, ℕ, ◌+◌, ◌<◌, ◌≤◌, List, [], ◌∷◌, ◌++◌, length, refl, sym, ◌∙◌, ap, subst, arith, Some}
+use Rattle.std.proofs.Common.{◌≡◌, ◌⊎◌, inl, inr, ℕ, ◌+◌, ◌<◌, ◌≤◌, List, [], ◌∷◌, ◌++◌, length, refl, sym, ◌∙◌, ap}
+use Rattle.std.proofs.Common.{subst, arith, Some}
 use Rattle.std.proofs.lemmas.List.{append_assoc}
 use Rattle.nam_verbs.specs.declared.verb.Verb.{Verb}
 use Rattle.nam_verbs.specs.declared.verb.Verb.TheVariants.{Write, Exchange}
@@ -15,7 +16,9 @@ use Rattle.nam_layout.specs.PlaceFits.{FitsPlace, FitsCells}
 use Rattle.nam_calls.specs.declared.overflow.ClaimPlace.TheVariants.{ClaimLook, ClaimTake}
 use Rattle.nam_calls.specs.declared.overflow.FillPlace.TheVariants.{FillOwner, FillBegin, FillEnding, FillWord}
 use Rattle.nam_calls.specs.declared.mover.MovePlace.{MovePlace}
-use Rattle.nam_calls.specs.declared.mover.MovePlace.TheVariants.{MoveCount, MoveHead, MoveEnding, MoveClaim, MoveWords, MoveFill, MoveAgain, MoveFull, MoveFlag, MoveBack}
+use Rattle.nam_calls.specs.declared.mover.MovePlace.TheVariants.{MoveCount, MoveHead, MoveEnding, MoveClaim}
+use Rattle.nam_calls.specs.declared.mover.MovePlace.TheVariants.{MoveWords, MoveFill, MoveAgain, MoveFull, MoveFlag}
+use Rattle.nam_calls.specs.declared.mover.MovePlace.TheVariants.{MoveBack}
 use Rattle.nam_calls.specs.declared.mover.MoveAnswer.{MoveAnswer}
 use Rattle.nam_calls.specs.declared.mover.MoveAnswer.TheVariants.{Moved}
 use Rattle.nam_calls.specs.Stamps.{stamp_in, with_moved, full}
@@ -45,7 +48,8 @@ same_front (a ∷ xs) (b ∷ ys) x y same =
 
 -- the last of steps that end with two verbs
 split_last : (copy last steps : List Step) (step : Step) (first second : Verb) → verbs_of last ≡ first ∷ second ∷ []
-    → steps ++ step ∷ [] ≡ copy ++ last → (shown : Step) × (steps ≡ copy ++ shown ∷ []) × (shown.verb ≡ first) × (step.verb ≡ second)
+    → steps ++ step ∷ [] ≡ copy ++ last → (shown : Step) × (steps ≡ copy ++ shown ∷ []) × (shown.verb ≡ first)
+    × (step.verb ≡ second)
 split_last copy [] steps step first second verbs same = absurd (cc)
 split_last copy (a ∷ []) steps step first second verbs same = absurd (cc)
 split_last copy (a ∷ b ∷ c ∷ rest) steps step first second verbs same = absurd (cc)
@@ -57,10 +61,17 @@ module _ (place : Place) (cells : Cells) (fits : FitsPlace place) (room : FitsCe
   in_taken : (header cell offset : ℕ) (steps : List Step) → Took place cells room header cell steps → offset < 12
       → IsInTaken place cells (tag_at cells cell + offset) steps
   in_taken header cell offset steps took less =
-      let same = took.1 in record { stamp = stamp_in place.form header; taken = took.0; from = omega arith; below = omega arith }
+      let same = took.1 in record {
+        stamp = stamp_in place.form header;
+        taken = took.0;
+        from = omega arith;
+        below = omega arith;
+      }
 
-  write_at : (now : Now MovePlace MoveAnswer) (steps : List Step) → FitsNow (MoveFits place cells) now → HoldsNow place cells room now steps
-      → (address word : ℕ) → verb_now (move_verb place cells) now ≡ Some (Write address word) → IsInTaken place cells address steps
+  write_at : (now : Now MovePlace MoveAnswer) (steps : List Step) → FitsNow (MoveFits place cells) now
+      → HoldsNow place cells room now steps
+      → (address word : ℕ) → verb_now (move_verb place cells) now ≡ Some (Write address word)
+      → IsInTaken place cells address steps
   write_at (Over end) steps here holds address word is = absurd (cc)
   write_at (At MoveCount) steps here holds address word is = absurd (cc)
   write_at (At (MoveHead slot)) steps here holds address word is = absurd (cc)
@@ -76,7 +87,8 @@ module _ (place : Place) (cells : Cells) (fits : FitsPlace place) (room : FitsCe
       let same : address ≡ tag_at cells cell + 3 = cc in rw same (in_taken header cell 3 steps holds (omega arith))
   write_at (At (MoveFill slot header cell tag version (FillWord nth))) steps here holds address word is =
       let most = fits.most_width in let within : nth < place.width = here.3 in
-      let there : address ≡ tag_at cells cell + 4 + nth = cc in let same : address ≡ tag_at cells cell + (4 + nth) = omega arith in
+      let there : address ≡ tag_at cells cell + 4 + nth = cc in
+      let same : address ≡ tag_at cells cell + (4 + nth) = omega arith in
       rw same (in_taken header cell (4 + nth) steps holds (omega arith))
   write_at (At (MoveAgain slot header cell tag)) steps here holds address word is = absurd (cc)
   write_at (At (MoveFull slot header cell tag)) steps here holds address word is =
@@ -98,7 +110,8 @@ module _ (place : Place) (cells : Cells) (fits : FitsPlace place) (room : FitsCe
       let moved = Moved (stamp_in place.form header) in
       let did = did_by place cells fits room (steps ++ step ∷ []) moved
       (past.leads_to_end (move_verb place cells) (move_after place cells) (At MoveCount) (steps ++ step ∷ []) moved
-      (past.one_more (move_verb place cells) (move_after place cells) (At MoveCount) steps (MoveFlag slot header) 0 leads)) in
+      (past.one_more (move_verb place cells) (move_after place cells) (At MoveCount) steps (MoveFlag slot header) 0
+      leads)) in
       let parts = split_last did.copy did.last steps step _ _ did.shown did.steps_are in
       let flag = parts.3 in record {
         count = did.count;
@@ -115,44 +128,56 @@ module _ (place : Place) (cells : Cells) (fits : FitsPlace place) (room : FitsCe
         flag_is = cc;
       }
 
-  exchange_at : (now : Now MovePlace MoveAnswer) (steps : List Step) → FitsNow (MoveFits place cells) now → MoveLeads (At MoveCount) steps now
+  exchange_at : (now : Now MovePlace MoveAnswer) (steps : List Step) → FitsNow (MoveFits place cells) now
+      → MoveLeads (At MoveCount) steps now
       → (address expected new : ℕ) → verb_now (move_verb place cells) now ≡ Some (Exchange address expected new)
       → TriesCell place cells address expected new ⊎ TriesFlag place cells address expected new steps
   exchange_at (Over end) steps here leads address expected new is = absurd (cc)
   exchange_at (At MoveCount) steps here leads address expected new is = absurd (cc)
   exchange_at (At (MoveHead slot)) steps here leads address expected new is = absurd (cc)
   exchange_at (At (MoveEnding slot header)) steps here leads address expected new is = absurd (cc)
-  exchange_at (At (MoveClaim slot header ending (ClaimLook cell))) steps here leads address expected new is = absurd (cc)
+  exchange_at (At (MoveClaim slot header ending (ClaimLook cell))) steps here leads address expected new is =
+      absurd (cc)
   exchange_at (At (MoveClaim slot header ending (ClaimTake cell tag))) steps here leads address expected new is =
       inl (record { cell = cell; within = here.1; tag_is = cc; written_is = cc })
   exchange_at (At (MoveWords slot header ending cell tag got)) steps here leads address expected new is = absurd (cc)
-  exchange_at (At (MoveFill slot header cell tag version FillOwner)) steps here leads address expected new is = absurd (cc)
-  exchange_at (At (MoveFill slot header cell tag version FillBegin)) steps here leads address expected new is = absurd (cc)
-  exchange_at (At (MoveFill slot header cell tag version FillEnding)) steps here leads address expected new is = absurd (cc)
-  exchange_at (At (MoveFill slot header cell tag version (FillWord nth))) steps here leads address expected new is = absurd (cc)
+  exchange_at (At (MoveFill slot header cell tag version FillOwner)) steps here leads address expected new is =
+      absurd (cc)
+  exchange_at (At (MoveFill slot header cell tag version FillBegin)) steps here leads address expected new is =
+      absurd (cc)
+  exchange_at (At (MoveFill slot header cell tag version FillEnding)) steps here leads address expected new is =
+      absurd (cc)
+  exchange_at (At (MoveFill slot header cell tag version (FillWord nth))) steps here leads address expected new is =
+      absurd (cc)
   exchange_at (At (MoveAgain slot header cell tag)) steps here leads address expected new is = absurd (cc)
   exchange_at (At (MoveFull slot header cell tag)) steps here leads address expected new is = absurd (cc)
   exchange_at (At (MoveFlag slot header)) steps here leads address expected new is =
-      let at : address ≡ slot_at place slot = cc in let old : expected ≡ header = cc in let flag : new ≡ with_moved place.form header = cc in
+      let at : address ≡ slot_at place slot = cc in let old : expected ≡ header = cc in
+      let flag : new ≡ with_moved place.form header = cc in
       inr (rw (at, old, flag) (flag_at slot header steps leads))
   exchange_at (At (MoveBack header cell tag)) steps here leads address expected new is = absurd (cc)
 
-  fits_after : (words : List ℕ) → FitsNow (MoveFits place cells) (after_words after_found (running (moving place cells)) words).state
+  fits_after : (words : List ℕ) → FitsNow (MoveFits place cells)
+      (after_words after_found (running (moving place cells)) words).state
   fits_after =
-      holds_always (MoveFits place cells) Any (running (moving place cells)) (λ at here found. move_falls place cells fits room at found here)
+      holds_always (MoveFits place cells) Any (running (moving place cells))
+      (λ at here found. move_falls place cells fits room at found here)
       (MoveFits place cells) tt (λ at here. here)
 
   pub writes_into_taken : (words : List ℕ) (address word : ℕ)
       → next_verb (after_words after_found (running (moving place cells)) words) ≡ Some (Write address word)
       → IsInTaken place cells address (steps_by (running (moving place cells)) words)
   writes_into_taken words address word is =
-      write_at _ _ (fits_after words) (holds_after place cells room words) address word (sym (past.next_after (running (moving place cells)) words) ∙ is)
+      write_at _ _ (fits_after words) (holds_after place cells room words) address word
+      (sym (past.next_after (running (moving place cells)) words) ∙ is)
 
   pub exchanges_in_order : (words : List ℕ) (address expected new : ℕ)
       → next_verb (after_words after_found (running (moving place cells)) words) ≡ Some (Exchange address expected new)
-      → TriesCell place cells address expected new ⊎ TriesFlag place cells address expected new (steps_by (running (moving place cells)) words)
+      → TriesCell place cells address expected new
+      ⊎ TriesFlag place cells address expected new (steps_by (running (moving place cells)) words)
   exchanges_in_order words address expected new is =
       exchange_at _ _ (fits_after words)
-      (past.leads_by (move_verb place cells) (move_after place cells) (move_left place cells) (later (place_end place) (cells_end cells))
+      (past.leads_by (move_verb place cells) (move_after place cells) (move_left place cells)
+      (later (place_end place) (cells_end cells))
       (λ place steps. Unit {0}) (At MoveCount) words)
       address expected new (sym (past.next_after (running (moving place cells)) words) ∙ is)

@@ -14,5 +14,7 @@ pub reaches : MoveReachesLaw
 reaches shape limits row is bucket less =
     let place = row_place shape row in let cells = cells_of shape bucket in
     let fits = place_within_limits shape row limits is in let room = cells_within_limits shape bucket limits less in
-    holds_always (MoveFits place cells) Any (running (moving place cells)) (λ at here found. move_falls place cells fits room at found here)
-    (λ at. Reaches shape (move_verb place cells at) (move_field place cells at)) tt (λ at here. move_reaches shape limits row is bucket less at here)
+    holds_always (MoveFits place cells) Any (running (moving place cells))
+    (λ at here found. move_falls place cells fits room at found here)
+    (λ at. Reaches shape (move_verb place cells at) (move_field place cells at)) tt
+    (λ at here. move_reaches shape limits row is bucket less at here)

@@ -27,7 +27,8 @@ pub record HasTaken (place : Place) (cells : Cells) (stamp : Stamp) (steps : Lis
   pub stamp_is : stamp ≡ stamp_in place.form header
   pub steps_are : steps ≡ dated place cells count header ending ++ claims ++ later
 
--- whatever words were found, a cell is claimed for a version exactly where the steps so far took one, and the call hasn't ended
+-- whatever words were found, a cell is claimed for a version exactly where the steps so far took one, and the call
+-- hasn't ended
 abbrev pub ClaimedLaw : Type 0
 ClaimedLaw = (place : Place) (cells : Cells) → FitsPlace place → FitsCells cells → (words : List ℕ) (stamp : Stamp)
     → (claimed_in place (after_words after_found (running (moving place cells)) words).state ≡ Some stamp)

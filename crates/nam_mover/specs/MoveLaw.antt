@@ -1,6 +1,7 @@
 -- How a move ends, and what it did.
 use Rattle.std.specs.Prelude.{◌≡◌, ◌≢◌, ℕ, ◌<◌, true, false, List, [], ◌∷◌, ◌++◌, length, ◌↔◌}
 use Rattle.si_model.specs.declared.log.Stamp.{Stamp}
+use Rattle.nam_verbs.specs.declared.verb.Verb.{Verb}
 use Rattle.nam_verbs.specs.declared.verb.Verb.TheVariants.{Write, Exchange}
 use Rattle.nam_verbs.specs.Running.{Always}
 use Rattle.nam_verbs.specs.Steps.{Step, saw, saw_words, verbs_of, EndsWith, Stretches, StopsAt}
@@ -34,6 +35,10 @@ module _ (place : Place) (cells : Cells) where
   copy_steps count header ending claims words writes =
       dated count header ending ++ claims ++ saw_words (slot_word_at place (slot_of place count)) words ++ writes
 
+  -- the try to set the slot's moved flag
+  abbrev pub try_flag : ℕ → ℕ → Verb
+  try_flag count header = Exchange (slot_at place (slot_of place count)) header (with_moved place.form header)
+
   -- the version in the slot was moved before
   pub record WasMoved (steps : List Step) : Type 0 where
     pub count : ℕ
@@ -51,8 +56,9 @@ module _ (place : Place) (cells : Cells) where
     pub lost : Stretches (CellLost cells) 0 cells.cells claims
     pub steps_are : steps ≡ dated count header ending ++ claims
 
-  -- A version that wasn't moved was copied from its slot into a cell that was claimed for it: the slot's words were read; the
-  -- row, the version's header, its end and these words were written into the cell; and then the slot's header was read again.
+  -- A version that wasn't moved was copied from its slot into a cell that was claimed for it: the slot's words were
+  -- read; the row, the version's header, its end and these words were written into the cell; and then the slot's
+  -- header was read again.
   pub record Copied (count header cell tag again : ℕ) (steps : List Step) : Type 0 where
     pub ending : ℕ
     pub claims : List Step
@@ -62,9 +68,11 @@ module _ (place : Place) (cells : Cells) where
     pub claimed : StopsAt (CellLost cells) (CellTaken cells cell tag) cells.cells claims
     pub whole : length words ≡ place.width
     pub filled : verbs_of writes ≡ fill_verbs cells cell place.row (without_moved place.form header) ending words
-    pub steps_are : steps ≡ copy_steps count header ending claims words writes ++ saw (slot_at place (slot_of place count)) again ∷ []
+    pub steps_are : steps ≡ copy_steps count header ending claims words writes
+        ++ saw (slot_at place (slot_of place count)) again ∷ []
 
-  -- the slot bore the same header after the copy; the cell's tag was made full, and only then the slot's moved flag was tried
+  -- the slot bore the same header after the copy; the cell's tag was made full, and only then the slot's moved flag
+  -- was tried
   pub record WasCopied (stamp : Stamp) (steps : List Step) : Type 0 where
     pub count : ℕ
     pub header : ℕ
@@ -73,8 +81,7 @@ module _ (place : Place) (cells : Cells) where
     pub copy : List Step
     pub last : List Step
     pub copied : Copied count header cell tag header copy
-    pub shown : verbs_of last
-        ≡ Write (tag_at cells cell) (full tag) ∷ Exchange (slot_at place (slot_of place count)) header (with_moved place.form header) ∷ []
+    pub shown : verbs_of last ≡ Write (tag_at cells cell) (full tag) ∷ try_flag count header ∷ []
     pub stamp_is : stamp ≡ stamp_in place.form header
     pub steps_are : steps ≡ copy ++ last
 
@@ -101,7 +108,8 @@ NothingLaw = (place : Place) (cells : Cells) → FitsPlace place → FitsCells c
 -- no room, in this bucket, exactly where it wasn't, and no cell was to be had
 abbrev pub NoRoomLaw : Type 0
 NoRoomLaw = (place : Place) (cells : Cells) → FitsPlace place → FitsCells cells → (steps : List Step) (bucket : ℕ)
-    → EndsWith (running (moving place cells)) steps (NoRoom bucket) ↔ ((bucket ≡ cells.bucket) × NoCell place cells steps)
+    → EndsWith (running (moving place cells)) steps (NoRoom bucket)
+    ↔ ((bucket ≡ cells.bucket) × NoCell place cells steps)
 
 -- moved exactly where the version was copied and its cell made full before the slot's flag was tried
 abbrev pub MovedLaw : Type 0
@@ -115,7 +123,8 @@ BackLaw = (place : Place) (cells : Cells) → FitsPlace place → FitsCells cell
 
 -- whatever words are found, each verb is at the field of its place, of the row or of the bucket's cells
 abbrev pub MoveReachesLaw : Type 0
-MoveReachesLaw = (shape : Shape) → FitsLimits shape → (row : ℕ) → IsRow shape row → (bucket : ℕ) → bucket < shape.buckets
+MoveReachesLaw = (shape : Shape) → FitsLimits shape → (row : ℕ) → IsRow shape row → (bucket : ℕ)
+    → bucket < shape.buckets
     → Always
     (λ at. Reaches shape (move_verb (row_place shape row) (cells_of shape bucket) at)
     (move_field (row_place shape row) (cells_of shape bucket) at))

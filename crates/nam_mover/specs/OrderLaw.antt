@@ -30,8 +30,8 @@ module _ (place : Place) (cells : Cells) where
     pub tag_is : address ≡ tag_at cells cell
     pub written_is : new ≡ written expected
 
-  -- The try for the slot's moved flag: the steps copied the version and found its slot's header the same, and then they made
-  -- the cell's tag full, as the last step.
+  -- The try for the slot's moved flag: the steps copied the version and found its slot's header the same, and then
+  -- they made the cell's tag full, as the last step.
   pub record TriesFlag (address expected new : ℕ) (steps : List Step) : Type 0 where
     pub count : ℕ
     pub header : ℕ

@@ -11,7 +11,8 @@ module _ {P E : Type 0} (verb : P → Verb) (after : P → ℕ → Now P E) wher
   abbrev pub steps_from : Now P E → List ℕ → List Step
   steps_from now [] = []
   steps_from (Over end) (word ∷ words) = []
-  steps_from (At place) (word ∷ words) = record { verb = verb place; found = word } ∷ steps_from (after place word) words
+  steps_from (At place) (word ∷ words) =
+      record { verb = verb place; found = word } ∷ steps_from (after place word) words
 
 abbrev pub steps_by : {P E : Type 0} → Running P E → List ℕ → List Step
 steps_by call words = steps_from call.verb call.after call.state words

@@ -4,7 +4,8 @@ ghost use Rattle.std.specs.Prelude.{◌≡◌, ◌<◌};
 ghost use Rattle.nam_verbs.specs.Verb.{address_of};
 ghost use Rattle.nam_layout.specs.PlaceFits.{FitsPlace, FitsCells};
 ghost use Rattle.nam_calls.specs.Fits.{MoveFits};
-ghost use Rattle.nam_calls.specs.Mover.{move_begin as begin, move_verb as verb_at, move_after as after_word, move_left as left_at};
+ghost use Rattle.nam_calls.specs.Mover.{move_begin as begin, move_verb as verb_at, move_after as after_word};
+ghost use Rattle.nam_calls.specs.Mover.{move_left as left_at};
 ghost use Rattle.nam_calls.specs.Mover.{on_claim as after_claim, on_fill as after_fill, move_claimed as claimed_at};
 ghost use Rattle.nam_words.specs.Ends.{place_end, cells_end, later};
 

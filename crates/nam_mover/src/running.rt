@@ -13,9 +13,10 @@ use si_model::Stamp;
 use std::marker::Model;
 use std::mem::replace;
 
-/// The move of the version in the slot that a record's next version needs. A cell is claimed for it, its header, end and
-/// words are read from the slot and written into the cell, and the slot's header is read again. Where that is the same, the
-/// cell's tag says that it is full, and then the slot's header gets the moved flag; else the cell is given back.
+/// The move of the version in the slot that a record's next version needs. A cell is claimed for it, its header, end
+/// and words are read from the slot and written into the cell, and the slot's header is read again. Where that is the
+/// same, the cell's tag says that it is full, and then the slot's header gets the moved flag; else the cell is given
+/// back.
 #[derive(Debug, Drop)]
 pub struct Move {
     place: Place,

@@ -19,6 +19,7 @@ pub fills : (cells : Cells) (cell owner : ℕ) (version : Version) (width : ℕ)
     → Does (fill_verb cells cell owner version) (λ at found. fill_after width at) (At FillOwner)
     (fill_verbs cells cell owner version.begin version.«end» version.value) tt
 fills cells cell owner version width wide some =
-    let words = writes_words (fill_verb cells cell owner version) (λ at found. fill_after width at) (cell_word_at cells cell) version.value FillWord
+    let words = writes_words (fill_verb cells cell owner version) (λ at found. fill_after width at)
+    (cell_word_at cells cell) version.value FillWord
     (Over tt) (λ nth. refl) (λ nth found. rw wide refl) [] tt refl (omega arith) in
     (refl, λ owned. (refl, λ begun. (refl, λ ended. rw append-nil at words)))

@@ -23,9 +23,11 @@ use Rattle.nam_overflow.specs.FillLaw.{FillReachesLaw}
 
 pub search_reaches : SearchReachesLaw
 search_reaches shape limits row is bucket less seen =
-    let cells = cells_of shape bucket in let place = row_place shape row in let fits = place_within_limits shape row limits is in
+    let cells = cells_of shape bucket in let place = row_place shape row in
+    let fits = place_within_limits shape row limits is in
     holds_always (CellFits cells place) (SearchEnds place) (search.running (search.searching cells place seen))
-    (λ at here found. cell_falls cells place fits seen at found here) (λ at. Reaches shape (cell_verb cells at) (cell_field cells at))
+    (λ at here found. cell_falls cells place fits seen at found here)
+    (λ at. Reaches shape (cell_verb cells at) (cell_field cells at))
     limits.least_cells (λ at here. cell_reaches shape limits row is bucket less at here)
 
 module _ (shape : Shape) (bucket : ℕ) (less : bucket < shape.buckets) where
@@ -36,7 +38,8 @@ module _ (shape : Shape) (bucket : ℕ) (less : bucket < shape.buckets) where
 
   cell_reached : (cell owner : ℕ) (version : Version) → cell < shape.cells → length version.value ≤ 8 → (at : FillPlace)
       → FillFits (length version.value) at
-      → Reaches shape (fill_verb (cells_of shape bucket) cell owner version at) (fill_field (cells_of shape bucket) cell at)
+      → Reaches shape (fill_verb (cells_of shape bucket) cell owner version at)
+      (fill_field (cells_of shape bucket) cell at)
   cell_reached cell owner version within most FillOwner here = ((less, within), omega arith)
   cell_reached cell owner version within most FillBegin here = ((less, within), omega arith)
   cell_reached cell owner version within most FillEnding here = ((less, within), omega arith)
@@ -45,8 +48,10 @@ module _ (shape : Shape) (bucket : ℕ) (less : bucket < shape.buckets) where
 pub claim_reaches : ClaimReachesLaw
 claim_reaches shape limits bucket less =
     let cells = cells_of shape bucket in
-    holds_always (ClaimFits cells) (ClaimEnds cells) (claim.running (claim.claiming cells)) (λ at here found. claim_falls cells at found here)
-    (λ at. Reaches shape (claim_verb cells at) (claim_field cells at)) limits.least_cells (tag_reaches shape bucket less)
+    holds_always (ClaimFits cells) (ClaimEnds cells) (claim.running (claim.claiming cells))
+    (λ at here found. claim_falls cells at found here)
+    (λ at. Reaches shape (claim_verb cells at) (claim_field cells at)) limits.least_cells
+    (tag_reaches shape bucket less)
 
 pub fill_reaches : FillReachesLaw
 fill_reaches shape bucket less cell within owner begin ending words least most =

@@ -19,7 +19,8 @@ module _ (cells : Cells) where
   pub data CellLost (cell : ℕ) (steps : List Step) : Type 0 where
     not_free : (tag : ℕ) → is_free tag ≡ false → steps ≡ saw (tag_at cells cell) tag ∷ [] → CellLost cell steps
     exchange_lost : (tag other : ℕ) → is_free tag ≡ true → other ≢ tag
-        → steps ≡ saw (tag_at cells cell) tag ∷ tried (tag_at cells cell) tag (written tag) other ∷ [] → CellLost cell steps
+        → steps ≡ saw (tag_at cells cell) tag ∷ tried (tag_at cells cell) tag (written tag) other ∷ []
+        → CellLost cell steps
 
   -- a cell was taken: its tag was found free, and its exchange found the same tag; it bears `now`, the tag of the same
   -- generation that says that it is being written
@@ -33,7 +34,8 @@ module _ (cells : Cells) where
 -- claimed exactly where a cell was taken, after each cell before it was lost
 abbrev pub ClaimedLaw : Type 0
 ClaimedLaw = (cells : Cells) → FitsCells cells → (steps : List Step) (cell tag : ℕ)
-    → EndsWith (running (claiming cells)) steps (Claimed cell tag) ↔ StopsAt (CellLost cells) (CellTaken cells cell tag) cells.cells steps
+    → EndsWith (running (claiming cells)) steps (Claimed cell tag)
+    ↔ StopsAt (CellLost cells) (CellTaken cells cell tag) cells.cells steps
 
 -- no room exactly where each cell was lost
 abbrev pub NoRoomLaw : Type 0

@@ -22,14 +22,15 @@ fill_verbs cells cell owner begin ending words =
 -- the cell's owner, begin, end and words are written, in this order, and nothing else
 abbrev pub FillLaw : Type 0
 FillLaw = (cells : Cells) (cell owner begin ending : ℕ) (words : List ℕ) → 1 ≤ length words
-    → EndsAfter (running (filling cells cell owner begin ending words)) (fill_verbs cells cell owner begin ending words) tt
+    → EndsAfter (running (filling cells cell owner begin ending words))
+    (fill_verbs cells cell owner begin ending words) tt
 
 -- each verb writes the field of its place in the cell
 abbrev pub FillReachesLaw : Type 0
 FillReachesLaw =
-    (shape : Shape) (bucket : ℕ) → bucket < shape.buckets → (cell : ℕ) → cell < shape.cells → (owner begin ending : ℕ) (words : List ℕ)
-    → 1 ≤ length words → length words ≤ 8
-    → Always
-    (λ at. Reaches shape (fill_verb (cells_of shape bucket) cell owner record { begin = begin; «end» = ending; value = words } at)
-    (fill_field (cells_of shape bucket) cell at))
-    (running (filling (cells_of shape bucket) cell owner begin ending words))
+    (shape : Shape) (bucket : ℕ) → bucket < shape.buckets → (cell : ℕ) → cell < shape.cells
+    → (owner begin ending : ℕ) (words : List ℕ) → 1 ≤ length words → length words ≤ 8
+    → let call = filling (cells_of shape bucket) cell owner begin ending words in
+    Always
+    (λ at. Reaches shape (fill_verb call.cells cell owner call.version at) (fill_field call.cells cell at))
+    (running call)

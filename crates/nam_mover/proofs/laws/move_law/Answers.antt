@@ -3,7 +3,11 @@ use Rattle.nam_mover.proofs.MoveLemmas.{did_by, by_did}
 use Rattle.nam_mover.proofs.laws.move_law.Goals as goal
 
 pub returns-clause-nothing : goal.returns-clause-nothing
-returns-clause-nothing c place cells fits room steps = (did_by place cells fits room steps Nothing, by_did place cells fits room steps Nothing)
+returns-clause-nothing c place cells fits room steps = (
+  did_by place cells fits room steps Nothing,
+  by_did place cells
+      fits room steps Nothing,
+)
 
 pub returns-clause-no_room : goal.returns-clause-no_room
 returns-clause-no_room c place cells fits room steps bucket =

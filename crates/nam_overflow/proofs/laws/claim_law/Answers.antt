@@ -6,4 +6,8 @@ returns-clause-claimed c cells room steps cell tag =
     (claimed_by cells room.least_cells steps cell tag, claims_by cells room.least_cells steps cell tag)
 
 pub returns-clause-no_room : goal.returns-clause-no_room
-returns-clause-no_room c cells room steps = (lost_by cells room.least_cells steps, loses_by cells room.least_cells steps)
+returns-clause-no_room c cells room steps = (
+  lost_by cells room.least_cells steps,
+  loses_by cells room.least_cells
+      steps,
+)

@@ -10,7 +10,8 @@ invariant_of-self c =
     let a = c.self.inside in (
       c.self.invariant.0,
       c.self.invariant.1,
-      (taken (MoveFits a.place a.cells) Any (move_left a.place a.cells) (λ at. move_after a.place a.cells at c.args.found)
+      (taken (MoveFits a.place a.cells) Any (move_left a.place a.cells)
+          (λ at. move_after a.place a.cells at c.args.found)
           (λ at fits. move_falls a.place a.cells c.self.invariant.0 c.self.invariant.1 at c.args.found fits)
           _ _ _ c.self.invariant.2 (sym c.replace.ensures.value ∙ c.in-At.is) c.move_after-self-inside.ensures).0,
     )
@@ -18,6 +19,7 @@ invariant_of-self c =
 pub returns-in-At-clause-falls : goal.returns-in-At-clause-falls
 returns-in-At-clause-falls c =
     let a = c.self.inside in
-    rw (← c.self.view_is) (taken (MoveFits a.place a.cells) Any (move_left a.place a.cells) (λ at. move_after a.place a.cells at c.args.found)
+    rw (← c.self.view_is) (taken (MoveFits a.place a.cells) Any (move_left a.place a.cells)
+    (λ at. move_after a.place a.cells at c.args.found)
     (λ at fits. move_falls a.place a.cells c.self.invariant.0 c.self.invariant.1 at c.args.found fits)
     _ _ _ c.self.invariant.2 (sym c.replace.ensures.value ∙ c.in-At.is) c.move_after-self-inside.ensures).1

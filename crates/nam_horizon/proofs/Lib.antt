@@ -1,0 +1,4 @@
+pub mod OldLemmas
+pub mod CollectLemmas
+pub mod ExchangeLemmas
+pub mod ReachLemmas

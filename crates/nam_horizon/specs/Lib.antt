@@ -1,0 +1,4 @@
+pub mod Collect
+pub mod Old
+pub mod CollectLaw
+pub mod OldLaw

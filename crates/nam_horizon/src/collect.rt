@@ -1,0 +1,254 @@
+//! The collection of a bucket.
+
+ghost use Rattle.std.specs.Prelude.{◌≡◌, ◌<◌, ◌≤◌, ◌+◌, ◌*◌, length};
+ghost use Rattle.nam_verbs.specs.Verb.{address_of};
+ghost use Rattle.nam_verbs.specs.Running.{verbs_left};
+ghost use Rattle.nam_layout.specs.PlaceFits.{FitsCells};
+ghost use Rattle.nam_calls.specs.Fits.{CollectFits};
+ghost use Rattle.nam_calls.specs.Horizon.{collect_begin as begin, collect_verb as verb_at, collect_after as after_word, collect_left as left_at};
+ghost use Rattle.nam_calls.specs.Horizon.{entry_known as after_entry, collect_next as after_cell};
+ghost use Rattle.nam_words.specs.Ends.{cells_end, later};
+ghost use Rattle.nam_horizon.specs.Collect.{collecting, running};
+
+use nam_calls::CollectPlace;
+use nam_layout::Cells;
+use nam_verbs::{Machine, Now, Verb};
+use nam_words::{end_at, freed, has_next, horizon_at, is_full, is_within, stamp_in, tag_at};
+use si_model::Snapshot;
+use std::marker::Model;
+use std::mem::replace;
+
+/// Where a collection begins: no entry of the horizon is known.
+pub fn collect_begin() -> CollectPlace
+    ensures { result ≡ begin }
+{
+    CollectPlace::HorizonLook {
+        known: Snapshot::new(),
+    }
+}
+
+/// The verb that stands at a place.
+pub fn collect_verb(cells: &Cells, workers: u32, seen: &Snapshot, at: &CollectPlace) -> Verb
+    requires fits { FitsCells cells.now }
+    requires seen { length seen.now ≡ workers }
+    requires at { CollectFits cells.now workers at.now }
+    ensures value { result ≡ verb_at cells.now workers seen.now at.now }
+    ensures within { address_of result < later (2 * workers) (cells_end cells.now) }
+{
+    match at {
+        CollectPlace::HorizonLook { known } => Verb::Read {
+            at: horizon_at(workers, known.len() as u32 + 1),
+        },
+        CollectPlace::HorizonRaise { known, found } => Verb::Exchange {
+            at: horizon_at(workers, known.len() as u32 + 1),
+            expect: *found,
+            word: *seen.at(known.len()),
+        },
+        CollectPlace::CollectTag { cell, .. } => Verb::Read {
+            at: tag_at(cells, *cell),
+        },
+        CollectPlace::CollectEnding { cell, .. } => Verb::Read {
+            at: end_at(cells, *cell),
+        },
+        CollectPlace::CollectFree { cell, tag, .. } => Verb::Exchange {
+            at: tag_at(cells, *cell),
+            expect: *tag,
+            word: freed(*tag),
+        },
+    }
+}
+
+fn entry_known(workers: u32, known: Snapshot) -> Now<CollectPlace, Snapshot>
+    ensures { result ≡ after_entry workers known }
+{
+    if known.len() == workers as usize {
+        Now::At(CollectPlace::CollectTag { known, cell: 0 })
+    } else {
+        Now::At(CollectPlace::HorizonLook { known })
+    }
+}
+
+fn collect_next(cells: &Cells, known: Snapshot, cell: u32) -> Now<CollectPlace, Snapshot>
+    requires fits { FitsCells cells.now }
+    requires cell { cell < cells.now.cells }
+    ensures { result ≡ after_cell cells.now known cell }
+{
+    if cell + 1 == cells.cells {
+        Now::Over(known)
+    } else {
+        Now::At(CollectPlace::CollectTag {
+            known,
+            cell: cell + 1,
+        })
+    }
+}
+
+/// What follows the word that the verb of a place found.
+pub fn collect_after(
+    cells: &Cells,
+    workers: u32,
+    seen: &Snapshot,
+    at: CollectPlace,
+    found: u64,
+) -> Now<CollectPlace, Snapshot>
+    requires fits { FitsCells cells.now }
+    requires workers { workers ≤ 16 }
+    requires seen { length seen.now ≡ workers }
+    requires at { CollectFits cells.now workers at }
+    ensures { result ≡ after_word cells.now workers seen.now at found }
+{
+    match at {
+        CollectPlace::HorizonLook { mut known } => {
+            if found < *seen.at(known.len()) {
+                Now::At(CollectPlace::HorizonRaise { known, found })
+            } else {
+                known.push(found);
+                entry_known(workers, known)
+            }
+        }
+        CollectPlace::HorizonRaise {
+            mut known,
+            found: expected,
+        } => {
+            let entry = if found == expected {
+                *seen.at(known.len())
+            } else {
+                found
+            };
+            known.push(entry);
+            entry_known(workers, known)
+        }
+        CollectPlace::CollectTag { known, cell } => {
+            if is_full(found) {
+                Now::At(CollectPlace::CollectEnding {
+                    known,
+                    cell,
+                    tag: found,
+                })
+            } else {
+                collect_next(cells, known, cell)
+            }
+        }
+        CollectPlace::CollectEnding { known, cell, tag } => {
+            if is_within(stamp_in(cells.form, found), &known) && has_next(tag) {
+                Now::At(CollectPlace::CollectFree { known, cell, tag })
+            } else {
+                collect_next(cells, known, cell)
+            }
+        }
+        CollectPlace::CollectFree { known, cell, .. } => collect_next(cells, known, cell),
+    }
+}
+
+/// A number of verbs that are to come from a place at the most.
+pub fn collect_left(cells: &Cells, workers: u32, at: &CollectPlace) -> u64
+    requires fits { FitsCells cells.now }
+    requires at { CollectFits cells.now workers at.now }
+    ensures { result ≡ left_at cells.now workers at.now }
+{
+    let workers = workers as u64;
+    let count = cells.cells as u64;
+    match at {
+        CollectPlace::HorizonLook { known } => 2 * (workers - known.len() as u64) + 3 * count,
+        CollectPlace::HorizonRaise { known, .. } => {
+            2 * (workers - known.len() as u64) - 1 + 3 * count
+        }
+        CollectPlace::CollectTag { cell, .. } => 3 * (count - *cell as u64 - 1) + 3,
+        CollectPlace::CollectEnding { cell, .. } => 3 * (count - *cell as u64 - 1) + 2,
+        CollectPlace::CollectFree { cell, .. } => 3 * (count - *cell as u64 - 1) + 1,
+    }
+}
+
+/// The collection of a bucket: the horizon's entries are raised to a snapshot's, and then each full cell is set free
+/// whose version ended within the horizon that is known.
+#[derive(Debug, Drop)]
+pub struct Collect {
+    cells: Cells,
+    workers: u32,
+    seen: Snapshot,
+    state: Now<CollectPlace, Snapshot>,
+}
+
+impl Model for Collect {
+    ghost use Rattle.std.specs.Prelude.{◌≡◌, ◌≤◌, length};
+    ghost use Rattle.nam_verbs.specs.Now.{FitsNow};
+    ghost use Rattle.nam_layout.specs.PlaceFits.{FitsCells};
+    ghost use Rattle.nam_calls.specs.Fits.{CollectFits};
+    ghost use Rattle.nam_horizon.specs.Collect.{Collecting};
+
+    ghost Value = { Collecting };
+
+    ghost view = { λ a. record { cells = a.cells; workers = a.workers; seen = a.seen; state = a.state } };
+
+    ghost invariant = {
+        λ a. FitsCells a.cells × (a.workers ≤ 16) × (length a.seen ≡ a.workers) × FitsNow (CollectFits a.cells a.workers) a.state
+    };
+}
+
+impl Collect {
+    /// The collection of a bucket's cells under a snapshot of so many workers' entries.
+    pub fn new(cells: Cells, workers: u32, seen: Snapshot) -> Collect
+        requires fits { FitsCells cells }
+        requires least { 1 ≤ workers }
+        requires most { workers ≤ 16 }
+        requires seen { length seen ≡ workers }
+        ensures begins { result ≡ collecting cells workers seen }
+        ensures left { verbs_left (running result) ≡ 2 * workers + 3 * cells.cells }
+    {
+        Collect {
+            cells,
+            workers,
+            seen,
+            state: Now::At(collect_begin()),
+        }
+    }
+}
+
+impl Machine for Collect {
+    ghost use Rattle.nam_verbs.specs.Running.{next_verb, after_found, end_of, verbs_left, stands_until_end};
+    ghost use Rattle.nam_horizon.specs.Collect.{running};
+
+    type End = Snapshot;
+
+    ghost next = { λ a. next_verb (running a) };
+
+    ghost after = { λ a found. record a { state = (after_found (running a) found).state } };
+
+    ghost ended = { λ a. end_of (running a) };
+
+    ghost rest = { λ a. verbs_left (running a) };
+
+    ghost reach = { λ a. (running a).reach };
+
+    ghost stands_until_end = { λ a. stands_until_end (running a) };
+
+    fn verb(&self) -> Option<Verb> {
+        match &self.state {
+            Now::At(at) => Some(collect_verb(&self.cells, self.workers, &self.seen, at)),
+            Now::Over(_) => None,
+        }
+    }
+
+    fn take(&mut self, found: u64) {
+        match replace(&mut self.state, Now::At(collect_begin())) {
+            Now::At(at) => {
+                self.state = collect_after(&self.cells, self.workers, &self.seen, at, found);
+            }
+            Now::Over(end) => self.state = Now::Over(end),
+        }
+    }
+
+    fn left(&self) -> u64 {
+        match &self.state {
+            Now::At(at) => collect_left(&self.cells, self.workers, at),
+            Now::Over(_) => 0,
+        }
+    }
+
+    fn end(&self) -> Option<Snapshot> {
+        match &self.state {
+            Now::At(_) => None,
+            Now::Over(known) => Some(known.copy()),
+        }
+    }
+}

@@ -1,0 +1,4 @@
+pub mod PathLemmas
+pub mod MachineLemmas
+pub mod FindLemmas
+pub mod ClaimLemmas

@@ -1,0 +1,6 @@
+pub mod Path
+pub mod Find
+pub mod Claim
+pub mod PathLaw
+pub mod FindLaw
+pub mod ClaimLaw

@@ -1,0 +1,35 @@
+//! What the machines make of the words that their verbs find, whatever these words are.
+
+ghost use Rattle.nam_index.specs.PathLaw.{PathLaw, FindIsLaw, ClaimIsLaw};
+ghost use Rattle.nam_index.specs.FindLaw.{FoundLaw, AbsentLaw, FindReachesLaw};
+ghost use Rattle.nam_index.specs.ClaimLaw.{ClaimedLaw, NoSpaceLaw, ClaimReachesLaw};
+
+/// The path of a key goes through each position of the table, and once; and the machines do what the protocol says of
+/// the key and the table.
+pub fn path_law()
+    ensures path { PathLaw }
+    ensures find { FindIsLaw }
+    ensures claim { ClaimIsLaw }
+{}
+
+/// A key is found exactly at the first position of its path that was found to bear it, each before it having been found
+/// to bear another key. It is absent exactly where a position was found to bear none, after such others, or where all
+/// positions of the table were found to bear other keys.
+pub fn find_law()
+    ensures found { FoundLaw }
+    ensures absent { AbsentLaw }
+{}
+
+/// A claim ends at a position exactly where this was found to bear the key, or to bear none and its exchange for the key
+/// was done or was lost to the same key; each position before it on the path having been found to bear another key, by
+/// its read or by a lost exchange. There is no space exactly where all positions of the table were found to bear others.
+pub fn claim_law()
+    ensures claimed { ClaimedLaw }
+    ensures no_space { NoSpaceLaw }
+{}
+
+/// Whatever words are found, each verb reaches the key word of the position that its place says.
+pub fn reach_law()
+    ensures find { FindReachesLaw }
+    ensures claim { ClaimReachesLaw }
+{}

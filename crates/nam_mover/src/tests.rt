@@ -1,6 +1,6 @@
 use crate::{Move, MoveAnswer};
-use nam_trial::{PlainStore, plain_shape};
-use nam_verbs::{Machine, Verb};
+use nam_trial::{PlainStore, exchange, plain_shape, read, takes, write};
+use nam_verbs::Machine;
 use si_model::Stamp;
 use std::alloc::{AllocError, Global};
 
@@ -28,34 +28,6 @@ fn one() -> Stamp {
         thread: 1,
         number: 1,
     }
-}
-
-fn read(at: u64) -> Verb {
-    Verb::Read { at }
-}
-
-fn write(at: u64, word: u64) -> Verb {
-    Verb::Write { at, word }
-}
-
-fn exchange(at: u64, expect: u64, word: u64) -> Verb {
-    Verb::Exchange { at, expect, word }
-}
-
-// The call has these verbs next, one after another, where each finds the word beside it.
-fn takes<M: Machine>(machine: &mut M, steps: &[(Verb, u64)]) -> bool {
-    for (verb, found) in steps {
-        match machine.verb() {
-            Some(stands) => {
-                if stands != *verb {
-                    return false;
-                }
-                machine.take(*found);
-            }
-            None => return false,
-        }
-    }
-    true
 }
 
 #[test]

@@ -1,9 +1,6 @@
-ghost use Rattle.std.specs.Prelude.{◌≡◌, length};
-
 use crate::{CellEnd, ClaimCell, ClaimEnd, FillCell, SearchCells};
-use nam_trial::{PlainStore, plain_shape};
-use nam_verbs::{Machine, Verb};
-use si_model::{Snapshot, Value};
+use nam_trial::{PlainStore, exchange, pair, plain_shape, read, takes, write};
+use nam_verbs::Machine;
 use std::alloc::{AllocError, Global};
 
 // One position of two words, and a bucket with so many cells, from address 13 on.
@@ -11,55 +8,10 @@ fn opened(alloc: Global, cells: u32) -> Result<Option<PlainStore>, AllocError> {
     PlainStore::new(alloc, plain_shape(2, 1, 1, cells))
 }
 
-fn value(first: u64, second: u64) -> Value
-    ensures { length result ≡ 2 }
-{
-    let mut value = Value::new();
-    value.push(first);
-    value.push(second);
-    value
-}
-
-// The snapshot that sees the first worker's numbers up to 1.
-fn seen() -> Snapshot {
-    let mut seen = Snapshot::new();
-    seen.push(1);
-    seen.push(0);
-    seen
-}
-
-// Stamp words of that worker: of number 1, which the snapshot sees, and of number 2, which it does not.
+// Stamp words of the first worker: of number 1, which the snapshots see, and of number 2, which they don't see.
 const ONE: u64 = 34_359_738_376;
 
 const TWO: u64 = 34_359_738_384;
-
-fn read(at: u64) -> Verb {
-    Verb::Read { at }
-}
-
-fn write(at: u64, word: u64) -> Verb {
-    Verb::Write { at, word }
-}
-
-fn exchange(at: u64, expect: u64, word: u64) -> Verb {
-    Verb::Exchange { at, expect, word }
-}
-
-// The call has these verbs, one after another, where each finds the word beside it.
-fn takes<M: Machine>(machine: &mut M, steps: &[(Verb, u64)]) -> bool {
-    for (verb, found) in steps {
-        match machine.verb() {
-            Some(stands) => {
-                if stands != *verb {
-                    return false;
-                }
-                machine.take(*found);
-            }
-            None => return false,
-        }
-    }
-    machine.verb().is_none()
-}
 
 #[test]
 fn a_version_is_put_into_an_opening_cell_and_found_there(
@@ -68,7 +20,7 @@ fn a_version_is_put_into_an_opening_cell_and_found_there(
     let mut store = opened(rt.alloc(), 2)?.expect(&rt, "a store");
     let place = store.place(0, 0).expect(&rt, "a position");
     let cells = store.cells(0).expect(&rt, "a bucket");
-    let mut search = SearchCells::new(cells, place, seen());
+    let mut search = SearchCells::new(cells, place, pair(1, 0));
     assert_eq!(rt; search.left(), 14);
     let verbs = store.run(rt.alloc(), &mut search)?;
     assert!(rt; verbs.as_slice() == [read(13), read(25)].as_slice());
@@ -80,7 +32,7 @@ fn a_version_is_put_into_an_opening_cell_and_found_there(
     assert!(rt; claim.end() == Some(ClaimEnd::Claimed { cell: 0, tag: 1 }));
 
     assert!(rt; cells.cells == 2);
-    let mut fill = FillCell::new(cells, 0, place.row, ONE, TWO, value(7, 8));
+    let mut fill = FillCell::new(cells, 0, place.row, ONE, TWO, pair(7, 8));
     assert_eq!(rt; fill.left(), 5);
     let verbs = store.run(rt.alloc(), &mut fill)?;
     let writes = [
@@ -94,7 +46,7 @@ fn a_version_is_put_into_an_opening_cell_and_found_there(
     assert!(rt; fill.end() == Some(()));
 
     store.set(13, 2);
-    let mut search = SearchCells::new(cells, place, seen());
+    let mut search = SearchCells::new(cells, place, pair(1, 0));
     let verbs = store.run(rt.alloc(), &mut search)?;
     let reads = [
         read(13),
@@ -106,7 +58,7 @@ fn a_version_is_put_into_an_opening_cell_and_found_there(
         read(13),
     ];
     assert!(rt; verbs.as_slice() == reads.as_slice());
-    assert!(rt; search.end() == Some(CellEnd::Found(Some(value(7, 8)))));
+    assert!(rt; search.end() == Some(CellEnd::Found(Some(pair(7, 8)))));
     Ok(())
 }
 
@@ -115,7 +67,7 @@ fn each_word_of_a_cell_can_end_it(rt: HostRuntime) -> Result<(), AllocError> {
     let store = opened(rt.alloc(), 6)?.expect(&rt, "a store");
     let place = store.place(0, 0).expect(&rt, "a position");
     let cells = store.cells(0).expect(&rt, "a bucket");
-    let mut search = SearchCells::new(cells, place, seen());
+    let mut search = SearchCells::new(cells, place, pair(1, 0));
     let steps = [
         // its tag: it is being written
         (read(13), 1),
@@ -149,6 +101,7 @@ fn each_word_of_a_cell_can_end_it(rt: HostRuntime) -> Result<(), AllocError> {
         (read(73), 6),
     ];
     assert!(rt; takes(&mut search, &steps));
+    assert_eq!(rt; search.verb(), None);
     assert!(rt; search.end() == Some(CellEnd::Found(None)));
     Ok(())
 }

@@ -1,4 +1,4 @@
 mod SearchLemmas
-mod ClaimLemmas
-mod FillLemmas
+pub mod ClaimLemmas
+pub mod FillLemmas
 mod ReachLemmas

@@ -31,7 +31,8 @@ pub record FillingFits (cells : Cells) (cell : ℕ) (version : Version) (state :
 -- a new filling
 abbrev pub filling : Cells → ℕ → ℕ → ℕ → ℕ → List ℕ → Filling
 filling cells cell owner begin ending words =
-    record { cells = cells; cell = cell; owner = owner; version = record { begin = begin; «end» = ending; value = words }; state = At fill_begin }
+    let version : Version = record { begin = begin; «end» = ending; value = words } in
+    record { cells = cells; cell = cell; owner = owner; version = version; state = At fill_begin }
 
 -- the same as a running call
 abbrev pub running : Filling → Running FillPlace (Unit {0})

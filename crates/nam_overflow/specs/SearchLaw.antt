@@ -1,5 +1,6 @@
 -- When a search of a bucket's cells finds a version, and when it finds none.
-use Rattle.std.specs.Prelude.{◌≡◌, ◌≢◌, ℕ, ◌<◌, true, false, List, [], ◌∷◌, ◌++◌, length, Option, Some, None, if◌then◌else◌, ◌↔◌}
+use Rattle.std.specs.Prelude.{◌≡◌, ◌≢◌, ℕ, ◌<◌, true, false, List, [], ◌∷◌, ◌++◌, length, Option, Some, None}
+use Rattle.std.specs.Prelude.{if◌then◌else◌, ◌↔◌}
 use Rattle.nam_verbs.specs.Running.{Always}
 use Rattle.nam_verbs.specs.Steps.{Step, saw, saw_words, EndsWith, Stretches, StopsAt}
 use Rattle.nam_catalog.specs.declared.shape.Shape.{Shape}
@@ -28,7 +29,8 @@ module _ (cells : Cells) (place : Place) (seen : List ℕ) where
 
   -- after these the version's header and its end
   abbrev pub dated : ℕ → ℕ → ℕ → ℕ → List Step
-  dated cell tag header ending = owned cell tag ++ saw (begin_at cells cell) header ∷ saw (end_at cells cell) ending ∷ []
+  dated cell tag header ending =
+      owned cell tag ++ saw (begin_at cells cell) header ∷ saw (end_at cells cell) ending ∷ []
 
   -- and after these its words
   abbrev pub looked : ℕ → ℕ → ℕ → ℕ → List ℕ → List Step
@@ -41,14 +43,16 @@ module _ (cells : Cells) (place : Place) (seen : List ℕ) where
         → steps ≡ saw (tag_at cells cell) tag ∷ saw (owner_at cells cell) owner ∷ [] → CellEnded cell steps
     by_header : (tag header : ℕ) → is_full tag ≡ true → sees place.form seen header ≡ false
         → steps ≡ owned cell tag ++ saw (begin_at cells cell) header ∷ [] → CellEnded cell steps
-    by_end : (tag header ending : ℕ) → HasSeen tag header → sees place.form seen ending ≡ true → steps ≡ dated cell tag header ending
-        → CellEnded cell steps
-    by_change : (tag header ending : ℕ) (words : List ℕ) (again : ℕ) → HasSeen tag header → sees place.form seen ending ≡ false
-        → length words ≡ place.width → again ≢ tag → steps ≡ looked cell tag header ending words ++ saw (tag_at cells cell) again ∷ []
+    by_end : (tag header ending : ℕ) → HasSeen tag header → sees place.form seen ending ≡ true
+        → steps ≡ dated cell tag header ending → CellEnded cell steps
+    by_change : (tag header ending : ℕ) (words : List ℕ) (again : ℕ) → HasSeen tag header
+        → sees place.form seen ending ≡ false → length words ≡ place.width → again ≢ tag
+        → steps ≡ looked cell tag header ending words ++ saw (tag_at cells cell) again ∷ []
         → CellEnded cell steps
 
-  -- A cell has what the snapshot sees: its tag says that it is full, the row owns it, its header is visible, its end isn't, and
-  -- the same tag was found again after the words. The value is those words, and absent where the header is a deletion's.
+  -- A cell has what the snapshot sees: its tag says that it is full, the row owns it, its header is visible, its end
+  -- isn't, and the same tag was found again after the words. The value is those words, and absent where the header is
+  -- a deletion's.
   pub record CellGives (value : Option (List ℕ)) (cell : ℕ) (steps : List Step) : Type 0 where
     pub tag : ℕ
     pub header : ℕ
@@ -63,18 +67,21 @@ module _ (cells : Cells) (place : Place) (seen : List ℕ) where
 -- found exactly where a cell has it, after each cell before it was ended by a word found
 abbrev pub FoundLaw : Type 0
 FoundLaw =
-    (cells : Cells) (place : Place) → FitsCells cells → FitsPlace place → (seen : List ℕ) (steps : List Step) (value : Option (List ℕ))
+    (cells : Cells) (place : Place) → FitsCells cells → FitsPlace place
+    → (seen : List ℕ) (steps : List Step) (value : Option (List ℕ))
     → EndsWith (running (searching cells place seen)) steps (Found value)
     ↔ StopsAt (CellEnded cells place seen) (CellGives cells place seen value) cells.cells steps
 
 -- not there exactly where each cell was ended by a word found
 abbrev pub NotThereLaw : Type 0
 NotThereLaw = (cells : Cells) (place : Place) → FitsCells cells → FitsPlace place → (seen : List ℕ) (steps : List Step)
-    → EndsWith (running (searching cells place seen)) steps NotThere ↔ Stretches (CellEnded cells place seen) 0 cells.cells steps
+    → EndsWith (running (searching cells place seen)) steps NotThere
+    ↔ Stretches (CellEnded cells place seen) 0 cells.cells steps
 
 -- whatever words are found, each verb reads the field of its place in the bucket's cells
 abbrev pub SearchReachesLaw : Type 0
 SearchReachesLaw =
-    (shape : Shape) → FitsLimits shape → (row : ℕ) → IsRow shape row → (bucket : ℕ) → bucket < shape.buckets → (seen : List ℕ)
+    (shape : Shape) → FitsLimits shape → (row : ℕ) → IsRow shape row → (bucket : ℕ) → bucket < shape.buckets
+    → (seen : List ℕ)
     → Always (λ at. Reaches shape (cell_verb (cells_of shape bucket) at) (cell_field (cells_of shape bucket) at))
     (running (searching (cells_of shape bucket) (row_place shape row) seen))

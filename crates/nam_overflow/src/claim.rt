@@ -5,7 +5,8 @@ ghost use Rattle.nam_verbs.specs.Verb.{address_of};
 ghost use Rattle.nam_verbs.specs.Running.{verbs_left};
 ghost use Rattle.nam_layout.specs.PlaceFits.{FitsCells};
 ghost use Rattle.nam_words.specs.Ends.{cells_end};
-ghost use Rattle.nam_calls.specs.Overflow.{claim_begin as begin, claim_verb as verb_at, claim_next as next_at, claim_after as after_word, claim_left as left_at};
+ghost use Rattle.nam_calls.specs.Overflow.{claim_begin as begin, claim_verb as verb_at, claim_next as next_at};
+ghost use Rattle.nam_calls.specs.Overflow.{claim_after as after_word, claim_left as left_at};
 ghost use Rattle.nam_calls.specs.Fits.{ClaimFits};
 ghost use Rattle.nam_overflow.specs.Claim.{claiming, running};
 
@@ -93,8 +94,8 @@ pub fn claim_left(cells: &Cells, at: &ClaimPlace) -> u64
     }
 }
 
-/// The claim of the first cell of a bucket that is free, and that no other takes before. It exchanges a free tag for one of
-/// the same generation that says that the cell is being written.
+/// The claim of the first cell of a bucket that is free, and that no other takes before. It exchanges a free tag for
+/// one of the same generation that says that the cell is being written.
 #[derive(Debug, Drop)]
 pub struct ClaimCell {
     cells: Cells,

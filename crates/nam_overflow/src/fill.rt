@@ -5,7 +5,8 @@ ghost use Rattle.nam_verbs.specs.Verb.{address_of};
 ghost use Rattle.nam_verbs.specs.Running.{verbs_left};
 ghost use Rattle.nam_layout.specs.PlaceFits.{FitsCells};
 ghost use Rattle.nam_words.specs.Ends.{cells_end};
-ghost use Rattle.nam_calls.specs.Overflow.{fill_begin as begin, fill_verb as verb_at, fill_after as after_word, fill_left as left_at};
+ghost use Rattle.nam_calls.specs.Overflow.{fill_begin as begin, fill_verb as verb_at, fill_after as after_word};
+ghost use Rattle.nam_calls.specs.Overflow.{fill_left as left_at};
 ghost use Rattle.nam_calls.specs.Fits.{FillFits};
 ghost use Rattle.nam_overflow.specs.Fill.{filling, running};
 
@@ -86,8 +87,8 @@ pub fn fill_left(width: u32, at: &FillPlace) -> u64
     }
 }
 
-/// The filling of a cell with a version of a row: its owner, begin, end and words are written, and nothing else. The cell's
-/// tag says that it is being written until its claimer writes another.
+/// The filling of a cell with a version of a row: its owner, begin, end and words are written, and nothing else. The
+/// cell's tag says that it is being written until its claimer writes another.
 #[derive(Debug, Drop)]
 pub struct FillCell {
     cells: Cells,
@@ -108,8 +109,8 @@ impl Model for FillCell {
 }
 
 impl FillCell {
-    /// The filling of this cell of the bucket with a version of row `owner`: its header, the word of its successor's stamp,
-    /// and its data words.
+    /// The filling of this cell of the bucket with a version of row `owner`: its header, the word of its successor's
+    /// stamp, and its data words.
     pub fn new(cells: Cells, cell: u32, owner: u32, begin: u64, end: u64, words: Value) -> FillCell
         requires fits { FitsCells cells }
         requires cell { cell < cells.cells }

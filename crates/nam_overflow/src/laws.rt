@@ -4,16 +4,17 @@ ghost use Rattle.nam_overflow.specs.SearchLaw.{FoundLaw, NotThereLaw, SearchReac
 ghost use Rattle.nam_overflow.specs.ClaimLaw.{ClaimedLaw, NoRoomLaw, ClaimReachesLaw};
 ghost use Rattle.nam_overflow.specs.FillLaw.{FillLaw, FillReachesLaw};
 
-/// A search finds a value exactly where a cell has it, after each cell before it was ended by a word found: the cell's tag
-/// says that it is full, the row owns it, the snapshot sees its header and not its end, and the same tag was found after
-/// the words. It finds none exactly where each cell was ended by a word found.
+/// A search finds a value exactly where a cell has it, after each cell before it was ended by a word found: the
+/// cell's tag says that it is full, the row owns it, the snapshot sees its header and not its end, and the same tag
+/// was found after the words. It finds none exactly where each cell was ended by a word found.
 pub fn search_law()
     ensures found { FoundLaw }
-    ensures missed { NotThereLaw }
+    ensures not_there { NotThereLaw }
 {}
 
-/// A cell is claimed exactly where its tag was found free and its exchange found the same tag, after each cell before it
-/// was lost: its tag was found not free, or its exchange found another tag. There is no room exactly where each cell was lost.
+/// A cell is claimed exactly where its tag was found free and its exchange found the same tag, after each cell before
+/// it was lost: its tag was found not free, or its exchange found another tag. There is no room exactly where each
+/// cell was lost.
 pub fn claim_law()
     ensures claimed { ClaimedLaw }
     ensures no_room { NoRoomLaw }
@@ -24,8 +25,7 @@ pub fn fill_law()
     ensures { FillLaw }
 {}
 
-/// Whatever words are found, each verb is at the field that its place says, of the bucket's cells, and that field is one of
-/// the shape's.
+/// Whatever words are found, each verb is at a field of the bucket's cells, the one that its place names.
 pub fn reach_law()
     ensures search { SearchReachesLaw }
     ensures claim { ClaimReachesLaw }

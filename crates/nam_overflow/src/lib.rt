@@ -1,9 +1,10 @@
 //! Old versions in the cells of a bucket.
 //!
-//! `SearchCells` looks for the version of a row that a snapshot sees, `ClaimCell` takes the first free cell, and `FillCell`
-//! writes a version into a cell. Whatever words their verbs find, `search_law` says exactly when a version is found, whole,
-//! and when none is there, `claim_law` when a cell is claimed and when there is no room, and `fill_law` which words are
-//! written, and that no others are; `reach_law` says which field of a store each verb is at.
+//! `SearchCells` looks for the version of a row that a snapshot sees, `ClaimCell` takes the first free cell, and
+//! `FillCell` writes a version into a cell. Whatever words their verbs find, `search_law` says exactly when a version
+//! is found, whole, and when none is there, `claim_law` when a cell is claimed and when there is no room, and
+//! `fill_law` which words are written, and that no others are; `reach_law` says which field of a store each verb is
+//! at.
 #![tactic(auto)]
 
 mod claim;

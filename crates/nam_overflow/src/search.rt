@@ -5,7 +5,8 @@ ghost use Rattle.nam_verbs.specs.Verb.{address_of};
 ghost use Rattle.nam_verbs.specs.Running.{verbs_left};
 ghost use Rattle.nam_layout.specs.PlaceFits.{FitsPlace, FitsCells};
 ghost use Rattle.nam_words.specs.Ends.{cells_end};
-ghost use Rattle.nam_calls.specs.Overflow.{cell_begin as begin, cell_verb as verb_at, next_cell as next_at, cell_after as after_word};
+ghost use Rattle.nam_calls.specs.Overflow.{cell_begin as begin, cell_verb as verb_at, next_cell as next_at};
+ghost use Rattle.nam_calls.specs.Overflow.{cell_after as after_word};
 ghost use Rattle.nam_calls.specs.Overflow.{cells_left as left_after, cell_left as left_at};
 ghost use Rattle.nam_calls.specs.Fits.{CellFits};
 ghost use Rattle.nam_overflow.specs.Search.{searching, running};
@@ -173,9 +174,9 @@ pub fn cell_left(cells: &Cells, place: &Place, at: &CellPlace) -> u64
     }
 }
 
-/// The search of a bucket's cells for the version of a row that a snapshot sees: cell after cell, until one has it. A cell
-/// has it where its tag says that it is full, it belongs to the row, the snapshot sees its header and not its end, and the
-/// tag is the same after the words.
+/// The search of a bucket's cells for the version of a row that a snapshot sees: cell after cell, until one has it. A
+/// cell has it where its tag says that it is full, it belongs to the row, the snapshot sees its header and not its
+/// end, and the tag is the same after the words.
 #[derive(Debug, Drop)]
 pub struct SearchCells {
     cells: Cells,

@@ -2,9 +2,9 @@ use Rattle.nam_overflow.proofs.SearchLemmas.{found_by, finds_by, missed_by, miss
 use Rattle.nam_overflow.proofs.laws.search_law.Goals as goal
 
 pub returns-clause-found : goal.returns-clause-found
-returns-clause-found c = λ cells place room fits seen steps value.
+returns-clause-found c cells place room fits seen steps value =
     (found_by cells place room fits seen steps value, finds_by cells place room fits seen steps value)
 
-pub returns-clause-missed : goal.returns-clause-missed
-returns-clause-missed c = λ cells place room fits seen steps.
+pub returns-clause-not_there : goal.returns-clause-not_there
+returns-clause-not_there c cells place room fits seen steps =
     (missed_by cells place room fits seen steps, misses_by cells place room fits seen steps)

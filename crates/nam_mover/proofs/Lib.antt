@@ -1,0 +1,6 @@
+mod PartLemmas
+mod MoveLemmas
+mod ReachLemmas
+mod HistoryLemmas
+mod ClaimedLemmas
+mod OrderLemmas

@@ -1,0 +1,5 @@
+pub mod Move
+pub mod MoveLaw
+pub mod SoFar
+pub mod ClaimedLaw
+pub mod OrderLaw

@@ -1,0 +1,40 @@
+-- The move of an old version as a machine.
+use Rattle.std.specs.Prelude.{Option, None}
+use Rattle.si_model.specs.declared.log.Stamp.{Stamp}
+use Rattle.nam_verbs.specs.declared.now.Now.{Now}
+use Rattle.nam_verbs.specs.declared.now.Now.TheVariants.{At, Over}
+use Rattle.nam_verbs.specs.Running.{Running}
+use Rattle.nam_layout.specs.declared.field.Place.{Place}
+use Rattle.nam_layout.specs.declared.field.Cells.{Cells}
+use Rattle.nam_calls.specs.declared.mover.MovePlace.{MovePlace}
+use Rattle.nam_calls.specs.declared.mover.MoveAnswer.{MoveAnswer}
+use Rattle.nam_calls.specs.Mover.{move_begin, move_verb, move_after, move_left, move_claimed}
+use Rattle.nam_words.specs.Ends.{place_end, cells_end, later}
+
+-- the move of a position's old version into one of these cells, and where it stands
+pub record Moving : Type 0 where
+  pub place : Place
+  pub cells : Cells
+  pub state : Now MovePlace MoveAnswer
+
+-- a new move
+abbrev pub moving : Place → Cells → Moving
+moving place cells = record { place = place; cells = cells; state = At move_begin }
+
+-- the same as a running call
+abbrev pub running : Moving → Running MovePlace MoveAnswer
+running a = record {
+  verb = move_verb a.place a.cells;
+  after = move_after a.place a.cells;
+  left = move_left a.place a.cells;
+  reach = later (place_end a.place) (cells_end a.cells);
+  state = a.state;
+}
+
+-- the version for which a cell was claimed, at a place or after the end
+abbrev pub claimed_in : Place → Now MovePlace MoveAnswer → Option Stamp
+claimed_in place (At at) = move_claimed place at
+claimed_in place (Over end) = None
+
+abbrev pub claimed_now : Moving → Option Stamp
+claimed_now a = claimed_in a.place a.state

@@ -1,0 +1,288 @@
+//! The places of a move.
+
+ghost use Rattle.std.specs.Prelude.{◌≡◌, ◌<◌};
+ghost use Rattle.nam_verbs.specs.Verb.{address_of};
+ghost use Rattle.nam_layout.specs.PlaceFits.{FitsPlace, FitsCells};
+ghost use Rattle.nam_calls.specs.Fits.{MoveFits};
+ghost use Rattle.nam_calls.specs.Mover.{move_begin as begin, move_verb as verb_at, move_after as after_word};
+ghost use Rattle.nam_calls.specs.Mover.{move_left as left_at};
+ghost use Rattle.nam_calls.specs.Mover.{on_claim as after_claim, on_fill as after_fill, move_claimed as claimed_at};
+ghost use Rattle.nam_words.specs.Ends.{place_end, cells_end, later};
+
+use nam_calls::{ClaimEnd, ClaimPlace, FillPlace, MoveAnswer, MovePlace, Version};
+use nam_header::with_moved;
+use nam_layout::{Cells, Place};
+use nam_overflow::{
+    claim_after, claim_begin, claim_left, claim_verb, fill_after, fill_begin, fill_left, fill_verb,
+};
+use nam_verbs::{Now, Verb};
+use nam_words::{
+    freed, full, is_moved, slot_at, slot_end_at, slot_of, slot_word_at, stamp_in, tag_at,
+    without_moved,
+};
+use si_model::{Stamp, Value};
+
+/// Where a move begins: at the number of the current version.
+pub fn move_begin() -> MovePlace
+    ensures { result ≡ begin }
+{
+    MovePlace::MoveCount
+}
+
+/// The verb that stands at a place.
+pub fn move_verb(place: &Place, cells: &Cells, at: &MovePlace) -> Verb
+    requires place { FitsPlace place.now }
+    requires cells { FitsCells cells.now }
+    requires at { MoveFits place.now cells.now at.now }
+    ensures value { result ≡ verb_at place.now cells.now at.now }
+    ensures within { address_of result < later (place_end place.now) (cells_end cells.now) }
+{
+    match at {
+        MovePlace::MoveCount => Verb::Read { at: place.count_at },
+        MovePlace::MoveHead { slot } => Verb::Read {
+            at: slot_at(place, *slot),
+        },
+        MovePlace::MoveEnding { slot, .. } => Verb::Read {
+            at: slot_end_at(place, *slot),
+        },
+        MovePlace::MoveClaim { at, .. } => claim_verb(cells, at),
+        MovePlace::MoveWords { slot, got, .. } => Verb::Read {
+            at: slot_word_at(place, *slot, got.len() as u32),
+        },
+        MovePlace::MoveFill {
+            cell,
+            version,
+            at,
+            ..
+        } => fill_verb(cells, *cell, place.row, version, at),
+        MovePlace::MoveAgain { slot, .. } => Verb::Read {
+            at: slot_at(place, *slot),
+        },
+        MovePlace::MoveFull { cell, tag, .. } => Verb::Write {
+            at: tag_at(cells, *cell),
+            word: full(*tag),
+        },
+        MovePlace::MoveFlag { slot, header } => Verb::Exchange {
+            at: slot_at(place, *slot),
+            expect: *header,
+            word: with_moved(*header),
+        },
+        MovePlace::MoveBack { cell, tag, .. } => Verb::Write {
+            at: tag_at(cells, *cell),
+            word: freed(*tag),
+        },
+    }
+}
+
+// Once a cell is claimed, the slot's words are read.
+fn on_claim(
+    cells: &Cells,
+    slot: u32,
+    header: u64,
+    ending: u64,
+    now: Now<ClaimPlace, ClaimEnd>,
+) -> Now<MovePlace, MoveAnswer>
+    ensures { result ≡ after_claim cells.now slot header ending now }
+{
+    match now {
+        Now::At(at) => Now::At(MovePlace::MoveClaim {
+            slot,
+            header,
+            ending,
+            at,
+        }),
+        Now::Over(ClaimEnd::Claimed { cell, tag }) => Now::At(MovePlace::MoveWords {
+            slot,
+            header,
+            ending,
+            cell,
+            tag,
+            got: Value::new(),
+        }),
+        Now::Over(ClaimEnd::NoRoom) => Now::Over(MoveAnswer::NoRoom {
+            bucket: cells.bucket,
+        }),
+    }
+}
+
+// Once the cell is filled, the slot's header is read again.
+fn on_fill(
+    slot: u32,
+    header: u64,
+    cell: u32,
+    tag: u64,
+    version: Version,
+    now: Now<FillPlace, ()>,
+) -> Now<MovePlace, MoveAnswer>
+    ensures { result ≡ after_fill slot header cell tag version now }
+{
+    match now {
+        Now::At(at) => Now::At(MovePlace::MoveFill {
+            slot,
+            header,
+            cell,
+            tag,
+            version,
+            at,
+        }),
+        Now::Over(()) => Now::At(MovePlace::MoveAgain {
+            slot,
+            header,
+            cell,
+            tag,
+        }),
+    }
+}
+
+/// What follows the word that the verb of a place found.
+pub fn move_after(
+    place: &Place,
+    cells: &Cells,
+    at: MovePlace,
+    found: u64,
+) -> Now<MovePlace, MoveAnswer>
+    requires place { FitsPlace place.now }
+    requires cells { FitsCells cells.now }
+    requires at { MoveFits place.now cells.now at }
+    ensures { result ≡ after_word place.now cells.now at found }
+{
+    match at {
+        MovePlace::MoveCount => Now::At(MovePlace::MoveHead {
+            slot: slot_of(place, found),
+        }),
+        MovePlace::MoveHead { slot } => {
+            if is_moved(place.form, found) {
+                Now::Over(MoveAnswer::Nothing)
+            } else {
+                Now::At(MovePlace::MoveEnding {
+                    slot,
+                    header: found,
+                })
+            }
+        }
+        MovePlace::MoveEnding { slot, header } => Now::At(MovePlace::MoveClaim {
+            slot,
+            header,
+            ending: found,
+            at: claim_begin(),
+        }),
+        MovePlace::MoveClaim {
+            slot,
+            header,
+            ending,
+            at,
+        } => on_claim(cells, slot, header, ending, claim_after(cells, at, found)),
+        MovePlace::MoveWords {
+            slot,
+            header,
+            ending,
+            cell,
+            tag,
+            mut got,
+        } => {
+            got.push(found);
+            if got.len() == place.width as usize {
+                Now::At(MovePlace::MoveFill {
+                    slot,
+                    header,
+                    cell,
+                    tag,
+                    version: Version {
+                        begin: without_moved(place.form, header),
+                        end: ending,
+                        value: got,
+                    },
+                    at: fill_begin(),
+                })
+            } else {
+                Now::At(MovePlace::MoveWords {
+                    slot,
+                    header,
+                    ending,
+                    cell,
+                    tag,
+                    got,
+                })
+            }
+        }
+        MovePlace::MoveFill {
+            slot,
+            header,
+            cell,
+            tag,
+            version,
+            at,
+        } => on_fill(
+            slot,
+            header,
+            cell,
+            tag,
+            version,
+            fill_after(place.width, at),
+        ),
+        MovePlace::MoveAgain {
+            slot,
+            header,
+            cell,
+            tag,
+        } => {
+            if found == header {
+                Now::At(MovePlace::MoveFull {
+                    slot,
+                    header,
+                    cell,
+                    tag,
+                })
+            } else {
+                Now::At(MovePlace::MoveBack { header, cell, tag })
+            }
+        }
+        MovePlace::MoveFull { slot, header, .. } => Now::At(MovePlace::MoveFlag { slot, header }),
+        MovePlace::MoveFlag { header, .. } => Now::Over(MoveAnswer::Moved {
+            stamp: stamp_in(place.form, header),
+        }),
+        MovePlace::MoveBack { header, .. } => Now::Over(MoveAnswer::Back {
+            stamp: stamp_in(place.form, header),
+        }),
+    }
+}
+
+/// The stamp of the version for which a cell was claimed, and none before one was.
+pub fn move_claimed(place: &Place, at: &MovePlace) -> Option<Stamp>
+    ensures { result ≡ claimed_at place.now at.now }
+{
+    match at {
+        MovePlace::MoveCount
+        | MovePlace::MoveHead { .. }
+        | MovePlace::MoveEnding { .. }
+        | MovePlace::MoveClaim { .. } => None,
+        MovePlace::MoveWords { header, .. }
+        | MovePlace::MoveFill { header, .. }
+        | MovePlace::MoveAgain { header, .. }
+        | MovePlace::MoveFull { header, .. }
+        | MovePlace::MoveFlag { header, .. }
+        | MovePlace::MoveBack { header, .. } => Some(stamp_in(place.form, *header)),
+    }
+}
+
+/// A number of verbs that are to come from a place at the most.
+pub fn move_left(place: &Place, cells: &Cells, at: &MovePlace) -> u64
+    requires place { FitsPlace place.now }
+    requires cells { FitsCells cells.now }
+    requires at { MoveFits place.now cells.now at.now }
+    ensures { result ≡ left_at place.now cells.now at.now }
+{
+    let width = place.width as u64;
+    let claim = 2 * cells.cells as u64;
+    match at {
+        MovePlace::MoveCount => claim + 2 * width + 9,
+        MovePlace::MoveHead { .. } => claim + 2 * width + 8,
+        MovePlace::MoveEnding { .. } => claim + 2 * width + 7,
+        MovePlace::MoveClaim { at, .. } => claim_left(cells, at) + 2 * width + 6,
+        MovePlace::MoveWords { got, .. } => width - got.len() as u64 + width + 6,
+        MovePlace::MoveFill { at, .. } => fill_left(place.width, at) + 3,
+        MovePlace::MoveAgain { .. } => 3,
+        MovePlace::MoveFull { .. } => 2,
+        MovePlace::MoveFlag { .. } | MovePlace::MoveBack { .. } => 1,
+    }
+}

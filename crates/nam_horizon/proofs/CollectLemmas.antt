@@ -215,4 +215,111 @@ module _ (cells : Cells) (some_cells : 1 ≤ cells.cells) (workers : ℕ) (some 
 
   known_from : (more : ℕ) (known : List ℕ) → length known + suc more ≡ workers → (steps : List Step) (end : List ℕ)
       → EndsFrom (At (HorizonLook known)) steps end → AllKnown known (suc more) steps end
-  known_from more known all steps end ends = ?
+  known_from zero known all steps end ends =
+      let part = part_look known steps end ends in
+      let entry = part.0 in
+      let long = length-append known (entry ∷ []) in
+      (
+        entry ∷ [],
+        part.1,
+        part.2,
+        part.3,
+        refl,
+        (part.1, [], sym (append-nil part.1), part.4, refl),
+        ends_as _ _ part.2 end (last_entry (known ++ entry ∷ []) (omega arith)) part.5,
+      )
+  known_from (suc more) known all steps end ends =
+      let part = part_look known steps end ends in
+      let entry = part.0 in
+      let long = length-append known (entry ∷ []) in
+      let later = known_from more (known ++ entry ∷ []) (omega arith) part.2 end
+      (ends_as _ _ part.2 end (next_entry (known ++ entry ∷ []) (omega arith)) part.5) in
+      (
+        entry ∷ later.0,
+        part.1 ++ later.1,
+        later.2,
+        part.3 ∙ ap (λ rest. part.1 ++ rest) later.3 ∙ sym (append_assoc part.1 later.1 later.2),
+        ap suc later.4,
+        (part.1, later.1, refl, part.4, subst (λ nth. EntriesKnown workers seen nth later.0 later.1) long later.5),
+        subst (λ all. EndsFrom (At (CollectTag all 0)) later.2 end) (append_assoc known (entry ∷ []) later.0) later.6,
+      )
+
+  all_from : (n : ℕ) → n ≡ workers → 0 < n → (steps : List Step) (end : List ℕ) → EndsFrom (At (HorizonLook [])) steps end → AllKnown [] n steps end
+  all_from zero same none steps end ends = absurd (omega arith)
+  all_from (suc more) same none steps end ends = known_from more [] (omega arith) steps end ends
+
+  -- the other way round
+  by_entries : (entries known : List ℕ) → 0 < length entries → length known + length entries ≡ workers → (raising freeing : List Step) (end : List ℕ)
+      → EntriesKnown workers seen (length known) entries raising → EndsFrom (At (CollectTag (known ++ entries) 0)) freeing end
+      → EndsFrom (At (HorizonLook known)) (raising ++ freeing) end
+  by_entries [] known none all raising freeing end are ends = absurd (omega arith)
+  by_entries (entry ∷ []) known none all raising freeing end are ends =
+      let long = length-append known (entry ∷ []) in
+      let rest = are.4 in
+      rw (are.2, append_assoc are.0 are.1 freeing) (passed_entry known entry are.0 (are.1 ++ freeing) end are.3
+      (ends_as _ _ (are.1 ++ freeing) end (sym (last_entry (known ++ entry ∷ []) (omega arith))) (rw rest ends)))
+  by_entries (entry ∷ next ∷ entries) known none all raising freeing end are ends =
+      let long = length-append known (entry ∷ []) in
+      let later = by_entries (next ∷ entries) (known ++ entry ∷ []) (omega arith) (omega arith) are.1 freeing end
+      (subst (λ nth. EntriesKnown workers seen nth (next ∷ entries) are.1) (sym long) are.4)
+      (subst (λ all. EndsFrom (At (CollectTag all 0)) freeing end) (sym (append_assoc known (entry ∷ []) (next ∷ entries))) ends) in
+      rw (are.2, append_assoc are.0 are.1 freeing) (passed_entry known entry are.0 (are.1 ++ freeing) end are.3
+      (ends_as _ _ (are.1 ++ freeing) end (sym (next_entry (known ++ entry ∷ []) (omega arith))) later))
+
+  -- 3. A whole collection
+
+  pub collected_by : (steps : List Step) (known : List ℕ) → EndsFrom (At (HorizonLook [])) steps known → CollectedBy cells workers seen known steps
+  collected_by steps known ends =
+      let all = all_from workers refl some steps known ends in
+      let bucket = all_cells all.0 all.2 known all.6 in
+      subst (λ known. CollectedBy cells workers seen known steps) bucket.1 (record {
+        all = all.4;
+        raising = all.1;
+        freeing = all.2;
+        steps_are = all.3;
+        entries = all.5;
+        bucket = bucket.0;
+      })
+
+  pub collects_by : (steps : List Step) (known : List ℕ) → CollectedBy cells workers seen known steps → EndsFrom (At (HorizonLook [])) steps known
+  collects_by steps known by =
+      let all = by.all in
+      rw by.steps_are (by_entries known [] (omega arith) (omega arith) by.raising by.freeing known by.entries (by_cells known by.freeing by.bucket))
+
+-- the steps by which an entry became known
+module _ (workers : ℕ) (seen : List ℕ) where
+  abbrev KnownAt : ℕ → ℕ → List Step → Type 0
+  KnownAt nth known steps =
+      (before here after : List Step) × (steps ≡ before ++ here ++ after) × EntryKnown workers seen nth known here
+
+  entry_at : (known : List ℕ) (from : ℕ) (steps : List Step) → EntriesKnown workers seen from known steps → (nth : ℕ) → nth < length known
+      → KnownAt (from + nth) (slice_index known nth) steps
+  entry_at [] from steps are nth less = absurd (omega arith)
+  entry_at (entry ∷ known) from steps are zero less =
+      let here : from ≡ from + 0 = omega arith in
+      ([], are.0, are.1, are.2, subst (λ n. EntryKnown workers seen n entry are.0) here are.3)
+  entry_at (entry ∷ known) from steps are (suc nth) less =
+      let later = entry_at known (from + 1) are.1 are.4 nth (omega arith) in
+      let here : from + 1 + nth ≡ from + suc nth = omega arith in
+      (
+        are.0 ++ later.0,
+        later.1,
+        later.2,
+        are.2 ∙ ap (λ rest. are.0 ++ rest) later.3 ∙ sym (append_assoc are.0 (later.0 ++ later.1) later.2)
+            ∙ ap (λ front. front ++ later.2) (sym (append_assoc are.0 later.0 later.1)),
+        subst (λ n. EntryKnown workers seen n (slice_index known nth) later.1) here later.4,
+      )
+
+  pub known_at : (cells : Cells) (known : List ℕ) (steps : List Step) → CollectedBy cells workers seen known steps → (nth : ℕ) → nth < workers
+      → KnownAt nth (slice_index known nth) steps
+  known_at cells known steps by nth less =
+      let all = by.all in
+      let found = entry_at known 0 by.raising by.entries nth (omega arith) in
+      let here : 0 + nth ≡ nth = omega arith in
+      (
+        found.0,
+        found.1,
+        found.2 ++ by.freeing,
+        by.steps_are ∙ ap (λ front. front ++ by.freeing) found.3 ∙ append_assoc (found.0 ++ found.1) found.2 by.freeing,
+        subst (λ n. EntryKnown workers seen n (slice_index known nth) found.1) here found.4,
+      )

@@ -1,12 +1,12 @@
 -- What a collection makes of the words that it finds.
-use Rattle.std.proofs.Common.{◌≡◌, ◌≢◌, ◌⊎◌, inl, inr, ℕ, zero, suc, ◌+◌, ◌-◌, ◌<◌, ◌≤◌, List, [], ◌∷◌, ◌++◌, length, refl, sym, ◌∙◌, ap, subst, arith, Bool, true, false, ◌&&◌}
-use Rattle.std.specs.Prelude.{◌==◌, nat_lt, if◌then◌else◌, slice_index}
+use Rattle.std.proofs.Common.{◌≡◌, ◌≢◌, ◌⊎◌, inl, inr, ℕ, zero, suc, ◌+◌, ◌<◌, ◌≤◌, List, [], ◌∷◌, ◌++◌, length, refl, sym, ◌∙◌, ap, subst, arith, true, false}
+use Rattle.std.specs.Prelude.{◌==◌, nat_lt, slice_index}
 use Rattle.std.proofs.lemmas.Bool.{cases_lt, cases_eq, cases_Bool}
 use Rattle.std.proofs.lemmas.Bool.Decides.{nat_tests}
-use Rattle.std.proofs.lemmas.List.{append_assoc, append-nil, length-append, get_or_at}
+use Rattle.std.proofs.lemmas.List.{append_assoc, append-nil, length-append}
 use Rattle.nam_verbs.specs.declared.now.Now.{Now}
 use Rattle.nam_verbs.specs.declared.now.Now.TheVariants.{At, Over}
-use Rattle.nam_verbs.specs.Steps.{Step, Ends, saw, tried, Stretches, StopsAt}
+use Rattle.nam_verbs.specs.Steps.{Step, Ends, saw, tried, Stretches}
 use Rattle.nam_verbs.proofs.SearchLemmas.{search_ends, search_misses}
 use Rattle.nam_layout.specs.declared.field.Cells.{Cells}
 use Rattle.nam_calls.specs.declared.horizon.CollectPlace.{CollectPlace}
@@ -15,8 +15,21 @@ use Rattle.nam_calls.specs.Stamps.{stamp_in, is_within, is_full, has_next, freed
 use Rattle.nam_calls.specs.Words.{tag_at, end_at, horizon_at}
 use Rattle.nam_calls.specs.Horizon.{collect_verb, collect_after, entry_known, collect_next}
 use Rattle.nam_words.proofs.ReadingLemmas.{step_of}
-use Rattle.nam_horizon.specs.CollectLaw.{raised, EntryKnown, was_reached, is_raised, was_lost, EntriesKnown}
+use Rattle.nam_horizon.specs.CollectLaw.{EntryKnown, was_reached, is_raised, was_lost, EntriesKnown}
 use Rattle.nam_horizon.specs.CollectLaw.{MayBeFreed, looked, CellCollected, not_full, is_kept, is_freed, CollectedBy}
+
+-- steps in parts
+regrouped : (first raising freeing rest steps : List Step) → steps ≡ first ++ rest → rest ≡ raising ++ freeing → steps ≡ (first ++ raising) ++ freeing
+regrouped first raising freeing rest steps is parts = rw (is, parts) (sym (append_assoc first raising freeing))
+
+regrouped_here : (first before here after rest steps : List Step) → steps ≡ first ++ rest → rest ≡ (before ++ here) ++ after
+    → steps ≡ ((first ++ before) ++ here) ++ after
+regrouped_here first before here after rest steps is parts =
+    regrouped first (before ++ here) after rest steps is parts ∙ ap (λ front. front ++ after) (sym (append_assoc first before here))
+
+regrouped_after : (before here after freeing raising steps : List Step) → steps ≡ raising ++ freeing → raising ≡ (before ++ here) ++ after
+    → steps ≡ (before ++ here) ++ (after ++ freeing)
+regrouped_after before here after freeing raising steps is parts = rw (is, parts) (append_assoc (before ++ here) after freeing)
 
 module _ (cells : Cells) (some_cells : 1 ≤ cells.cells) (workers : ℕ) (some : 1 ≤ workers) (seen : List ℕ) where
   abbrev verb : CollectPlace → Rattle.nam_verbs.specs.declared.verb.Verb.Verb
@@ -70,13 +83,18 @@ module _ (cells : Cells) (some_cells : 1 ≤ cells.cells) (workers : ℕ) (some 
         let ending = step.found in
         let is : step ≡ saw (end_at cells cell) ending = step_of _ step ends.0 in
         let kept : (is_within (stamp_in cells.form ending) known ≡ false) ⊎ (has_next tag ≡ false) → Parts cell (saw (tag_at cells cell) tag ∷ step ∷ steps) end =
-        λ why. (saw (tag_at cells cell) tag ∷ step ∷ [], steps, refl, is_kept tag ending full why (rw (← is) refl),
-          ends_as _ _ steps end (keeps_goes cell tag ending why) ends.1) in
+        λ why. (
+          saw (tag_at cells cell) tag ∷ step ∷ [],
+          steps,
+          refl,
+          is_kept tag ending full why (rw (← is) refl),
+          ends_as _ _ steps end (keeps_goes cell tag ending why) ends.1,
+        ) in
         elim (cases_Bool (is_within (stamp_in cells.form ending) known)) [
           | inl within ↦ elim (cases_Bool (has_next tag)) [
             | inl next ↦
-              let may : MayBeFreed cells known tag ending = record { full = full; passed = within; next = next } in
-              rw is (part_free cell tag ending may steps end (ends_as _ _ steps end (frees_goes cell tag ending may) ends.1))
+                let may : MayBeFreed cells known tag ending = record { full = full; passed = within; next = next } in
+                rw is (part_free cell tag ending may steps end (ends_as _ _ steps end (frees_goes cell tag ending may) ends.1))
             | inr last ↦ kept (inr last)
           ]
           | inr not_within ↦ kept (inl not_within)
@@ -90,7 +108,7 @@ module _ (cells : Cells) (some_cells : 1 ≤ cells.cells) (workers : ℕ) (some 
         elim (cases_Bool (is_full tag)) [
           | inl full ↦ rw is (part_end cell tag full steps end (ends_as _ _ steps end (full_goes cell tag full) ends.1))
           | inr other ↦
-            (step ∷ [], steps, refl, not_full tag other (rw (← is) refl), ends_as _ _ steps end (other_goes cell tag other) ends.1)
+              (step ∷ [], steps, refl, not_full tag other (rw (← is) refl), ends_as _ _ steps end (other_goes cell tag other) ends.1)
         ]
 
     -- the other way round
@@ -99,14 +117,18 @@ module _ (cells : Cells) (some_cells : 1 ≤ cells.cells) (workers : ℕ) (some 
     passed_cell cell first rest end (not_full tag other is) ends =
         rw is (refl, ends_as _ _ rest end (sym (other_goes cell tag other)) ends)
     passed_cell cell first rest end (is_kept tag ending full why is) ends =
-        rw is
-        (refl, ends_as _ _ (saw (end_at cells cell) ending ∷ rest) end (sym (full_goes cell tag full))
-        (refl, ends_as _ _ rest end (sym (keeps_goes cell tag ending why)) ends))
+        rw is (
+          refl,
+          ends_as _ _ (saw (end_at cells cell) ending ∷ rest) end (sym (full_goes cell tag full))
+              (refl, ends_as _ _ rest end (sym (keeps_goes cell tag ending why)) ends),
+        )
     passed_cell cell first rest end (is_freed tag ending word may is) ends =
         let free = tried (tag_at cells cell) tag (freed tag) word in
-        rw is
-        (refl, ends_as _ _ (saw (end_at cells cell) ending ∷ free ∷ rest) end (sym (full_goes cell tag may.full))
-        (refl, ends_as _ _ (free ∷ rest) end (sym (frees_goes cell tag ending may)) (refl, ends)))
+        rw is (
+          refl,
+          ends_as _ _ (saw (end_at cells cell) ending ∷ free ∷ rest) end (sym (full_goes cell tag may.full))
+              (refl, ends_as _ _ (free ∷ rest) end (sym (frees_goes cell tag ending may)) (refl, ends)),
+        )
 
     -- cell after cell
     goes_on : (cell : ℕ) → cell + 1 < cells.cells → collect_next cells known cell ≡ At (CollectTag known (cell + 1))
@@ -167,12 +189,22 @@ module _ (cells : Cells) (some_cells : 1 ≤ cells.cells) (workers : ℕ) (some 
         let found = step.found in
         let is : step ≡ tried at entry own found = step_of _ step ends.0 in
         elim (cases_eq found entry) [
-          | inl same ↦
-            (own, saw at entry ∷ step ∷ [], steps, refl, is_raised entry lower refl (ap (λ s. saw at entry ∷ s ∷ []) (is ∙ ap (tried at entry own) same)),
-            ends_as _ _ steps end (done_goes entry found same) ends.1)
-          | inr other ↦
-            (found, saw at entry ∷ step ∷ [], steps, refl, was_lost entry lower other (ap (λ s. saw at entry ∷ s ∷ []) is),
-            ends_as _ _ steps end (lost_goes entry found other) ends.1)
+          | inl same ↦ (
+            own,
+            saw at entry ∷ step ∷ [],
+            steps,
+            refl,
+            is_raised entry lower refl (ap (λ s. saw at entry ∷ s ∷ []) (is ∙ ap (tried at entry own) same)),
+            ends_as _ _ steps end (done_goes entry found same) ends.1,
+          )
+          | inr other ↦ (
+            found,
+            saw at entry ∷ step ∷ [],
+            steps,
+            refl,
+            was_lost entry lower other (ap (λ s. saw at entry ∷ s ∷ []) is),
+            ends_as _ _ steps end (lost_goes entry found other) ends.1,
+          )
         ]
 
     part_look : (steps : List Step) (end : List ℕ) → EndsFrom (At (HorizonLook known)) steps end → Known steps end
@@ -183,7 +215,7 @@ module _ (cells : Cells) (some_cells : 1 ≤ cells.cells) (workers : ℕ) (some 
         elim (cases_lt found own) [
           | inl lower ↦ rw is (part_raise found lower steps end (ends_as _ _ steps end (lower_goes found lower) ends.1))
           | inr least ↦
-            (found, step ∷ [], steps, refl, was_reached least (ap (λ s. s ∷ []) is), ends_as _ _ steps end (reached_goes found least) ends.1)
+              (found, step ∷ [], steps, refl, was_reached least (ap (λ s. s ∷ []) is), ends_as _ _ steps end (reached_goes found least) ends.1)
         ]
 
     -- the other way round
@@ -192,13 +224,17 @@ module _ (cells : Cells) (some_cells : 1 ≤ cells.cells) (workers : ℕ) (some 
     passed_entry entry first rest end (was_reached least is) ends =
         rw is (refl, ends_as _ _ rest end (sym (reached_goes entry least)) ends)
     passed_entry entry first rest end (is_raised found lower same is) ends =
-        rw is
-        (refl, ends_as _ _ (tried at found own found ∷ rest) end (sym (lower_goes found lower))
-        (refl, ends_as _ _ rest end (sym (done_goes found found refl)) (subst (λ e. EndsFrom (entry_known workers (known ++ e ∷ [])) rest end) same ends)))
+        rw is (
+          refl,
+          ends_as _ _ (tried at found own found ∷ rest) end (sym (lower_goes found lower))
+              (refl, ends_as _ _ rest end (sym (done_goes found found refl)) (subst (λ e. EndsFrom (entry_known workers (known ++ e ∷ [])) rest end) same ends)),
+        )
     passed_entry entry first rest end (was_lost found lower other is) ends =
-        rw is
-        (refl, ends_as _ _ (tried at found own entry ∷ rest) end (sym (lower_goes found lower))
-        (refl, ends_as _ _ rest end (sym (lost_goes found entry other)) ends))
+        rw is (
+          refl,
+          ends_as _ _ (tried at found own entry ∷ rest) end (sym (lower_goes found lower))
+              (refl, ends_as _ _ rest end (sym (lost_goes found entry other)) ends),
+        )
 
   -- the next entry, or the cells
   next_entry : (known : List ℕ) → length known < workers → entry_known workers known ≡ At (HorizonLook known)
@@ -218,8 +254,7 @@ module _ (cells : Cells) (some_cells : 1 ≤ cells.cells) (workers : ℕ) (some 
   known_from zero known all steps end ends =
       let part = part_look known steps end ends in
       let entry = part.0 in
-      let long = length-append known (entry ∷ []) in
-      (
+      let long = length-append known (entry ∷ []) in (
         entry ∷ [],
         part.1,
         part.2,
@@ -233,12 +268,11 @@ module _ (cells : Cells) (some_cells : 1 ≤ cells.cells) (workers : ℕ) (some 
       let entry = part.0 in
       let long = length-append known (entry ∷ []) in
       let later = known_from more (known ++ entry ∷ []) (omega arith) part.2 end
-      (ends_as _ _ part.2 end (next_entry (known ++ entry ∷ []) (omega arith)) part.5) in
-      (
+      (ends_as _ _ part.2 end (next_entry (known ++ entry ∷ []) (omega arith)) part.5) in (
         entry ∷ later.0,
         part.1 ++ later.1,
         later.2,
-        part.3 ∙ ap (λ rest. part.1 ++ rest) later.3 ∙ sym (append_assoc part.1 later.1 later.2),
+        regrouped part.1 later.1 later.2 part.2 steps part.3 later.3,
         ap suc later.4,
         (part.1, later.1, refl, part.4, subst (λ nth. EntriesKnown workers seen nth later.0 later.1) long later.5),
         subst (λ all. EndsFrom (At (CollectTag all 0)) later.2 end) (append_assoc known (entry ∷ []) later.0) later.6,
@@ -300,13 +334,11 @@ module _ (workers : ℕ) (seen : List ℕ) where
       ([], are.0, are.1, are.2, subst (λ n. EntryKnown workers seen n entry are.0) here are.3)
   entry_at (entry ∷ known) from steps are (suc nth) less =
       let later = entry_at known (from + 1) are.1 are.4 nth (omega arith) in
-      let here : from + 1 + nth ≡ from + suc nth = omega arith in
-      (
+      let here : from + 1 + nth ≡ from + suc nth = omega arith in (
         are.0 ++ later.0,
         later.1,
         later.2,
-        are.2 ∙ ap (λ rest. are.0 ++ rest) later.3 ∙ sym (append_assoc are.0 (later.0 ++ later.1) later.2)
-            ∙ ap (λ front. front ++ later.2) (sym (append_assoc are.0 later.0 later.1)),
+        regrouped_here are.0 later.0 later.1 later.2 are.1 steps are.2 later.3,
         subst (λ n. EntryKnown workers seen n (slice_index known nth) later.1) here later.4,
       )
 
@@ -315,11 +347,10 @@ module _ (workers : ℕ) (seen : List ℕ) where
   known_at cells known steps by nth less =
       let all = by.all in
       let found = entry_at known 0 by.raising by.entries nth (omega arith) in
-      let here : 0 + nth ≡ nth = omega arith in
-      (
+      let here : 0 + nth ≡ nth = omega arith in (
         found.0,
         found.1,
         found.2 ++ by.freeing,
-        by.steps_are ∙ ap (λ front. front ++ by.freeing) found.3 ∙ append_assoc (found.0 ++ found.1) found.2 by.freeing,
+        regrouped_after found.0 found.1 found.2 by.freeing by.raising steps by.steps_are found.3,
         subst (λ n. EntryKnown workers seen n (slice_index known nth) found.1) here found.4,
       )

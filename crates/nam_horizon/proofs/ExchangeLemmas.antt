@@ -1,5 +1,5 @@
 -- What a collection exchanges.
-use Rattle.std.proofs.Common.{◌≡◌, ◌≢◌, ◌⊎◌, inl, inr, ℕ, zero, suc, ◌+◌, ◌<◌, ◌≤◌, List, [], ◌∷◌, ◌++◌, length, refl, sym, ◌∙◌, ap, subst, arith}
+use Rattle.std.proofs.Common.{◌≡◌, ◌⊎◌, inl, inr, ℕ, zero, suc, ◌+◌, ◌<◌, List, [], ◌∷◌, ◌++◌, length, refl, sym, ◌∙◌, ap, arith}
 use Rattle.std.specs.Prelude.{slice_index}
 use Rattle.std.proofs.lemmas.List.{append_assoc}
 use Rattle.nam_verbs.specs.Steps.{Step, saw, tried, Stretches}
@@ -90,7 +90,7 @@ module _ (cells : Cells) (workers : ℕ) (seen known : List ℕ) where
       elim (in_either (tried address expected new found) first rest before after is) [
         | inl here ↦ are before here.0 address expected new found here.1
         | inr there ↦
-          rw there.1 (later_too first there.0 address expected new (also there.0 after address expected new found there.2))
+            rw there.1 (later_too first there.0 address expected new (also there.0 after address expected new found there.2))
       ]
 
   none : Exchanges []
@@ -104,18 +104,18 @@ module _ (cells : Cells) (workers : ℕ) (seen known : List ℕ) where
       elim (among_two (tried address expected new found) (saw at entry) (tried at entry (slice_index seen nth) word) before after is) [
         | inl read ↦ absurd (no_read address expected new found at entry read)
         | inr exchange ↦
-          let same = same_exchange address expected new found at entry (slice_index seen nth) word exchange.0 in
-          let expected_is = same.1 in
-          let new_is = same.2 in
-          inl (record {
-            nth = nth;
-            within = within;
-            address_is = same.0;
-            new_is = new_is;
-            rises = omega arith;
-            earlier = [];
-            before_is = rw (same.0, expected_is) exchange.1;
-          })
+            let same = same_exchange address expected new found at entry (slice_index seen nth) word exchange.0 in
+            let expected_is = same.1 in
+            let new_is = same.2 in
+            inl (record {
+              nth = nth;
+              within = within;
+              address_is = same.0;
+              new_is = new_is;
+              rises = omega arith;
+              earlier = [];
+              before_is = rw (same.0, expected_is) exchange.1;
+            })
       ]
 
   entry_exchanges : (nth entry : ℕ) (steps : List Step) → nth < workers → EntryKnown workers seen nth entry steps → Exchanges steps
@@ -148,17 +148,17 @@ module _ (cells : Cells) (workers : ℕ) (seen known : List ℕ) where
         | inl (inl read) ↦ absurd (no_read address expected new found (tag_at cells cell) tag read)
         | inl (inr read) ↦ absurd (no_read address expected new found (end_at cells cell) ending read)
         | inr exchange ↦
-          let same = same_exchange address expected new found (tag_at cells cell) tag (freed tag) word exchange.0 in
-          inr (record {
-            cell = cell;
-            within = within;
-            address_is = same.0;
-            new_is = rw same.1 same.2;
-            ending = ending;
-            may = rw same.1 may;
-            earlier = [];
-            before_is = rw same.1 exchange.1;
-          })
+            let same = same_exchange address expected new found (tag_at cells cell) tag (freed tag) word exchange.0 in
+            inr (record {
+              cell = cell;
+              within = within;
+              address_is = same.0;
+              new_is = rw same.1 same.2;
+              ending = ending;
+              may = rw same.1 may;
+              earlier = [];
+              before_is = rw same.1 exchange.1;
+            })
       ]
 
   cells_exchange : (count cell : ℕ) (steps : List Step) → cell + count ≡ cells.cells → Stretches (CellCollected cells known) cell count steps

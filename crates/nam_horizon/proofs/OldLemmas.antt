@@ -1,5 +1,5 @@
 -- What showing that a snapshot is too old makes of the words that it finds.
-use Rattle.std.proofs.Common.{◌≡◌, ◌≢◌, ◌⊎◌, inl, inr, ℕ, ◌+◌, ◌-◌, ◌<◌, ◌≤◌, List, [], ◌∷◌, ◌++◌, refl, sym, ◌∙◌, ap, subst, arith, Bool, true, false}
+use Rattle.std.proofs.Common.{◌≡◌, ◌⊎◌, inl, inr, ℕ, ◌+◌, ◌-◌, ◌<◌, ◌≤◌, List, [], ◌∷◌, ◌++◌, refl, sym, ap, subst, arith, true, false}
 use Rattle.std.specs.Prelude.{◌==◌, nat_lt, if◌then◌else◌, slice_index}
 use Rattle.std.proofs.lemmas.Bool.{cases_lt}
 use Rattle.std.proofs.lemmas.Bool.Decides.{nat_tests}
@@ -65,7 +65,7 @@ module _ (workers : ℕ) (some : 1 ≤ workers) (seen : List ℕ) where
       elim (cases_lt (slice_index seen nth) found) [
         | inl above ↦ inl (rw is (above_stops nth found above steps end (goes _ (above_goes nth found above))))
         | inr least ↦
-          inr (step ∷ [], steps, refl, record { found = found; not_above = least; steps_are = rw (← is) refl }, goes _ (other_goes nth found least))
+            inr (step ∷ [], steps, refl, record { found = found; not_above = least; steps_are = rw (← is) refl }, goes _ (other_goes nth found least))
       ]
 
   -- The other way round.

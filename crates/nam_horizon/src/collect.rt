@@ -180,9 +180,7 @@ impl Model for Collect {
 
     ghost view = { λ a. record { cells = a.cells; workers = a.workers; seen = a.seen; state = a.state } };
 
-    ghost invariant = {
-        λ a. FitsCells a.cells × (a.workers ≤ 16) × (length a.seen ≡ a.workers) × FitsNow (CollectFits a.cells a.workers) a.state
-    };
+    ghost invariant = { λ a. FitsCells a.cells × (a.workers ≤ 16) × (length a.seen ≡ a.workers) × FitsNow (CollectFits a.cells a.workers) a.state };
 }
 
 impl Collect {

@@ -9,6 +9,8 @@
 mod collect;
 mod laws;
 mod old;
+#[cfg(test)]
+mod tests;
 
 pub use collect::{Collect, collect_after, collect_begin, collect_left, collect_verb};
 pub use laws::{collect_law, exchange_law, old_law, reach_law};

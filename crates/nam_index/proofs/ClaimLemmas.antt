@@ -1,6 +1,6 @@
 -- What a claim of a position for a key makes of the words that it finds.
-use Rattle.std.proofs.Common.{◌≡◌, ◌≢◌, ◌⊎◌, inl, inr, ℕ, ◌+◌, ◌<◌, ◌≤◌, List, [], ◌∷◌, ◌++◌, refl, sym, ◌∙◌, ap, subst, arith, Bool, true, false, ◌||◌}
-use Rattle.std.specs.Prelude.{◌==◌, if◌then◌else◌}
+use Rattle.std.proofs.Common.{◌≡◌, ◌≢◌, ◌⊎◌, inl, inr, ℕ, ◌+◌, ◌<◌, ◌≤◌, List, [], ◌∷◌, ◌++◌, refl, sym, subst, arith, true, false, ◌||◌}
+use Rattle.std.specs.Prelude.{◌==◌}
 use Rattle.std.proofs.lemmas.Bool.{cases_eq}
 use Rattle.std.proofs.lemmas.List.{append-nil}
 use Rattle.std.proofs.lemmas.Bool.Decides.{nat_tests}
@@ -84,15 +84,20 @@ module _ (shape : Shape) (table key : ℕ) (some : 1 ≤ capacity_of shape table
       let goes = λ (now : Now ClaimKeyPlace ClaimKeyEnd) (same : after (KeyTake nth) word ≡ now). subst (λ now. EndsFrom now steps end) same ends.1 in
       elim (cases_eq word 0) [
         | inl free ↦
-          inl (rw (is, free) (there_stops nth (exchanged shape table key nth 0) (λ position here. is_claimed here refl) steps end
-          (goes _ (taken_goes nth word (inl free)))))
+            inl (rw (is, free) (there_stops nth (exchanged shape table key nth 0) (λ position here. is_claimed here refl) steps end
+            (goes _ (taken_goes nth word (inl free)))))
         | inr not_free ↦ elim (cases_eq word (key_word key)) [
           | inl same ↦
-            inl (rw (is, same) (there_stops nth (exchanged shape table key nth (key_word key)) (λ position here. was_claimed here refl) steps end
-            (goes _ (taken_goes nth word (inr same)))))
+              inl (rw (is, same) (there_stops nth (exchanged shape table key nth (key_word key)) (λ position here. was_claimed here refl) steps end
+              (goes _ (taken_goes nth word (inr same)))))
           | inr other ↦
-            inr (saw (path_at shape table key nth) 0 ∷ step ∷ [], steps, refl, by_loss word not_free other (rw (← is) refl),
-            goes _ (lost_goes nth word not_free other))
+              inr (
+                saw (path_at shape table key nth) 0 ∷ step ∷ [],
+                steps,
+                refl,
+                by_loss word not_free other (rw (← is) refl),
+                goes _ (lost_goes nth word not_free other),
+              )
         ]
       ]
 
@@ -105,12 +110,12 @@ module _ (shape : Shape) (table key : ℕ) (some : 1 ≤ capacity_of shape table
       let goes = λ (now : Now ClaimKeyPlace ClaimKeyEnd) (same : after (KeyLook nth) word ≡ now). subst (λ now. EndsFrom now steps end) same ends.1 in
       elim (cases_eq word (key_word key)) [
         | inl same ↦
-          inl (rw (is, same) (there_stops nth (saw (path_at shape table key nth) (key_word key) ∷ []) (λ position here. was_there here refl) steps end
-          (goes _ (key_goes nth word same))))
+            inl (rw (is, same) (there_stops nth (saw (path_at shape table key nth) (key_word key) ∷ []) (λ position here. was_there here refl) steps end
+            (goes _ (key_goes nth word same))))
         | inr other ↦ elim (cases_eq word 0) [
           | inl free ↦ rw (is, free) (part_take nth steps end (goes _ (free_goes nth word free)))
           | inr not_free ↦
-            inr (step ∷ [], steps, refl, by_look word not_free other (rw (← is) refl), goes _ (other_goes nth word not_free other))
+              inr (step ∷ [], steps, refl, by_look word not_free other (rw (← is) refl), goes _ (other_goes nth word not_free other))
         ]
       ]
 
@@ -125,16 +130,20 @@ module _ (shape : Shape) (table key : ℕ) (some : 1 ≤ capacity_of shape table
   passed nth first rest end (by_look word not_free other is) ends =
       rw is (refl, goes_back (KeyLook nth) word (next nth) rest end (other_goes nth word not_free other) ends)
   passed nth first rest end (by_loss word not_free other is) ends =
-      rw is
-      (refl, goes_back (KeyLook nth) 0 (now.At (KeyTake nth)) (tried (path_at shape table key nth) 0 (key_word key) word ∷ rest) end (free_goes nth 0 refl)
-      (refl, goes_back (KeyTake nth) word (next nth) rest end (lost_goes nth word not_free other) ends))
+      rw is (
+        refl,
+        goes_back (KeyLook nth) 0 (now.At (KeyTake nth)) (tried (path_at shape table key nth) 0 (key_word key) word ∷ rest) end (free_goes nth 0 refl)
+            (refl, goes_back (KeyTake nth) word (next nth) rest end (lost_goes nth word not_free other) ends),
+      )
 
   exchange_stops : (nth word : ℕ) → (word ≡ 0) ⊎ (word ≡ key_word key)
       → EndsFrom (now.At (KeyLook nth)) (exchanged shape table key nth word) (At (on_path capacity key nth))
   exchange_stops nth word why =
-      let end = At (on_path capacity key nth) in
-      (refl, goes_back (KeyLook nth) 0 (now.At (KeyTake nth)) (tried (path_at shape table key nth) 0 (key_word key) word ∷ []) end (free_goes nth 0 refl)
-      (refl, goes_back (KeyTake nth) word (there nth) [] end (taken_goes nth word why) refl))
+      let end = At (on_path capacity key nth) in (
+        refl,
+        goes_back (KeyLook nth) 0 (now.At (KeyTake nth)) (tried (path_at shape table key nth) 0 (key_word key) word ∷ []) end (free_goes nth 0 refl)
+            (refl, goes_back (KeyTake nth) word (there nth) [] end (taken_goes nth word why) refl),
+      )
 
   stopped : (nth : ℕ) (steps : List Step) (end : ClaimKeyEnd) → Stops end nth steps → EndsFrom (now.At (KeyLook nth)) steps end
   stopped nth steps NoSpace stops = absurd stops

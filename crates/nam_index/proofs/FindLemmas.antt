@@ -1,5 +1,5 @@
 -- What a search for a key makes of the words that it finds.
-use Rattle.std.proofs.Common.{◌≡◌, ◌≢◌, ◌⊎◌, inl, inr, ℕ, ◌+◌, ◌<◌, ◌≤◌, List, [], ◌∷◌, ◌++◌, refl, sym, ◌∙◌, ap, subst, arith, Bool, true, false, ◌||◌}
+use Rattle.std.proofs.Common.{◌≡◌, ◌≢◌, ◌⊎◌, inl, inr, ℕ, ◌+◌, ◌<◌, ◌≤◌, List, [], ◌∷◌, ◌++◌, refl, sym, ◌∙◌, ap, subst, arith, true, false}
 use Rattle.std.specs.Prelude.{◌==◌, if◌then◌else◌}
 use Rattle.std.proofs.lemmas.Bool.{cases_eq}
 use Rattle.std.proofs.lemmas.Bool.Decides.{nat_tests}
@@ -72,8 +72,13 @@ module _ (shape : Shape) (table key : ℕ) (some : 1 ≤ capacity_of shape table
         | inr other ↦ elim (cases_eq word 0) [
           | inl free ↦ inl (rw (is, free) (none_stops nth steps end (goes _ (ap (find_after shape table key nth) free ∙ none_goes nth))))
           | inr not_free ↦
-            inr (step ∷ [], steps, refl, record { word = word; not_free = not_free; other = other; steps_are = rw (← is) refl },
-            goes _ (other_goes nth word not_free other))
+              inr (
+                step ∷ [],
+                steps,
+                refl,
+                record { word = word; not_free = not_free; other = other; steps_are = rw (← is) refl },
+                goes _ (other_goes nth word not_free other),
+              )
         ]
       ]
 

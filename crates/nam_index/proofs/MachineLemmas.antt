@@ -1,20 +1,18 @@
 -- the machines as the calls of the protocol, at the places that they come to
-use Rattle.std.proofs.Common.{◌≡◌, ℕ, ◌<◌, List, refl, sym, ap, subst}
+use Rattle.std.proofs.Common.{◌≡◌, ℕ, ap}
 use Rattle.std.proofs.Math.Path.{fun_ext}
 use Rattle.nam_verbs.specs.declared.verb.Verb.{Verb}
 use Rattle.nam_verbs.specs.declared.verb.Verb.TheVariants.{Read, Exchange}
 use Rattle.nam_verbs.specs.declared.now.Now.{Now}
 use Rattle.nam_verbs.specs.declared.now.Now.TheVariants as now
 use Rattle.nam_verbs.specs.Now.{FitsNow}
-use Rattle.nam_verbs.specs.Running.{Running, Always}
+use Rattle.nam_verbs.specs.Running.{Always}
 use Rattle.nam_verbs.proofs.StepsLemmas.{always, always_also}
 use Rattle.nam_catalog.specs.declared.shape.Shape.{Shape}
 use Rattle.nam_catalog.specs.Fits.{FitsLimits}
 use Rattle.nam_catalog.specs.Words.{words_of}
-use Rattle.nam_calls.specs.declared.index.FindEnd.{FindEnd}
 use Rattle.nam_calls.specs.declared.index.ClaimKeyPlace.{ClaimKeyPlace}
 use Rattle.nam_calls.specs.declared.index.ClaimKeyPlace.TheVariants.{KeyLook, KeyTake}
-use Rattle.nam_calls.specs.declared.index.ClaimKeyEnd.{ClaimKeyEnd}
 use Rattle.nam_calls.specs.Words.{capacity_of, key_word}
 use Rattle.nam_calls.specs.Index.{find_begin, find_verb, find_after, find_left, claim_key_begin, claim_key_verb, claim_key_after, claim_key_left}
 use Rattle.nam_calls.specs.Fits.{Falls, FindFits, FindEnds, ClaimKeyFits, ClaimKeyEnds}

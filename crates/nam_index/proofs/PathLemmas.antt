@@ -1,5 +1,5 @@
 -- paths, and the key words of a table's positions, which stand one after another
-use Rattle.std.proofs.Common.{◌≡◌, ◌⊎◌, inl, inr, ℕ, zero, suc, ◌+◌, ◌-◌, ◌*◌, ◌^◌, ◌%◌, ◌<◌, ◌≤◌, List, [], ◌∷◌, length, refl, sym, ◌∙◌, ap, arith}
+use Rattle.std.proofs.Common.{◌≡◌, ◌⊎◌, inl, inr, ℕ, zero, suc, ◌+◌, ◌-◌, ◌*◌, ◌^◌, ◌%◌, ◌<◌, ◌≤◌, List, [], ◌∷◌, length, sym, ◌∙◌, ap, arith}
 use Rattle.std.specs.Prelude.{All, slice_index}
 use Rattle.std.proofs.Math.Nat.{add-mod_left, mod-eq_of_lt}
 use Rattle.std.proofs.lemmas.Bool.{cases_lt}
@@ -85,11 +85,11 @@ remainder : (capacity n : ℕ) → n < capacity + capacity → ((n < capacity) �
 remainder capacity n less = elim (cases_lt n capacity) [
   | inl below ↦ inl (below, mod-eq_of_lt below)
   | inr least ↦
-    let rest = n - capacity in
-    let sum : capacity + rest ≡ n = omega arith in
-    let below : rest < capacity = omega arith in
-    let same : n % capacity ≡ rest = ap (λ m. m % capacity) (sym sum) ∙ add-mod_left capacity rest ∙ mod-eq_of_lt below in
-    inr (least, omega arith)
+      let rest = n - capacity in
+      let sum : capacity + rest ≡ n = omega arith in
+      let below : rest < capacity = omega arith in
+      let same : n % capacity ≡ rest = ap (λ m. m % capacity) (sym sum) ∙ add-mod_left capacity rest ∙ mod-eq_of_lt below in
+      inr (least, omega arith)
 ]
 
 module _ (capacity key : ℕ) (some : 1 ≤ capacity) where
@@ -107,14 +107,14 @@ module _ (capacity key : ℕ) (some : 1 ≤ capacity) where
   reaches : (position : ℕ) → position < capacity → (passed : ℕ) × (passed < capacity) × (on_path capacity key passed ≡ position)
   reaches position less = elim (cases_lt position first) [
     | inl before ↦
-      let f = first_below in
-      let passed = position + capacity - first in
-      let within : passed < capacity = omega arith in
-      (passed, within, elim (turn passed within) [ | inl t ↦ let a = t.0 in absurd (omega arith) | inr t ↦ let a = t.1 in omega arith ])
+        let f = first_below in
+        let passed = position + capacity - first in
+        let within : passed < capacity = omega arith in
+        (passed, within, elim (turn passed within) [ inl t ↦ let a = t.0 in absurd (omega arith) | inr t ↦ let a = t.1 in omega arith ])
     | inr after ↦
-      let passed = position - first in
-      let within : passed < capacity = omega arith in
-      (passed, within, elim (turn passed within) [ | inl t ↦ let a = t.1 in omega arith | inr t ↦ let a = t.0 in absurd (omega arith) ])
+        let passed = position - first in
+        let within : passed < capacity = omega arith in
+        (passed, within, elim (turn passed within) [ inl t ↦ let a = t.1 in omega arith | inr t ↦ let a = t.0 in absurd (omega arith) ])
   ]
 
   same_turn : (a b : ℕ) → a < capacity → b < capacity → on_path capacity key a ≡ on_path capacity key b → a ≡ b

@@ -69,7 +69,13 @@ pub fn find_verb(layout: &Layout, table: u32, key: u64, passed: u32) -> Verb
 }
 
 /// What follows the word that this verb found.
-pub fn find_after(layout: &Layout, table: u32, key: u64, passed: u32, found: u64) -> Now<u32, FindEnd>
+pub fn find_after(
+    layout: &Layout,
+    table: u32,
+    key: u64,
+    passed: u32,
+    found: u64,
+) -> Now<u32, FindEnd>
     requires table { table < length layout.now.tables }
     requires key { key < 2 ^ 64 - 1 }
     requires passed { FindFits (capacity_of layout.now table) passed }

@@ -1,5 +1,6 @@
 -- What a collection makes of the words that it finds.
-use Rattle.std.proofs.Common.{◌≡◌, ◌≢◌, ◌⊎◌, inl, inr, ℕ, zero, suc, ◌+◌, ◌<◌, ◌≤◌, List, [], ◌∷◌, ◌++◌, length, refl, sym, ◌∙◌, ap, subst, arith, true, false}
+use Rattle.std.proofs.Common.{◌≡◌, ◌≢◌, ◌⊎◌, inl, inr, ℕ, zero, suc, ◌+◌, ◌<◌, ◌≤◌, List, [], ◌∷◌, ◌++◌, length, refl}
+use Rattle.std.proofs.Common.{sym, ◌∙◌, ap, subst, arith, true, false}
 use Rattle.std.specs.Prelude.{◌==◌, nat_lt, slice_index}
 use Rattle.std.proofs.lemmas.Bool.{cases_lt, cases_eq, cases_Bool}
 use Rattle.std.proofs.lemmas.Bool.Decides.{nat_tests}
@@ -10,7 +11,8 @@ use Rattle.nam_verbs.specs.Steps.{Step, Ends, saw, tried, Stretches}
 use Rattle.nam_verbs.proofs.SearchLemmas.{search_ends, search_misses}
 use Rattle.nam_layout.specs.declared.field.Cells.{Cells}
 use Rattle.nam_calls.specs.declared.horizon.CollectPlace.{CollectPlace}
-use Rattle.nam_calls.specs.declared.horizon.CollectPlace.TheVariants.{HorizonLook, HorizonRaise, CollectTag, CollectEnding, CollectFree}
+use Rattle.nam_calls.specs.declared.horizon.CollectPlace.TheVariants.{HorizonLook, HorizonRaise, CollectTag}
+use Rattle.nam_calls.specs.declared.horizon.CollectPlace.TheVariants.{CollectEnding, CollectFree}
 use Rattle.nam_calls.specs.Stamps.{stamp_in, is_within, is_full, has_next, freed}
 use Rattle.nam_calls.specs.Words.{tag_at, end_at, horizon_at}
 use Rattle.nam_calls.specs.Horizon.{collect_verb, collect_after, entry_known, collect_next}
@@ -19,17 +21,22 @@ use Rattle.nam_horizon.specs.CollectLaw.{EntryKnown, was_reached, is_raised, was
 use Rattle.nam_horizon.specs.CollectLaw.{MayBeFreed, looked, CellCollected, not_full, is_kept, is_freed, CollectedBy}
 
 -- steps in parts
-regrouped : (first raising freeing rest steps : List Step) → steps ≡ first ++ rest → rest ≡ raising ++ freeing → steps ≡ (first ++ raising) ++ freeing
+regrouped : (first raising freeing rest steps : List Step) → steps ≡ first ++ rest → rest ≡ raising ++ freeing
+    → steps ≡ (first ++ raising) ++ freeing
 regrouped first raising freeing rest steps is parts = rw (is, parts) (sym (append_assoc first raising freeing))
 
-regrouped_here : (first before here after rest steps : List Step) → steps ≡ first ++ rest → rest ≡ (before ++ here) ++ after
+regrouped_here : (first before here after rest steps : List Step) → steps ≡ first ++ rest
+    → rest ≡ (before ++ here) ++ after
     → steps ≡ ((first ++ before) ++ here) ++ after
 regrouped_here first before here after rest steps is parts =
-    regrouped first (before ++ here) after rest steps is parts ∙ ap (λ front. front ++ after) (sym (append_assoc first before here))
+    regrouped first (before ++ here) after rest steps is parts
+    ∙ ap (λ front. front ++ after) (sym (append_assoc first before here))
 
-regrouped_after : (before here after freeing raising steps : List Step) → steps ≡ raising ++ freeing → raising ≡ (before ++ here) ++ after
+regrouped_after : (before here after freeing raising steps : List Step) → steps ≡ raising ++ freeing
+    → raising ≡ (before ++ here) ++ after
     → steps ≡ (before ++ here) ++ (after ++ freeing)
-regrouped_after before here after freeing raising steps is parts = rw (is, parts) (append_assoc (before ++ here) after freeing)
+regrouped_after before here after freeing raising steps is parts = rw (is, parts)
+    (append_assoc (before ++ here) after freeing)
 
 module _ (cells : Cells) (some_cells : 1 ≤ cells.cells) (workers : ℕ) (some : 1 ≤ workers) (seen : List ℕ) where
   abbrev verb : CollectPlace → Rattle.nam_verbs.specs.declared.verb.Verb.Verb
@@ -41,20 +48,24 @@ module _ (cells : Cells) (some_cells : 1 ≤ cells.cells) (workers : ℕ) (some 
   abbrev EndsFrom : Now CollectPlace (List ℕ) → List Step → List ℕ → Type 0
   EndsFrom now steps end = Ends verb after now steps end
 
-  ends_as : (now new : Now CollectPlace (List ℕ)) (steps : List Step) (end : List ℕ) → now ≡ new → EndsFrom now steps end → EndsFrom new steps end
+  ends_as : (now new : Now CollectPlace (List ℕ)) (steps : List Step) (end : List ℕ) → now ≡ new
+      → EndsFrom now steps end → EndsFrom new steps end
   ends_as now new steps end same ends = subst (λ now. EndsFrom now steps end) same ends
 
   -- 1. The cells, under a known horizon
 
   module _ (known : List ℕ) where
     -- what follows a word, by what it is
-    full_goes : (cell tag : ℕ) → is_full tag ≡ true → after (CollectTag known cell) tag ≡ At (CollectEnding known cell tag)
+    full_goes : (cell tag : ℕ) → is_full tag ≡ true
+        → after (CollectTag known cell) tag ≡ At (CollectEnding known cell tag)
     full_goes cell tag full = rw full refl
 
-    other_goes : (cell tag : ℕ) → is_full tag ≡ false → after (CollectTag known cell) tag ≡ collect_next cells known cell
+    other_goes : (cell tag : ℕ) → is_full tag ≡ false
+        → after (CollectTag known cell) tag ≡ collect_next cells known cell
     other_goes cell tag full = rw full refl
 
-    frees_goes : (cell tag ending : ℕ) → MayBeFreed cells known tag ending → after (CollectEnding known cell tag) ending ≡ At (CollectFree known cell tag)
+    frees_goes : (cell tag ending : ℕ) → MayBeFreed cells known tag ending
+        → after (CollectEnding known cell tag) ending ≡ At (CollectFree known cell tag)
     frees_goes cell tag ending may = rw (may.passed, may.next) refl
 
     keeps_goes : (cell tag ending : ℕ) → (is_within (stamp_in cells.form ending) known ≡ false) ⊎ (has_next tag ≡ false)
@@ -67,22 +78,32 @@ module _ (cells : Cells) (some_cells : 1 ≤ cells.cells) (workers : ℕ) (some 
 
     abbrev Parts : ℕ → List Step → List ℕ → Type 0
     Parts cell steps end =
-        (first rest : List Step) × (steps ≡ first ++ rest) × CellCollected cells known cell first × EndsFrom (collect_next cells known cell) rest end
+        (first rest : List Step) × (steps ≡ first ++ rest) × CellCollected cells known cell first
+        × EndsFrom (collect_next cells known cell) rest end
 
-    part_free : (cell tag ending : ℕ) → MayBeFreed cells known tag ending → (steps : List Step) (end : List ℕ) → EndsFrom (At (CollectFree known cell tag)) steps end
+    part_free : (cell tag ending : ℕ) → MayBeFreed cells known tag ending → (steps : List Step) (end : List ℕ)
+        → EndsFrom (At (CollectFree known cell tag)) steps end
         → Parts cell (looked cells known cell tag ending ++ steps) end
     part_free cell tag ending may [] end ends = absurd ends
     part_free cell tag ending may (step ∷ steps) end ends =
-        let is : step ≡ tried (tag_at cells cell) tag (freed tag) step.found = step_of _ step ends.0 in
-        (looked cells known cell tag ending ++ step ∷ [], steps, refl, is_freed tag ending step.found may (rw (← is) refl), ends.1)
+        let is : step ≡ tried (tag_at cells cell) tag (freed tag) step.found = step_of _ step ends.0 in (
+          looked cells known cell tag ending ++ step ∷ [],
+          steps,
+          refl,
+          is_freed tag ending step.found may
+              (rw (← is) refl),
+          ends.1,
+        )
 
-    part_end : (cell tag : ℕ) → is_full tag ≡ true → (steps : List Step) (end : List ℕ) → EndsFrom (At (CollectEnding known cell tag)) steps end
+    part_end : (cell tag : ℕ) → is_full tag ≡ true → (steps : List Step) (end : List ℕ)
+        → EndsFrom (At (CollectEnding known cell tag)) steps end
         → Parts cell (saw (tag_at cells cell) tag ∷ steps) end
     part_end cell tag full [] end ends = absurd ends
     part_end cell tag full (step ∷ steps) end ends =
         let ending = step.found in
         let is : step ≡ saw (end_at cells cell) ending = step_of _ step ends.0 in
-        let kept : (is_within (stamp_in cells.form ending) known ≡ false) ⊎ (has_next tag ≡ false) → Parts cell (saw (tag_at cells cell) tag ∷ step ∷ steps) end =
+        let kept : (is_within (stamp_in cells.form ending) known ≡ false) ⊎ (has_next tag ≡ false)
+        → Parts cell (saw (tag_at cells cell) tag ∷ step ∷ steps) end =
         λ why. (
           saw (tag_at cells cell) tag ∷ step ∷ [],
           steps,
@@ -94,25 +115,34 @@ module _ (cells : Cells) (some_cells : 1 ≤ cells.cells) (workers : ℕ) (some 
           | inl within ↦ elim (cases_Bool (has_next tag)) [
             | inl next ↦
                 let may : MayBeFreed cells known tag ending = record { full = full; passed = within; next = next } in
-                rw is (part_free cell tag ending may steps end (ends_as _ _ steps end (frees_goes cell tag ending may) ends.1))
+                rw is (part_free cell tag ending may steps end
+                (ends_as _ _ steps end (frees_goes cell tag ending may) ends.1))
             | inr last ↦ kept (inr last)
           ]
           | inr not_within ↦ kept (inl not_within)
         ]
 
-    part_cell : (cell : ℕ) (steps : List Step) (end : List ℕ) → EndsFrom (At (CollectTag known cell)) steps end → Parts cell steps end
+    part_cell : (cell : ℕ) (steps : List Step) (end : List ℕ) → EndsFrom (At (CollectTag known cell)) steps end
+        → Parts cell steps end
     part_cell cell [] end ends = absurd ends
     part_cell cell (step ∷ steps) end ends =
         let tag = step.found in
         let is : step ≡ saw (tag_at cells cell) tag = step_of _ step ends.0 in
         elim (cases_Bool (is_full tag)) [
           | inl full ↦ rw is (part_end cell tag full steps end (ends_as _ _ steps end (full_goes cell tag full) ends.1))
-          | inr other ↦
-              (step ∷ [], steps, refl, not_full tag other (rw (← is) refl), ends_as _ _ steps end (other_goes cell tag other) ends.1)
+          | inr other ↦ (
+            step ∷ [],
+            steps,
+            refl,
+            not_full tag other (rw (← is) refl),
+            ends_as _ _ steps end
+                (other_goes cell tag other) ends.1,
+          )
         ]
 
     -- the other way round
-    passed_cell : (cell : ℕ) (first rest : List Step) (end : List ℕ) → CellCollected cells known cell first → EndsFrom (collect_next cells known cell) rest end
+    passed_cell : (cell : ℕ) (first rest : List Step) (end : List ℕ) → CellCollected cells known cell first
+        → EndsFrom (collect_next cells known cell) rest end
         → EndsFrom (At (CollectTag known cell)) (first ++ rest) end
     passed_cell cell first rest end (not_full tag other is) ends =
         rw is (refl, ends_as _ _ rest end (sym (other_goes cell tag other)) ends)
@@ -144,15 +174,18 @@ module _ (cells : Cells) (some_cells : 1 ≤ cells.cells) (workers : ℕ) (some 
     all_cells : (steps : List Step) (end : List ℕ) → EndsFrom (At (CollectTag known 0)) steps end
         → Stretches (CellCollected cells known) 0 cells.cells steps × (known ≡ end)
     all_cells steps end ends =
-        elim (search_ends verb after (CollectTag known) (collect_next cells known) cells.cells known goes_on misses (CellCollected cells known) None
+        elim (search_ends verb after (CollectTag known) (collect_next cells known) cells.cells known goes_on misses
+        (CellCollected cells known) None
         (λ cell within steps end ends. inr (part_cell cell steps end ends)) some_cells steps end ends) [
           | inl stop ↦ absurd stop.stops
           | inr missed ↦ missed
         ]
 
-    by_cells : (steps : List Step) → Stretches (CellCollected cells known) 0 cells.cells steps → EndsFrom (At (CollectTag known 0)) steps known
+    by_cells : (steps : List Step) → Stretches (CellCollected cells known) 0 cells.cells steps
+        → EndsFrom (At (CollectTag known 0)) steps known
     by_cells =
-        search_misses verb after (CollectTag known) (collect_next cells known) cells.cells known goes_on misses (CellCollected cells known) None
+        search_misses verb after (CollectTag known) (collect_next cells known) cells.cells known goes_on misses
+        (CellCollected cells known) None
         (λ cell within. passed_cell cell) some_cells
 
   -- 2. The horizon
@@ -168,21 +201,26 @@ module _ (cells : Cells) (some_cells : 1 ≤ cells.cells) (workers : ℕ) (some 
     lower_goes : (found : ℕ) → found < own → after (HorizonLook known) found ≡ At (HorizonRaise known found)
     lower_goes found lower = let test : nat_lt found own ≡ true = grind (arith, nat_tests) in rw test refl
 
-    reached_goes : (found : ℕ) → own ≤ found → after (HorizonLook known) found ≡ entry_known workers (known ++ found ∷ [])
+    reached_goes : (found : ℕ) → own ≤ found
+        → after (HorizonLook known) found ≡ entry_known workers (known ++ found ∷ [])
     reached_goes found least = let test : nat_lt found own ≡ false = grind (arith, nat_tests) in rw test refl
 
-    done_goes : (entry found : ℕ) → found ≡ entry → after (HorizonRaise known entry) found ≡ entry_known workers (known ++ own ∷ [])
+    done_goes : (entry found : ℕ) → found ≡ entry
+        → after (HorizonRaise known entry) found ≡ entry_known workers (known ++ own ∷ [])
     done_goes entry found same = let test : (found == entry) ≡ true = grind (arith, nat_tests) in rw test refl
 
-    lost_goes : (entry found : ℕ) → found ≢ entry → after (HorizonRaise known entry) found ≡ entry_known workers (known ++ found ∷ [])
+    lost_goes : (entry found : ℕ) → found ≢ entry
+        → after (HorizonRaise known entry) found ≡ entry_known workers (known ++ found ∷ [])
     lost_goes entry found other = let test : (found == entry) ≡ false = grind (arith, nat_tests) in rw test refl
 
     abbrev Known : List Step → List ℕ → Type 0
     Known steps end =
-        (entry : ℕ) × (first rest : List Step) × (steps ≡ first ++ rest) × EntryKnown workers seen (length known) entry first
+        (entry : ℕ) × (first rest : List Step) × (steps ≡ first ++ rest)
+        × EntryKnown workers seen (length known) entry first
         × EndsFrom (entry_known workers (known ++ entry ∷ [])) rest end
 
-    part_raise : (entry : ℕ) → entry < own → (steps : List Step) (end : List ℕ) → EndsFrom (At (HorizonRaise known entry)) steps end
+    part_raise : (entry : ℕ) → entry < own → (steps : List Step) (end : List ℕ)
+        → EndsFrom (At (HorizonRaise known entry)) steps end
         → Known (saw at entry ∷ steps) end
     part_raise entry lower [] end ends = absurd ends
     part_raise entry lower (step ∷ steps) end ends =
@@ -214,20 +252,32 @@ module _ (cells : Cells) (some_cells : 1 ≤ cells.cells) (workers : ℕ) (some 
         let is : step ≡ saw at found = step_of _ step ends.0 in
         elim (cases_lt found own) [
           | inl lower ↦ rw is (part_raise found lower steps end (ends_as _ _ steps end (lower_goes found lower) ends.1))
-          | inr least ↦
-              (found, step ∷ [], steps, refl, was_reached least (ap (λ s. s ∷ []) is), ends_as _ _ steps end (reached_goes found least) ends.1)
+          | inr least ↦ (
+            found,
+            step ∷ [],
+            steps,
+            refl,
+            was_reached least (ap (λ s. s ∷ []) is),
+            ends_as _ _ steps end
+                (reached_goes found least) ends.1,
+          )
         ]
 
     -- the other way round
-    passed_entry : (entry : ℕ) (first rest : List Step) (end : List ℕ) → EntryKnown workers seen (length known) entry first
-        → EndsFrom (entry_known workers (known ++ entry ∷ [])) rest end → EndsFrom (At (HorizonLook known)) (first ++ rest) end
+    passed_entry : (entry : ℕ) (first rest : List Step) (end : List ℕ)
+        → EntryKnown workers seen (length known) entry first
+        → EndsFrom (entry_known workers (known ++ entry ∷ [])) rest end
+        → EndsFrom (At (HorizonLook known)) (first ++ rest) end
     passed_entry entry first rest end (was_reached least is) ends =
         rw is (refl, ends_as _ _ rest end (sym (reached_goes entry least)) ends)
     passed_entry entry first rest end (is_raised found lower same is) ends =
         rw is (
           refl,
-          ends_as _ _ (tried at found own found ∷ rest) end (sym (lower_goes found lower))
-              (refl, ends_as _ _ rest end (sym (done_goes found found refl)) (subst (λ e. EndsFrom (entry_known workers (known ++ e ∷ [])) rest end) same ends)),
+          ends_as _ _ (tried at found own found ∷ rest) end (sym (lower_goes found lower)) (
+            refl,
+            ends_as _ _ rest end (sym (done_goes found found refl))
+                (subst (λ e. EndsFrom (entry_known workers (known ++ e ∷ [])) rest end) same ends),
+          ),
         )
     passed_entry entry first rest end (was_lost found lower other is) ends =
         rw is (
@@ -247,7 +297,8 @@ module _ (cells : Cells) (some_cells : 1 ≤ cells.cells) (workers : ℕ) (some 
   abbrev AllKnown : List ℕ → ℕ → List Step → List ℕ → Type 0
   AllKnown known more steps end =
       (entries : List ℕ) × (raising freeing : List Step) × (steps ≡ raising ++ freeing) × (length entries ≡ more)
-      × EntriesKnown workers seen (length known) entries raising × EndsFrom (At (CollectTag (known ++ entries) 0)) freeing end
+      × EntriesKnown workers seen (length known) entries raising
+      × EndsFrom (At (CollectTag (known ++ entries) 0)) freeing end
 
   known_from : (more : ℕ) (known : List ℕ) → length known + suc more ≡ workers → (steps : List Step) (end : List ℕ)
       → EndsFrom (At (HorizonLook known)) steps end → AllKnown known (suc more) steps end
@@ -278,13 +329,16 @@ module _ (cells : Cells) (some_cells : 1 ≤ cells.cells) (workers : ℕ) (some 
         subst (λ all. EndsFrom (At (CollectTag all 0)) later.2 end) (append_assoc known (entry ∷ []) later.0) later.6,
       )
 
-  all_from : (n : ℕ) → n ≡ workers → 0 < n → (steps : List Step) (end : List ℕ) → EndsFrom (At (HorizonLook [])) steps end → AllKnown [] n steps end
+  all_from : (n : ℕ) → n ≡ workers → 0 < n → (steps : List Step) (end : List ℕ)
+      → EndsFrom (At (HorizonLook [])) steps end → AllKnown [] n steps end
   all_from zero same none steps end ends = absurd (omega arith)
   all_from (suc more) same none steps end ends = known_from more [] (omega arith) steps end ends
 
   -- the other way round
-  by_entries : (entries known : List ℕ) → 0 < length entries → length known + length entries ≡ workers → (raising freeing : List Step) (end : List ℕ)
-      → EntriesKnown workers seen (length known) entries raising → EndsFrom (At (CollectTag (known ++ entries) 0)) freeing end
+  by_entries : (entries known : List ℕ) → 0 < length entries → length known + length entries ≡ workers
+      → (raising freeing : List Step) (end : List ℕ)
+      → EntriesKnown workers seen (length known) entries raising
+      → EndsFrom (At (CollectTag (known ++ entries) 0)) freeing end
       → EndsFrom (At (HorizonLook known)) (raising ++ freeing) end
   by_entries [] known none all raising freeing end are ends = absurd (omega arith)
   by_entries (entry ∷ []) known none all raising freeing end are ends =
@@ -296,13 +350,15 @@ module _ (cells : Cells) (some_cells : 1 ≤ cells.cells) (workers : ℕ) (some 
       let long = length-append known (entry ∷ []) in
       let later = by_entries (next ∷ entries) (known ++ entry ∷ []) (omega arith) (omega arith) are.1 freeing end
       (subst (λ nth. EntriesKnown workers seen nth (next ∷ entries) are.1) (sym long) are.4)
-      (subst (λ all. EndsFrom (At (CollectTag all 0)) freeing end) (sym (append_assoc known (entry ∷ []) (next ∷ entries))) ends) in
+      (subst (λ all. EndsFrom (At (CollectTag all 0)) freeing end)
+      (sym (append_assoc known (entry ∷ []) (next ∷ entries))) ends) in
       rw (are.2, append_assoc are.0 are.1 freeing) (passed_entry known entry are.0 (are.1 ++ freeing) end are.3
       (ends_as _ _ (are.1 ++ freeing) end (sym (next_entry (known ++ entry ∷ []) (omega arith))) later))
 
   -- 3. A whole collection
 
-  pub collected_by : (steps : List Step) (known : List ℕ) → EndsFrom (At (HorizonLook [])) steps known → CollectedBy cells workers seen known steps
+  pub collected_by : (steps : List Step) (known : List ℕ) → EndsFrom (At (HorizonLook [])) steps known
+      → CollectedBy cells workers seen known steps
   collected_by steps known ends =
       let all = all_from workers refl some steps known ends in
       let bucket = all_cells all.0 all.2 known all.6 in
@@ -315,10 +371,13 @@ module _ (cells : Cells) (some_cells : 1 ≤ cells.cells) (workers : ℕ) (some 
         bucket = bucket.0;
       })
 
-  pub collects_by : (steps : List Step) (known : List ℕ) → CollectedBy cells workers seen known steps → EndsFrom (At (HorizonLook [])) steps known
+  pub collects_by : (steps : List Step) (known : List ℕ) → CollectedBy cells workers seen known steps
+      → EndsFrom (At (HorizonLook [])) steps known
   collects_by steps known by =
       let all = by.all in
-      rw by.steps_are (by_entries known [] (omega arith) (omega arith) by.raising by.freeing known by.entries (by_cells known by.freeing by.bucket))
+      rw by.steps_are
+      (by_entries known [] (omega arith) (omega arith) by.raising by.freeing known by.entries
+      (by_cells known by.freeing by.bucket))
 
 -- the steps by which an entry became known
 module _ (workers : ℕ) (seen : List ℕ) where
@@ -326,7 +385,8 @@ module _ (workers : ℕ) (seen : List ℕ) where
   KnownAt nth known steps =
       (before here after : List Step) × (steps ≡ before ++ here ++ after) × EntryKnown workers seen nth known here
 
-  entry_at : (known : List ℕ) (from : ℕ) (steps : List Step) → EntriesKnown workers seen from known steps → (nth : ℕ) → nth < length known
+  entry_at : (known : List ℕ) (from : ℕ) (steps : List Step) → EntriesKnown workers seen from known steps → (nth : ℕ)
+      → nth < length known
       → KnownAt (from + nth) (slice_index known nth) steps
   entry_at [] from steps are nth less = absurd (omega arith)
   entry_at (entry ∷ known) from steps are zero less =
@@ -342,7 +402,8 @@ module _ (workers : ℕ) (seen : List ℕ) where
         subst (λ n. EntryKnown workers seen n (slice_index known nth) later.1) here later.4,
       )
 
-  pub known_at : (cells : Cells) (known : List ℕ) (steps : List Step) → CollectedBy cells workers seen known steps → (nth : ℕ) → nth < workers
+  pub known_at : (cells : Cells) (known : List ℕ) (steps : List Step) → CollectedBy cells workers seen known steps
+      → (nth : ℕ) → nth < workers
       → KnownAt nth (slice_index known nth) steps
   known_at cells known steps by nth less =
       let all = by.all in

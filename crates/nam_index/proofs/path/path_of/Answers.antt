@@ -6,7 +6,8 @@ use Rattle.nam_index.proofs.PathLemmas.{addresses_are, path_fits}
 use Rattle.nam_index.proofs.path.path_of.Goals as goal
 
 pub place-place-requires : goal.place-place-requires
-place-place-requires c = (c.requires.table, has_capacity c.args.layout.now c.total-reach.ensures.fits c.args.table c.requires.table)
+place-place-requires c =
+    (c.requires.table, has_capacity c.args.layout.now c.total-reach.ensures.fits c.args.table c.requires.table)
 
 pub returns-clause-value : goal.returns-clause-value
 returns-clause-value c =

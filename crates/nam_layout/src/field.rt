@@ -53,6 +53,38 @@ pub struct Place {
     pub form: Form,
 }
 
+impl Default for Place {
+    ghost use Rattle.std.specs.Prelude.{◌≡◌};
+    ghost use Rattle.nam_catalog.specs.declared.form.Form.TheVariants.{Narrow};
+
+    ghost is_default = { λ place. place ≡ record {
+      row = 0;
+      key_at = 0;
+      header_at = 0;
+      count_at = 0;
+      words_at = 0;
+      ring_at = 0;
+      width = 0;
+      ring = 0;
+      form = Narrow;
+    } };
+
+    /// No position of a store. Lists of places need one to begin with.
+    fn default() -> Place {
+        Place {
+            row: 0,
+            key_at: 0,
+            header_at: 0,
+            count_at: 0,
+            words_at: 0,
+            ring_at: 0,
+            width: 0,
+            ring: 0,
+            form: Form::Narrow,
+        }
+    }
+}
+
 /// The cells of a bucket, of 12 words each from the address `first` on.
 #[derive(Clone, Copy, Debug, PartialEq, Eq)]
 pub struct Cells {

@@ -1,0 +1,4 @@
+pub mod CheckLemmas
+pub mod CopyLemmas
+pub mod SearchLemmas
+pub mod ReachLemmas

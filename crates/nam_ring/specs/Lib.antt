@@ -1,3 +1,6 @@
 pub mod Check
+pub mod CheckLaw
 pub mod Copy
+pub mod CopyLaw
 pub mod Search
+pub mod SearchLaw

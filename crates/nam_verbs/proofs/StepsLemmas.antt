@@ -1,12 +1,12 @@
 -- steps of a call, and where it stands after words
-use Rattle.std.proofs.Common.{◌≡◌, ℕ, zero, suc, ◌+◌, ◌<◌, List, [], ◌∷◌, ◌++◌, map, length, Some, IsSome, refl, sym, ◌∙◌, ap, subst, arith}
+use Rattle.std.proofs.Common.{◌≡◌, ℕ, List, [], ◌∷◌, Some, IsSome, refl, ◌∙◌, ap}
 use Rattle.nam_verbs.specs.declared.verb.Verb.{Verb}
 use Rattle.nam_verbs.specs.declared.now.Now.{Now}
 use Rattle.nam_verbs.specs.declared.now.Now.TheVariants.{At, Over}
 use Rattle.nam_verbs.specs.Now.{FitsNow, after_now}
-use Rattle.nam_verbs.specs.Machine.{EndsBy, after_words}
+use Rattle.nam_verbs.specs.Machine.{EndsBy}
 use Rattle.nam_verbs.specs.Running.{Running, next_verb, after_found, end_of, Always}
-use Rattle.nam_verbs.specs.Steps.{Step, Ends, EndsWith, Does, EndsAfter, StepsLaw, VerbsLaw, verbs_of, words_of}
+use Rattle.nam_verbs.specs.Steps.{Step, Ends, Does, StepsLaw, VerbsLaw, verbs_of, words_of}
 
 module _ {P E : Type 0} (verb : P → Verb) (after : P → ℕ → Now P E) where
   -- 1. Ends by words, and ends with steps

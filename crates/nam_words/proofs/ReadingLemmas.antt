@@ -1,6 +1,6 @@
 -- words that a call reads one after another, as steps
-use Rattle.std.proofs.Common.{◌≡◌, ℕ, zero, suc, ◌+◌, ◌<◌, List, [], ◌∷◌, ◌++◌, length, refl, sym, ◌∙◌, ap, subst, arith, true, false}
-use Rattle.std.specs.Prelude.{◌==◌, if◌then◌else◌}
+use Rattle.std.proofs.Common.{◌≡◌, ℕ, zero, suc, ◌+◌, ◌<◌, List, [], ◌∷◌, ◌++◌, length, refl, sym, ◌∙◌, subst, arith, true, false}
+use Rattle.std.specs.Prelude.{◌==◌}
 use Rattle.std.proofs.lemmas.List.{append_assoc, append-nil, length-append}
 use Rattle.std.proofs.lemmas.Bool.Decides.{nat_tests}
 use Rattle.nam_verbs.specs.declared.verb.Verb.{Verb}
@@ -28,8 +28,7 @@ module _ {P E : Type 0} (verb : P → Verb) (after : P → ℕ → Now P E) (add
       → ReadsOn got (step ∷ steps) end
   one_more got step steps end here later =
       let long = length-append got (step.found ∷ []) in
-      let is : step ≡ saw (address (length got)) step.found = step_of _ step (sym (reads got) ∙ here) in
-      (
+      let is : step ≡ saw (address (length got)) step.found = step_of _ step (sym (reads got) ∙ here) in (
         step.found ∷ later.0,
         later.1,
         rw (← is, later.2, long) refl,

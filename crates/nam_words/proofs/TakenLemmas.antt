@@ -3,6 +3,8 @@ use Rattle.std.proofs.Common.{◌≡◌, ℕ, ◌<◌}
 use Rattle.nam_verbs.specs.declared.now.Now.{Now}
 use Rattle.nam_verbs.specs.declared.now.Now.TheVariants.{At, Over}
 use Rattle.nam_verbs.specs.Now.{FitsNow, left_now}
+use Rattle.nam_verbs.specs.Running.{Running, Always}
+use Rattle.nam_verbs.proofs.StepsLemmas.{always, always_also}
 use Rattle.nam_calls.specs.Fits.{Falls}
 
 module _ {P E : Type 0} (Fits : P → Type 0) (Ends : E → Type 0) (left : P → ℕ) (after : P → Now P E)
@@ -18,3 +20,14 @@ module _ {P E : Type 0} (Fits : P → Type 0) (Ends : E → Type 0) (left : P �
       → FitsNow Fits new × (left_now left new < left_now left old)
   taken old new at fits is goes =
       let both = falls_now (left at) new (rw goes (law at (fits_at old at is fits))) in (both.0, rw is both.1)
+
+-- what holds at each place that fits holds wherever a call comes to whose verbs to come fall
+module _ {P E : Type 0} (Fits : P → Type 0) (Ends : E → Type 0) (call : Running P E)
+    (law : (at : P) → Fits at → (found : ℕ) → Falls Fits Ends call.left (call.left at) (call.after at found)) where
+  fits_on : (n : ℕ) (now : Now P E) → Falls Fits Ends call.left n now → FitsNow Fits now
+  fits_on n (At at) falls = falls.0
+  fits_on n (Over end) falls = tt
+
+  pub holds_always : (Holds : P → Type 0) → FitsNow Fits call.state → ((at : P) → Fits at → Holds at) → Always Holds call
+  holds_always Holds fits follows =
+      always_also Fits Holds follows call (always Fits call (λ at here found. fits_on _ _ (law at here found)) fits)

@@ -1,5 +1,5 @@
 -- The bounds of stamps in header words.
-use Rattle.std.specs.Prelude.{ℕ, ◌<◌}
+use Rattle.std.specs.Prelude.{◌<◌}
 use Rattle.si_model.specs.declared.log.Stamp.{Stamp}
 use Rattle.nam_catalog.specs.declared.form.Form.{Form}
 use Rattle.nam_header.specs.Header.{fields_of}

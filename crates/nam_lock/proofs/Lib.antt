@@ -1,0 +1,5 @@
+pub mod HeadersLemmas
+pub mod LockingLemmas
+pub mod TakenLemmas
+pub mod UnlockingLemmas
+pub mod ReachLemmas

@@ -1,0 +1,39 @@
+-- The locking of records as a machine.
+use Rattle.std.specs.Prelude.{ℕ, List, [], length}
+use Rattle.nam_verbs.specs.declared.now.Now.{Now}
+use Rattle.nam_verbs.specs.declared.now.Now.TheVariants.{At, Over}
+use Rattle.nam_verbs.specs.Running.{Running}
+use Rattle.nam_layout.specs.declared.field.Place.{Place}
+use Rattle.nam_calls.specs.declared.lock.LockPlace.{LockPlace}
+use Rattle.nam_calls.specs.declared.lock.LockEnd.{LockEnd}
+use Rattle.nam_calls.specs.declared.lock.LockEnd.TheVariants.{Held, Locked, Newer}
+use Rattle.nam_calls.specs.Lock.{lock_verb, lock_next, lock_after, lock_left, taken}
+use Rattle.nam_lock.specs.Headers.{headers_end}
+
+-- the worker who locks, the records, the snapshot that has to see them, and where the locking stands
+pub record Locking : Type 0 where
+  pub worker : ℕ
+  pub places : List Place
+  pub seen : List ℕ
+  pub state : Now LockPlace LockEnd
+
+-- a new locking, which has ended where there are no records
+abbrev pub locking : ℕ → List Place → List ℕ → Locking
+locking worker places seen = record { worker = worker; places = places; seen = seen; state = lock_next places [] }
+
+-- the same as a running call, which nothing follows but giving back
+abbrev pub running : Locking → Running LockPlace LockEnd
+running a = record {
+  verb = lock_verb a.worker a.places;
+  after = lock_after a.places a.seen;
+  left = lock_left a.places (length a.places);
+  reach = headers_end a.places;
+  state = a.state;
+}
+
+-- how many locks were taken so far, those that are given back among them
+abbrev pub taken_by : Now LockPlace LockEnd → ℕ
+taken_by (At place) = length (taken place)
+taken_by (Over (Held held)) = length held
+taken_by (Over (Locked nth found)) = nth
+taken_by (Over (Newer nth found)) = nth

@@ -1,0 +1,4 @@
+mod SearchLemmas
+mod ClaimLemmas
+mod FillLemmas
+mod ReachLemmas

@@ -1,0 +1,180 @@
+//! The filling of a claimed cell.
+
+ghost use Rattle.std.specs.Prelude.{◌≡◌, ◌<◌, ◌≤◌, ◌+◌, length};
+ghost use Rattle.nam_verbs.specs.Verb.{address_of};
+ghost use Rattle.nam_verbs.specs.Running.{verbs_left};
+ghost use Rattle.nam_layout.specs.PlaceFits.{FitsCells};
+ghost use Rattle.nam_words.specs.Ends.{cells_end};
+ghost use Rattle.nam_calls.specs.Overflow.{fill_begin as begin, fill_verb as verb_at, fill_after as after_word, fill_left as left_at};
+ghost use Rattle.nam_calls.specs.Fits.{FillFits};
+ghost use Rattle.nam_overflow.specs.Fill.{filling, running};
+
+use nam_calls::{FillPlace, Version};
+use nam_layout::Cells;
+use nam_verbs::{Machine, Now, Verb};
+use nam_words::{begin_at, cell_word_at, end_at, owner_at};
+use si_model::Value;
+use std::marker::Model;
+use std::mem::replace;
+
+/// Where a filling begins: at the owner.
+pub fn fill_begin() -> FillPlace
+    ensures { result ≡ begin }
+{
+    FillPlace::FillOwner
+}
+
+/// The verb that stands at a place: a write of the row that owns the cell, or of a word of the version.
+pub fn fill_verb(cells: &Cells, cell: u32, owner: u32, version: &Version, at: &FillPlace) -> Verb
+    requires fits { FitsCells cells.now }
+    requires cell { cell < cells.now.cells }
+    requires words { length version.now.value ≤ 8 }
+    requires at { FillFits (length version.now.value) at.now }
+    ensures value { result ≡ verb_at cells.now cell owner version.now at.now }
+    ensures within { address_of result < cells_end cells.now }
+{
+    match at {
+        FillPlace::FillOwner => Verb::Write {
+            at: owner_at(cells, cell),
+            word: owner as u64,
+        },
+        FillPlace::FillBegin => Verb::Write {
+            at: begin_at(cells, cell),
+            word: version.begin,
+        },
+        FillPlace::FillEnding => Verb::Write {
+            at: end_at(cells, cell),
+            word: version.end,
+        },
+        FillPlace::FillWord { nth } => Verb::Write {
+            at: cell_word_at(cells, cell, *nth),
+            word: *version.value.at(*nth as usize),
+        },
+    }
+}
+
+/// What follows the write of a place, where the version has so many words.
+pub fn fill_after(width: u32, at: FillPlace) -> Now<FillPlace, ()>
+    requires { FillFits width at }
+    ensures { result ≡ after_word width at }
+{
+    match at {
+        FillPlace::FillOwner => Now::At(FillPlace::FillBegin),
+        FillPlace::FillBegin => Now::At(FillPlace::FillEnding),
+        FillPlace::FillEnding => Now::At(FillPlace::FillWord { nth: 0 }),
+        FillPlace::FillWord { nth } => {
+            if nth + 1 == width {
+                Now::Over(())
+            } else {
+                Now::At(FillPlace::FillWord { nth: nth + 1 })
+            }
+        }
+    }
+}
+
+/// How many verbs are to come from a place.
+pub fn fill_left(width: u32, at: &FillPlace) -> u64
+    requires { FillFits width at.now }
+    ensures { result ≡ left_at width at.now }
+{
+    let width = width as u64;
+    match at {
+        FillPlace::FillOwner => width + 3,
+        FillPlace::FillBegin => width + 2,
+        FillPlace::FillEnding => width + 1,
+        FillPlace::FillWord { nth } => width - *nth as u64,
+    }
+}
+
+/// The filling of a cell with a version of a row: its owner, begin, end and words are written, and nothing else. The cell's
+/// tag says that it is being written until its claimer writes another.
+#[derive(Debug, Drop)]
+pub struct FillCell {
+    cells: Cells,
+    cell: u32,
+    owner: u32,
+    version: Version,
+    state: Now<FillPlace, ()>,
+}
+
+impl Model for FillCell {
+    ghost use Rattle.nam_overflow.specs.Fill.{Filling, FillingFits};
+
+    ghost Value = { Filling };
+
+    ghost view = { λ a. record { cells = a.cells; cell = a.cell; owner = a.owner; version = a.version; state = a.state } };
+
+    ghost invariant = { λ a. FillingFits a.cells a.cell a.version a.state };
+}
+
+impl FillCell {
+    /// The filling of this cell of the bucket with a version of row `owner`: its header, the word of its successor's stamp,
+    /// and its data words.
+    pub fn new(cells: Cells, cell: u32, owner: u32, begin: u64, end: u64, words: Value) -> FillCell
+        requires fits { FitsCells cells }
+        requires cell { cell < cells.cells }
+        requires least { 1 ≤ length words }
+        requires most { length words ≤ 8 }
+        ensures begins { result ≡ filling cells cell owner begin end words }
+        ensures left { verbs_left (running result) ≡ length words + 3 }
+    {
+        FillCell {
+            cells,
+            cell,
+            owner,
+            version: Version {
+                begin,
+                end,
+                value: words,
+            },
+            state: Now::At(fill_begin()),
+        }
+    }
+}
+
+impl Machine for FillCell {
+    ghost use Rattle.nam_verbs.specs.Running.{next_verb, after_found, end_of, verbs_left, stands_until_end};
+    ghost use Rattle.nam_overflow.specs.Fill.{running};
+
+    type End = ();
+
+    ghost next = { λ a. next_verb (running a) };
+
+    ghost after = { λ a found. record a { state = (after_found (running a) found).state } };
+
+    ghost ended = { λ a. end_of (running a) };
+
+    ghost rest = { λ a. verbs_left (running a) };
+
+    ghost reach = { λ a. (running a).reach };
+
+    ghost stands_until_end = { λ a. stands_until_end (running a) };
+
+    fn verb(&self) -> Option<Verb> {
+        match &self.state {
+            Now::At(at) => Some(fill_verb(&self.cells, self.cell, self.owner, &self.version, at)),
+            Now::Over(()) => None,
+        }
+    }
+
+    fn take(&mut self, _found: u64) {
+        match replace(&mut self.state, Now::Over(())) {
+            Now::At(at) => self.state = fill_after(self.version.value.len() as u32, at),
+            Now::Over(()) => self.state = Now::Over(()),
+        }
+    }
+
+    fn left(&self) -> u64 {
+        match &self.state {
+            Now::At(at) => fill_left(self.version.value.len() as u32, at),
+            Now::Over(()) => 0,
+        }
+    }
+
+    fn end(&self) -> Option<()> {
+        match &self.state {
+            Now::At(_) => None,
+            Now::Over(()) => Some(()),
+        }
+    }
+}

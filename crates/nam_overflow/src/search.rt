@@ -1,0 +1,266 @@
+//! The search of a bucket's cells.
+
+ghost use Rattle.std.specs.Prelude.{◌≡◌, ◌<◌, ◌*◌, ◌+◌};
+ghost use Rattle.nam_verbs.specs.Verb.{address_of};
+ghost use Rattle.nam_verbs.specs.Running.{verbs_left};
+ghost use Rattle.nam_layout.specs.PlaceFits.{FitsPlace, FitsCells};
+ghost use Rattle.nam_words.specs.Ends.{cells_end};
+ghost use Rattle.nam_calls.specs.Overflow.{cell_begin as begin, cell_verb as verb_at, next_cell as next_at, cell_after as after_word};
+ghost use Rattle.nam_calls.specs.Overflow.{cells_left as left_after, cell_left as left_at};
+ghost use Rattle.nam_calls.specs.Fits.{CellFits};
+ghost use Rattle.nam_overflow.specs.Search.{searching, running};
+
+use nam_calls::{CellPlace, SearchEnd};
+use nam_layout::{Cells, Place};
+use nam_verbs::{Machine, Now, Verb};
+use nam_words::{begin_at, cell_word_at, end_at, is_deleted, is_full, owner_at, sees, tag_at};
+use si_model::{Snapshot, Value};
+use std::marker::Model;
+use std::mem::replace;
+
+/// Where a search begins: at the first cell.
+pub fn cell_begin() -> CellPlace
+    ensures { result ≡ begin }
+{
+    CellPlace::CellTag { cell: 0 }
+}
+
+/// The verb that stands at a place.
+pub fn cell_verb(cells: &Cells, place: &Place, at: &CellPlace) -> Verb
+    requires cells { FitsCells cells.now }
+    requires place { FitsPlace place.now }
+    requires at { CellFits cells.now place.now at.now }
+    ensures value { result ≡ verb_at cells.now at.now }
+    ensures within { address_of result < cells_end cells.now }
+{
+    let at = match at {
+        CellPlace::CellTag { cell } | CellPlace::CellAgain { cell, .. } => tag_at(cells, *cell),
+        CellPlace::CellOwner { cell, .. } => owner_at(cells, *cell),
+        CellPlace::CellBegin { cell, .. } => begin_at(cells, *cell),
+        CellPlace::CellEnding { cell, .. } => end_at(cells, *cell),
+        CellPlace::CellWords { cell, got, .. } => cell_word_at(cells, *cell, got.len() as u32),
+    };
+    Verb::Read { at }
+}
+
+fn next_cell(cells: &Cells, cell: u32) -> Now<CellPlace, SearchEnd>
+    requires fits { FitsCells cells.now }
+    requires cell { cell < cells.now.cells }
+    ensures { result ≡ next_at cells.now cell }
+{
+    if cell + 1 == cells.cells {
+        Now::Over(SearchEnd::NotThere)
+    } else {
+        Now::At(CellPlace::CellTag { cell: cell + 1 })
+    }
+}
+
+/// What follows the word that the verb of a place found.
+pub fn cell_after(
+    cells: &Cells,
+    place: &Place,
+    seen: &Snapshot,
+    at: CellPlace,
+    found: u64,
+) -> Now<CellPlace, SearchEnd>
+    requires cells { FitsCells cells.now }
+    requires place { FitsPlace place.now }
+    requires at { CellFits cells.now place.now at }
+    ensures { result ≡ after_word cells.now place.now seen.now at found }
+{
+    match at {
+        CellPlace::CellTag { cell } => {
+            if !is_full(found) {
+                next_cell(cells, cell)
+            } else {
+                Now::At(CellPlace::CellOwner { cell, tag: found })
+            }
+        }
+        CellPlace::CellOwner { cell, tag } => {
+            if found != place.row as u64 {
+                next_cell(cells, cell)
+            } else {
+                Now::At(CellPlace::CellBegin { cell, tag })
+            }
+        }
+        CellPlace::CellBegin { cell, tag } => {
+            if !sees(place.form, seen, found) {
+                next_cell(cells, cell)
+            } else {
+                Now::At(CellPlace::CellEnding {
+                    cell,
+                    tag,
+                    header: found,
+                })
+            }
+        }
+        CellPlace::CellEnding { cell, tag, header } => {
+            if sees(place.form, seen, found) {
+                next_cell(cells, cell)
+            } else {
+                Now::At(CellPlace::CellWords {
+                    cell,
+                    tag,
+                    header,
+                    got: Value::new(),
+                })
+            }
+        }
+        CellPlace::CellWords {
+            cell,
+            tag,
+            header,
+            mut got,
+        } => {
+            got.push(found);
+            if got.len() == place.width as usize {
+                Now::At(CellPlace::CellAgain {
+                    cell,
+                    tag,
+                    header,
+                    value: got,
+                })
+            } else {
+                Now::At(CellPlace::CellWords {
+                    cell,
+                    tag,
+                    header,
+                    got,
+                })
+            }
+        }
+        CellPlace::CellAgain {
+            cell,
+            tag,
+            header,
+            value,
+        } => {
+            if found != tag {
+                next_cell(cells, cell)
+            } else if is_deleted(place.form, header) {
+                Now::Over(SearchEnd::Found(None))
+            } else {
+                Now::Over(SearchEnd::Found(Some(value)))
+            }
+        }
+    }
+}
+
+fn cells_left(cells: &Cells, place: &Place, cell: u32) -> u64
+    requires place { FitsPlace place.now }
+    requires cell { cell < cells.now.cells }
+    ensures { result ≡ left_after cells.now place.now cell }
+{
+    (cells.cells - cell - 1) as u64 * (place.width as u64 + 5)
+}
+
+/// A number of verbs that are to come from a place at the most.
+pub fn cell_left(cells: &Cells, place: &Place, at: &CellPlace) -> u64
+    requires cells { FitsCells cells.now }
+    requires place { FitsPlace place.now }
+    requires at { CellFits cells.now place.now at.now }
+    ensures { result ≡ left_at cells.now place.now at.now }
+{
+    let width = place.width as u64;
+    match at {
+        CellPlace::CellTag { cell } => cells_left(cells, place, *cell) + (width + 5),
+        CellPlace::CellOwner { cell, .. } => cells_left(cells, place, *cell) + (width + 4),
+        CellPlace::CellBegin { cell, .. } => cells_left(cells, place, *cell) + (width + 3),
+        CellPlace::CellEnding { cell, .. } => cells_left(cells, place, *cell) + (width + 2),
+        CellPlace::CellWords { cell, got, .. } => cells_left(cells, place, *cell)
+            + (width - got.len() as u64 + 1),
+        CellPlace::CellAgain { cell, .. } => cells_left(cells, place, *cell) + 1,
+    }
+}
+
+/// The search of a bucket's cells for the version of a row that a snapshot sees: cell after cell, until one has it. A cell
+/// has it where its tag says that it is full, it belongs to the row, the snapshot sees its header and not its end, and the
+/// tag is the same after the words.
+#[derive(Debug, Drop)]
+pub struct SearchCells {
+    cells: Cells,
+    place: Place,
+    seen: Snapshot,
+    state: Now<CellPlace, SearchEnd>,
+}
+
+impl Model for SearchCells {
+    ghost use Rattle.nam_verbs.specs.Now.{FitsNow};
+    ghost use Rattle.nam_layout.specs.PlaceFits.{FitsPlace, FitsCells};
+    ghost use Rattle.nam_calls.specs.Fits.{CellFits};
+    ghost use Rattle.nam_overflow.specs.Search.{Searching};
+
+    ghost Value = { Searching };
+
+    ghost view = { λ a. record { cells = a.cells; place = a.place; seen = a.seen; state = a.state } };
+
+    ghost invariant = { λ a. FitsCells a.cells × FitsPlace a.place × FitsNow (CellFits a.cells a.place) a.state };
+}
+
+impl SearchCells {
+    /// A search of these cells, of at most `width + 5` verbs for each of them.
+    pub fn new(cells: Cells, place: Place, seen: Snapshot) -> SearchCells
+        requires cells { FitsCells cells }
+        requires place { FitsPlace place }
+        ensures begins { result ≡ searching cells place seen }
+        ensures left { verbs_left (running result) ≡ cells.cells * (place.width + 5) }
+    {
+        SearchCells {
+            cells,
+            place,
+            seen,
+            state: Now::At(cell_begin()),
+        }
+    }
+}
+
+impl Machine for SearchCells {
+    ghost use Rattle.nam_verbs.specs.Running.{next_verb, after_found, end_of, verbs_left, stands_until_end};
+    ghost use Rattle.nam_overflow.specs.Search.{running};
+
+    type End = SearchEnd;
+
+    ghost next = { λ a. next_verb (running a) };
+
+    ghost after = { λ a found. record a { state = (after_found (running a) found).state } };
+
+    ghost ended = { λ a. end_of (running a) };
+
+    ghost rest = { λ a. verbs_left (running a) };
+
+    ghost reach = { λ a. (running a).reach };
+
+    ghost stands_until_end = { λ a. stands_until_end (running a) };
+
+    fn verb(&self) -> Option<Verb> {
+        match &self.state {
+            Now::At(at) => Some(cell_verb(&self.cells, &self.place, at)),
+            Now::Over(_) => None,
+        }
+    }
+
+    fn take(&mut self, found: u64) {
+        match replace(&mut self.state, Now::At(cell_begin())) {
+            Now::At(at) => {
+                self.state = cell_after(&self.cells, &self.place, &self.seen, at, found)
+            }
+            Now::Over(end) => self.state = Now::Over(end),
+        }
+    }
+
+    fn left(&self) -> u64 {
+        match &self.state {
+            Now::At(at) => cell_left(&self.cells, &self.place, at),
+            Now::Over(_) => 0,
+        }
+    }
+
+    fn end(&self) -> Option<SearchEnd> {
+        match &self.state {
+            Now::At(_) => None,
+            Now::Over(SearchEnd::Found(Some(value))) => Some(SearchEnd::Found(Some(value.copy()))),
+            Now::Over(SearchEnd::Found(None)) => Some(SearchEnd::Found(None)),
+            Now::Over(SearchEnd::NotThere) => Some(SearchEnd::NotThere),
+        }
+    }
+}

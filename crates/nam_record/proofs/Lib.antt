@@ -1,0 +1,3 @@
+pub mod CurrentLemmas
+pub mod RecordLemmas
+pub mod ReachLemmas

@@ -1,0 +1,199 @@
+//! Installing the next version of a record.
+
+ghost use Rattle.std.specs.Prelude.{◌≡◌, ◌<◌, ◌+◌, MatchOption};
+ghost use Rattle.nam_verbs.specs.Verb.{address_of};
+ghost use Rattle.nam_verbs.specs.Running.{verbs_left};
+ghost use Rattle.nam_layout.specs.PlaceFits.{FitsPlace};
+ghost use Rattle.nam_calls.specs.Record.{install_begin as begin, install_verb as verb_at, word_in as word_of_value};
+ghost use Rattle.nam_calls.specs.Record.{install_after as after_write, install_left as left_at};
+ghost use Rattle.nam_calls.specs.Fits.{HasWidth, InstallFits};
+ghost use Rattle.nam_words.specs.Ends.{place_end};
+ghost use Rattle.nam_record.specs.Install.{installing, running};
+
+use nam_calls::InstallPlace;
+use nam_layout::Place;
+use nam_verbs::{Machine, Now, Verb};
+use nam_words::word_at;
+use si_model::Value;
+use std::marker::Model;
+use std::mem::replace;
+
+/// Where the install of a version begins. A deletion has no value, and leaves the data words as they are.
+pub fn install_begin(value: &Option<Value>) -> InstallPlace
+    ensures { result ≡ begin value.now }
+{
+    match value {
+        None => InstallPlace::InstallCount,
+        Some(_) => InstallPlace::InstallWord { nth: 0 },
+    }
+}
+
+/// A word of the value, and 0 of a deletion.
+fn word_in(place: &Place, value: &Option<Value>, nth: u32) -> u64
+    requires value { HasWidth place.now.width value.now }
+    requires nth { nth < place.now.width }
+    ensures { result ≡ word_of_value value.now nth }
+{
+    match value {
+        None => 0,
+        Some(value) => *value.at(nth as usize),
+    }
+}
+
+/// The verb that stands at a place, of the install of a version after that of number `count`.
+pub fn install_verb(
+    place: &Place,
+    value: &Option<Value>,
+    count: u64,
+    header: u64,
+    at: &InstallPlace,
+) -> Verb
+    requires fits { FitsPlace place.now }
+    requires value { HasWidth place.now.width value.now }
+    requires at { InstallFits place.now at.now }
+    ensures value { result ≡ verb_at place.now value.now count header at.now }
+    ensures within { address_of result < place_end place.now }
+{
+    match at {
+        InstallPlace::InstallWord { nth } => Verb::Write {
+            at: word_at(place, *nth),
+            word: word_in(place, value, *nth),
+        },
+        InstallPlace::InstallCount => Verb::Write {
+            at: place.count_at,
+            word: count.wrapping_add(1),
+        },
+        InstallPlace::InstallHead => Verb::Write {
+            at: place.header_at,
+            word: header,
+        },
+    }
+}
+
+/// The install after its write.
+pub fn install_after(place: &Place, at: InstallPlace) -> Now<InstallPlace, ()>
+    requires fits { FitsPlace place.now }
+    requires at { InstallFits place.now at }
+    ensures { result ≡ after_write place.now at }
+{
+    match at {
+        InstallPlace::InstallWord { nth } => {
+            if nth + 1 == place.width {
+                Now::At(InstallPlace::InstallCount)
+            } else {
+                Now::At(InstallPlace::InstallWord { nth: nth + 1 })
+            }
+        }
+        InstallPlace::InstallCount => Now::At(InstallPlace::InstallHead),
+        InstallPlace::InstallHead => Now::Over(()),
+    }
+}
+
+/// How many verbs are to come from a place.
+pub fn install_left(place: &Place, at: &InstallPlace) -> u64
+    requires fits { FitsPlace place.now }
+    requires at { InstallFits place.now at.now }
+    ensures { result ≡ left_at place.now at.now }
+{
+    match at {
+        InstallPlace::InstallWord { nth } => place.width as u64 - *nth as u64 + 2,
+        InstallPlace::InstallCount => 2,
+        InstallPlace::InstallHead => 1,
+    }
+}
+
+/// The install of a version: its data words, which a deletion has not, then its number, and its header last.
+#[derive(Debug, Drop)]
+pub struct Install {
+    place: Place,
+    value: Option<Value>,
+    count: u64,
+    header: u64,
+    state: Now<InstallPlace, ()>,
+}
+
+impl Model for Install {
+    ghost use Rattle.nam_verbs.specs.Now.{FitsNow};
+    ghost use Rattle.nam_layout.specs.PlaceFits.{FitsPlace};
+    ghost use Rattle.nam_calls.specs.Fits.{HasWidth, InstallFits};
+    ghost use Rattle.nam_record.specs.Install.{Installing};
+
+    ghost Value = { Installing };
+
+    ghost view = { λ a. record { place = a.place; value = a.value; count = a.count; header = a.header; state = a.state } };
+
+    ghost invariant = { λ a. FitsPlace a.place × HasWidth a.place.width a.value × FitsNow (InstallFits a.place) a.state };
+}
+
+impl Install {
+    /// The install of a version, or of a deletion where there is no value, after the version of number `count`. It has
+    /// a verb for each word of the value and two more.
+    pub fn new(place: Place, value: Option<Value>, count: u64, header: u64) -> Install
+        requires fits { FitsPlace place }
+        requires value { HasWidth place.width value }
+        ensures begins { result ≡ installing place value count header }
+        ensures left { MatchOption value (verbs_left (running result) ≡ 2) (λ words. verbs_left (running result) ≡ place.width + 2) }
+    {
+        let begin = install_begin(&value);
+        Install {
+            place,
+            value,
+            count,
+            header,
+            state: Now::At(begin),
+        }
+    }
+}
+
+impl Machine for Install {
+    ghost use Rattle.nam_verbs.specs.Running.{next_verb, after_found, end_of, verbs_left, stands_until_end};
+    ghost use Rattle.nam_record.specs.Install.{running};
+
+    type End = ();
+
+    ghost next = { λ a. next_verb (running a) };
+
+    ghost after = { λ a found. record a { state = (after_found (running a) found).state } };
+
+    ghost ended = { λ a. end_of (running a) };
+
+    ghost rest = { λ a. verbs_left (running a) };
+
+    ghost reach = { λ a. (running a).reach };
+
+    ghost stands_until_end = { λ a. stands_until_end (running a) };
+
+    fn verb(&self) -> Option<Verb> {
+        match &self.state {
+            Now::At(at) => Some(install_verb(
+                &self.place,
+                &self.value,
+                self.count,
+                self.header,
+                at,
+            )),
+            Now::Over(()) => None,
+        }
+    }
+
+    fn take(&mut self, _found: u64) {
+        match replace(&mut self.state, Now::Over(())) {
+            Now::At(at) => self.state = install_after(&self.place, at),
+            Now::Over(()) => self.state = Now::Over(()),
+        }
+    }
+
+    fn left(&self) -> u64 {
+        match &self.state {
+            Now::At(at) => install_left(&self.place, at),
+            Now::Over(()) => 0,
+        }
+    }
+
+    fn end(&self) -> Option<()> {
+        match &self.state {
+            Now::At(_) => None,
+            Now::Over(()) => Some(()),
+        }
+    }
+}

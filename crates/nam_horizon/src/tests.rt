@@ -1,11 +1,8 @@
-ghost use Rattle.std.specs.Prelude.{◌≡◌, ◌≤◌, [], ◌∷◌, length, IfSome, IfOk};
-ghost use Rattle.nam_layout.specs.PlaceFits.{FitsCells};
+ghost use Rattle.std.specs.Prelude.{◌≡◌, length};
 
 use crate::{Collect, OldEnd, ShowOld};
-use lists::ShortList;
-use nam_catalog::{Form, Shape, Table, TableName, check};
-use nam_layout::{Cells, Layout};
-use nam_verbs::{Machine, PlainRegion, Region, Verb};
+use nam_trial::{PlainStore, plain_shape};
+use nam_verbs::{Machine, Verb};
 use si_model::Snapshot;
 use std::alloc::{AllocError, Global};
 
@@ -14,87 +11,28 @@ const FIFTH: u64 = 34_359_738_408;
 
 const SIXTH: u64 = 34_359_738_416;
 
-// The only bucket of a store of two workers and one position. Its three cells begin at 11, 23 and 35.
-fn bucket() -> Option<Cells>
-    ensures fits { IfSome result FitsCells }
-    ensures first { IfSome result (λ cells. cells.first ≡ 11) }
-    ensures cells { IfSome result (λ cells. cells.cells ≡ 3) }
-{
-    let mut tables = ShortList::new();
-    tables.push(Table {
-        name: TableName::from_text("a"),
-        width: 1,
-        capacity: 1,
-        ring: 1,
-    });
-    let shape = Shape {
-        form: Form::Narrow,
-        workers: 2,
-        tables,
-        buckets: 1,
-        cells: 3,
-        start: 0,
-    };
-    match check(&shape) {
-        Ok(_) => {
-            let cells = Layout::new(&shape).cells(0);
-            if cells.first == 11 && cells.cells == 3 {
-                Some(cells)
-            } else {
-                None
-            }
-        }
-        Err(_) => None,
-    }
-}
-
-// The words of this store at the opening.
-fn opening(alloc: Global) -> Result<PlainRegion, AllocError>
-    ensures { IfOk result (λ words. length words ≡ 47) }
-{
-    let words: Vec<u64> = vec![in alloc;
-        0, 0, 0, 0, 0, 2, 0, 0, 5, 0, 0, 0, 0, 0, 0, 0, 0, 0, 0, 0, 0, 0, 0, 0, 0, 0, 0, 0, 0, 0,
-        0, 0, 0, 0, 0, 0, 0, 0, 0, 0, 0, 0, 0, 0, 0, 0, 0,
-    ]?;
-    Ok(PlainRegion::new(words))
+// Two workers, whose horizon entries are at 2 and 3, one position, and a bucket of three cells at 11, 23 and 35.
+fn opened(alloc: Global) -> Result<Option<PlainStore>, AllocError> {
+    PlainStore::new(alloc, plain_shape(1, 1, 1, 3))
 }
 
 fn snapshot(first: u64, second: u64) -> Snapshot
-    ensures { result ≡ first ∷ second ∷ [] }
+    ensures { length result ≡ 2 }
 {
-    let mut seen = Snapshot::new();
-    seen.push(first);
-    seen.push(second);
-    seen
+    let mut snapshot = Snapshot::new();
+    snapshot.push(first);
+    snapshot.push(second);
+    snapshot
 }
 
-// Puts a full cell with this end into the place of another.
-fn fill(region: &mut PlainRegion, tag: u64, ending: u64)
-    requires words { length region.old ≡ 47 }
-    requires tag { tag ≤ 35 }
-    ensures { length region.new ≡ 47 }
-{
-    region.verb(Verb::Write { at: tag, word: 2 });
-    region.verb(Verb::Write {
-        at: tag + 3,
-        word: ending,
-    });
+// Makes a cell full, with this end.
+fn fill(store: &mut PlainStore, tag: u32, ending: u64) {
+    store.set(tag as u64, 2);
+    store.set(tag as u64 + 3, ending);
 }
 
-// Does the verb that stands.
-fn step<M: Machine>(region: &mut PlainRegion, machine: &mut M) -> Option<Verb>
-    requires { M.reach machine.old ≤ length region.old }
-    ensures within { M.reach machine.new ≤ length region.new }
-    ensures words { length region.new ≡ length region.old }
-{
-    match machine.verb() {
-        None => None,
-        Some(verb) => {
-            let found = region.verb(verb);
-            machine.take(found);
-            Some(verb)
-        }
-    }
+fn read(at: u64) -> Verb {
+    Verb::Read { at }
 }
 
 fn exchange(at: u64, expect: u64, word: u64) -> Verb {
@@ -103,106 +41,82 @@ fn exchange(at: u64, expect: u64, word: u64) -> Verb {
 
 #[test]
 fn the_horizon_is_raised_to_the_snapshot(rt: HostRuntime) -> Result<(), AllocError> {
-    let cells = bucket().expect(&rt, "a bucket of three cells");
-    let mut region = opening(rt.alloc())?;
+    let mut store = opened(rt.alloc())?.expect(&rt, "a store");
+    let cells = store.cells(0).expect(&rt, "a bucket");
     let mut collect = Collect::new(cells, 2, snapshot(5, 0));
-    assert_eq!(rt; collect.left(), 13);
-    assert_eq!(rt; step(&mut region, &mut collect), Some(Verb::Read { at: 2 }));
-    assert_eq!(rt; step(&mut region, &mut collect), Some(exchange(2, 0, 5)));
-    assert_eq!(rt; step(&mut region, &mut collect), Some(Verb::Read { at: 3 }));
-    assert_eq!(rt; collect.left(), 9);
-    assert_eq!(rt;
-        step(&mut region, &mut collect),
-        Some(Verb::Read { at: 11 })
-    );
-    assert_eq!(rt;
-        step(&mut region, &mut collect),
-        Some(Verb::Read { at: 23 })
-    );
-    assert_eq!(rt;
-        step(&mut region, &mut collect),
-        Some(Verb::Read { at: 35 })
-    );
-    let known = collect.end().expect(&rt, "no verb stands");
-    assert!(rt; known.as_slice() == [5, 0].as_slice());
+    assert_eq!(rt; collect.left(), 4 + 3 * cells.cells as u64);
+    let verbs = store.run(rt.alloc(), &mut collect)?;
+    let expected = [
+        read(2),
+        exchange(2, 0, 5),
+        read(3),
+        read(11),
+        read(23),
+        read(35),
+    ];
+    assert!(rt; verbs.as_slice() == expected.as_slice());
+    assert!(rt; collect.end() == Some(snapshot(5, 0)));
+    assert_eq!(rt; store.word(2), 5);
     Ok(())
 }
 
 #[test]
 fn a_cell_within_the_horizon_is_freed(rt: HostRuntime) -> Result<(), AllocError> {
-    let cells = bucket().expect(&rt, "a bucket of three cells");
-    let mut region = opening(rt.alloc())?;
-    region.verb(Verb::Write { at: 2, word: 5 });
-    fill(&mut region, 11, FIFTH);
-    fill(&mut region, 23, SIXTH);
+    let mut store = opened(rt.alloc())?.expect(&rt, "a store");
+    let cells = store.cells(0).expect(&rt, "a bucket");
+    store.set(2, 5);
+    fill(&mut store, 11, FIFTH);
+    fill(&mut store, 23, SIXTH);
     let mut collect = Collect::new(cells, 2, snapshot(4, 0));
-    assert_eq!(rt; step(&mut region, &mut collect), Some(Verb::Read { at: 2 }));
-    assert_eq!(rt; step(&mut region, &mut collect), Some(Verb::Read { at: 3 }));
-    assert_eq!(rt;
-        step(&mut region, &mut collect),
-        Some(Verb::Read { at: 11 })
-    );
-    assert_eq!(rt;
-        step(&mut region, &mut collect),
-        Some(Verb::Read { at: 14 })
-    );
-    assert_eq!(rt; step(&mut region, &mut collect), Some(exchange(11, 2, 4)));
-    assert_eq!(rt;
-        step(&mut region, &mut collect),
-        Some(Verb::Read { at: 23 })
-    );
-    assert_eq!(rt;
-        step(&mut region, &mut collect),
-        Some(Verb::Read { at: 26 })
-    );
-    assert_eq!(rt;
-        step(&mut region, &mut collect),
-        Some(Verb::Read { at: 35 })
-    );
-    let known = collect.end().expect(&rt, "no verb stands");
-    assert!(rt; known.as_slice() == [5, 0].as_slice());
+    let verbs = store.run(rt.alloc(), &mut collect)?;
+    let expected = [
+        read(2),
+        read(3),
+        read(11),
+        read(14),
+        exchange(11, 2, 4),
+        read(23),
+        read(26),
+        read(35),
+    ];
+    assert!(rt; verbs.as_slice() == expected.as_slice());
+    assert!(rt; collect.end() == Some(snapshot(5, 0)));
+    assert_eq!(rt; store.word(11), 4);
+    assert_eq!(rt; store.word(23), 2);
     Ok(())
 }
 
+// The horizon was raised by another worker meanwhile, though less far.
 #[test]
 fn a_lost_exchange_leaves_the_horizon_that_was_found(rt: HostRuntime) -> Result<(), AllocError> {
-    let cells = bucket().expect(&rt, "a bucket of three cells");
-    let mut region = opening(rt.alloc())?;
-    fill(&mut region, 11, FIFTH);
+    let store = opened(rt.alloc())?.expect(&rt, "a store");
+    let cells = store.cells(0).expect(&rt, "a bucket");
     let mut collect = Collect::new(cells, 2, snapshot(5, 0));
-    assert_eq!(rt; step(&mut region, &mut collect), Some(Verb::Read { at: 2 }));
-    region.verb(Verb::Write { at: 2, word: 3 });
-    assert_eq!(rt; step(&mut region, &mut collect), Some(exchange(2, 0, 5)));
-    assert_eq!(rt; step(&mut region, &mut collect), Some(Verb::Read { at: 3 }));
-    assert_eq!(rt;
-        step(&mut region, &mut collect),
-        Some(Verb::Read { at: 11 })
-    );
-    assert_eq!(rt;
-        step(&mut region, &mut collect),
-        Some(Verb::Read { at: 14 })
-    );
-    assert_eq!(rt;
-        step(&mut region, &mut collect),
-        Some(Verb::Read { at: 23 })
-    );
-    assert_eq!(rt;
-        step(&mut region, &mut collect),
-        Some(Verb::Read { at: 35 })
-    );
-    let known = collect.end().expect(&rt, "no verb stands");
-    assert!(rt; known.as_slice() == [3, 0].as_slice());
+    let steps = [
+        (read(2), 0),
+        (exchange(2, 0, 5), 3),
+        (read(3), 0),
+        (read(11), 2),
+        (read(14), FIFTH),
+        (read(23), 1),
+        (read(35), 0),
+    ];
+    for (verb, found) in steps {
+        assert_eq!(rt; collect.verb(), Some(verb));
+        collect.take(found);
+    }
+    assert!(rt; collect.end() == Some(snapshot(3, 0)));
     Ok(())
 }
 
 #[test]
 fn a_snapshot_below_the_horizon_is_too_old(rt: HostRuntime) -> Result<(), AllocError> {
-    let mut region = opening(rt.alloc())?;
-    region.verb(Verb::Write { at: 3, word: 5 });
+    let mut store = opened(rt.alloc())?.expect(&rt, "a store");
+    store.set(3, 5);
     let mut old = ShowOld::new(2, snapshot(0, 4));
     assert_eq!(rt; old.left(), 2);
-    assert_eq!(rt; step(&mut region, &mut old), Some(Verb::Read { at: 2 }));
-    assert_eq!(rt; step(&mut region, &mut old), Some(Verb::Read { at: 3 }));
+    let verbs = store.run(rt.alloc(), &mut old)?;
+    assert!(rt; verbs.as_slice() == [read(2), read(3)].as_slice());
     let end = OldEnd::TooOld {
         worker: 2,
         entry: 4,
@@ -214,11 +128,11 @@ fn a_snapshot_below_the_horizon_is_too_old(rt: HostRuntime) -> Result<(), AllocE
 
 #[test]
 fn a_snapshot_at_the_horizon_is_not_passed(rt: HostRuntime) -> Result<(), AllocError> {
-    let mut region = opening(rt.alloc())?;
-    region.verb(Verb::Write { at: 3, word: 5 });
+    let mut store = opened(rt.alloc())?.expect(&rt, "a store");
+    store.set(3, 5);
     let mut old = ShowOld::new(2, snapshot(0, 5));
-    assert_eq!(rt; step(&mut region, &mut old), Some(Verb::Read { at: 2 }));
-    assert_eq!(rt; step(&mut region, &mut old), Some(Verb::Read { at: 3 }));
+    let verbs = store.run(rt.alloc(), &mut old)?;
+    assert!(rt; verbs.as_slice() == [read(2), read(3)].as_slice());
     assert_eq!(rt; old.end(), Some(OldEnd::NotPassed));
     Ok(())
 }

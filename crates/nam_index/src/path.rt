@@ -9,7 +9,7 @@ use nam_layout::Layout;
 
 /// The positions of a table in the order in which a key is looked for: the first is that of the key modulo the
 /// capacity, and after the table's last position its first follows.
-#[derive(Clone, Copy, Debug, PartialEq, Eq)]
+#[derive(Clone, Copy, Debug)]
 pub struct Path {
     pub key: u64,
     pub capacity: u32,

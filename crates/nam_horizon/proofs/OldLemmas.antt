@@ -1,5 +1,6 @@
 -- What showing that a snapshot is too old makes of the words that it finds.
-use Rattle.std.proofs.Common.{◌≡◌, ◌≢◌, ◌⊎◌, inl, inr, ℕ, ◌+◌, ◌-◌, ◌<◌, ◌≤◌, List, [], ◌∷◌, ◌++◌, refl, sym, ◌∙◌, ap, subst, arith, Bool, true, false}
+use Rattle.std.proofs.Common.{◌≡◌, ◌⊎◌, inl, inr, ℕ, ◌+◌, ◌-◌, ◌<◌, ◌≤◌, List, [], ◌∷◌, ◌++◌, refl, sym, ap, subst}
+use Rattle.std.proofs.Common.{arith, true, false}
 use Rattle.std.specs.Prelude.{◌==◌, nat_lt, if◌then◌else◌, slice_index}
 use Rattle.std.proofs.lemmas.Bool.{cases_lt}
 use Rattle.std.proofs.lemmas.Bool.Decides.{nat_tests}
@@ -29,13 +30,16 @@ module _ (workers : ℕ) (some : 1 ≤ workers) (seen : List ℕ) where
 
   abbrev Parts : ℕ → List Step → OldEnd → Type 0
   Parts nth steps end =
-      Stops end nth steps ⊎ ((first rest : List Step) × (steps ≡ first ++ rest) × NotAbove workers seen nth first × EndsFrom (next nth) rest end)
+      Stops end nth steps
+      ⊎ ((first rest : List Step) × (steps ≡ first ++ rest) × NotAbove workers seen nth first
+      × EndsFrom (next nth) rest end)
 
   entry_is : (nth : ℕ) → slice_index seen (nth + 1 - 1) ≡ slice_index seen nth
   entry_is nth = let same : nth + 1 - 1 ≡ nth = omega arith in ap (slice_index seen) same
 
   -- what follows a word, by what it is
-  above_goes : (nth found : ℕ) → slice_index seen nth < found → old_after workers seen (nth + 1) found ≡ Over (TooOld (nth + 1) (slice_index seen nth) found)
+  above_goes : (nth found : ℕ) → slice_index seen nth < found
+      → old_after workers seen (nth + 1) found ≡ Over (TooOld (nth + 1) (slice_index seen nth) found)
   above_goes nth found above =
       let test : nat_lt (slice_index seen nth) found ≡ true = grind (arith, nat_tests) in
       rw (entry_is nth, test) refl
@@ -46,7 +50,8 @@ module _ (workers : ℕ) (some : 1 ≤ workers) (seen : List ℕ) where
       rw (entry_is nth, test) refl
 
   above_stops : (nth found : ℕ) → slice_index seen nth < found → (steps : List Step) (end : OldEnd)
-      → EndsFrom (Over (TooOld (nth + 1) (slice_index seen nth) found)) steps end → Stops end nth (saw (horizon_at workers (nth + 1)) found ∷ steps)
+      → EndsFrom (Over (TooOld (nth + 1) (slice_index seen nth) found)) steps end
+      → Stops end nth (saw (horizon_at workers (nth + 1)) found ∷ steps)
   above_stops nth found above [] (TooOld worker entry horizon) ends =
       let worker_is : worker ≡ nth + 1 = cc in
       let entry_is : entry ≡ slice_index seen nth = cc in
@@ -61,16 +66,25 @@ module _ (workers : ℕ) (some : 1 ≤ workers) (seen : List ℕ) where
   part nth (step ∷ steps) end ends =
       let found = step.found in
       let is : step ≡ saw (horizon_at workers (nth + 1)) found = step_of _ step ends.0 in
-      let goes = λ (now : Now ℕ OldEnd) (same : old_after workers seen (nth + 1) found ≡ now). subst (λ now. EndsFrom now steps end) same ends.1 in
+      let goes = λ (now : Now ℕ OldEnd) (same : old_after workers seen (nth + 1) found ≡ now). subst
+      (λ now. EndsFrom now steps end) same ends.1 in
       elim (cases_lt (slice_index seen nth) found) [
         | inl above ↦ inl (rw is (above_stops nth found above steps end (goes _ (above_goes nth found above))))
         | inr least ↦
-          inr (step ∷ [], steps, refl, record { found = found; not_above = least; steps_are = rw (← is) refl }, goes _ (other_goes nth found least))
+            inr (
+              step ∷ [],
+              steps,
+              refl,
+              record { found = found; not_above = least; steps_are = rw (← is) refl },
+              goes
+                  _ (other_goes nth found least),
+            )
       ]
 
   -- The other way round.
 
-  passed : (nth : ℕ) (first rest : List Step) (end : OldEnd) → NotAbove workers seen nth first → EndsFrom (next nth) rest end
+  passed : (nth : ℕ) (first rest : List Step) (end : OldEnd) → NotAbove workers seen nth first
+      → EndsFrom (next nth) rest end
       → EndsFrom (At (nth + 1)) (first ++ rest) end
   passed nth first rest end is ends =
       rw is.steps_are (refl, subst (λ now. EndsFrom now rest end) (sym (other_goes nth is.found is.not_above)) ends)
@@ -79,8 +93,11 @@ module _ (workers : ℕ) (some : 1 ≤ workers) (seen : List ℕ) where
   stopped nth steps NotPassed stops = absurd stops
   stopped nth steps (TooOld worker entry horizon) is =
       let above : slice_index seen nth < horizon = subst (λ e. e < horizon) is.entry_is is.above in
-      rw (is.steps_are, is.worker_is, is.entry_is)
-      (refl, subst (λ now. EndsFrom now [] (TooOld (nth + 1) (slice_index seen nth) horizon)) (sym (above_goes nth horizon above)) refl)
+      rw (is.steps_are, is.worker_is, is.entry_is) (
+        refl,
+        subst (λ now. EndsFrom now [] (TooOld (nth + 1) (slice_index seen nth) horizon))
+            (sym (above_goes nth horizon above)) refl,
+      )
 
   -- worker after worker
   goes_on : (nth : ℕ) → nth + 1 < workers → next nth ≡ At (nth + 1 + 1)
@@ -90,7 +107,8 @@ module _ (workers : ℕ) (some : 1 ≤ workers) (seen : List ℕ) where
   misses nth last = let test : (nth + 1 == workers) ≡ true = grind (arith, nat_tests) in rw test refl
 
   ended : (steps : List Step) (end : OldEnd) → EndsFrom (At 1) steps end
-      → StopsAt (NotAbove workers seen) (Stops end) workers steps ⊎ (Stretches (NotAbove workers seen) 0 workers steps × (NotPassed ≡ end))
+      → StopsAt (NotAbove workers seen) (Stops end) workers steps
+      ⊎ (Stretches (NotAbove workers seen) 0 workers steps × (NotPassed ≡ end))
   ended = search_ends (old_verb workers) (old_after workers seen) (λ nth. nth + 1) next workers NotPassed goes_on misses
       (NotAbove workers seen) Stops (λ nth within. part nth) some
 
@@ -102,18 +120,22 @@ module _ (workers : ℕ) (some : 1 ≤ workers) (seen : List ℕ) where
   ]
 
   pub is_too_old : (steps : List Step) (worker entry horizon : ℕ)
-      → StopsAt (NotAbove workers seen) (IsAbove workers seen worker entry horizon) workers steps → EndsFrom (At 1) steps (TooOld worker entry horizon)
+      → StopsAt (NotAbove workers seen) (IsAbove workers seen worker entry horizon) workers steps
+      → EndsFrom (At 1) steps (TooOld worker entry horizon)
   is_too_old steps worker entry horizon =
       search_stops (old_verb workers) (old_after workers seen) (λ nth. nth + 1) next workers NotPassed goes_on misses
-      (NotAbove workers seen) Stops (λ nth within. passed nth) (λ nth within. stopped nth) steps (TooOld worker entry horizon)
+      (NotAbove workers seen) Stops (λ nth within. passed nth) (λ nth within. stopped nth) steps
+      (TooOld worker entry horizon)
 
-  pub not_passed_by : (steps : List Step) → EndsFrom (At 1) steps NotPassed → Stretches (NotAbove workers seen) 0 workers steps
+  pub not_passed_by : (steps : List Step) → EndsFrom (At 1) steps NotPassed
+      → Stretches (NotAbove workers seen) 0 workers steps
   not_passed_by steps ends = elim (ended steps NotPassed ends) [
     | inl stop ↦ absurd stop.stops
     | inr missed ↦ missed.0
   ]
 
-  pub is_not_passed : (steps : List Step) → Stretches (NotAbove workers seen) 0 workers steps → EndsFrom (At 1) steps NotPassed
+  pub is_not_passed : (steps : List Step) → Stretches (NotAbove workers seen) 0 workers steps
+      → EndsFrom (At 1) steps NotPassed
   is_not_passed =
       search_misses (old_verb workers) (old_after workers seen) (λ nth. nth + 1) next workers NotPassed goes_on misses
       (NotAbove workers seen) Stops (λ nth within. passed nth) some

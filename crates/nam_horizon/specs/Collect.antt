@@ -1,10 +1,13 @@
 -- A collection as a machine.
-use Rattle.std.specs.Prelude.{ℕ, ◌*◌, List}
+use Rattle.std.specs.Prelude.{◌≡◌, ℕ, ◌*◌, ◌≤◌, List, length}
 use Rattle.nam_verbs.specs.declared.now.Now.{Now}
 use Rattle.nam_verbs.specs.declared.now.Now.TheVariants.{At}
+use Rattle.nam_verbs.specs.Now.{FitsNow}
 use Rattle.nam_verbs.specs.Running.{Running}
 use Rattle.nam_layout.specs.declared.field.Cells.{Cells}
+use Rattle.nam_layout.specs.PlaceFits.{FitsCells}
 use Rattle.nam_calls.specs.declared.horizon.CollectPlace.{CollectPlace}
+use Rattle.nam_calls.specs.Fits.{CollectFits}
 use Rattle.nam_calls.specs.Horizon.{collect_begin, collect_verb, collect_after, collect_left}
 use Rattle.nam_words.specs.Ends.{cells_end, later}
 
@@ -14,6 +17,14 @@ pub record Collecting : Type 0 where
   pub workers : ℕ
   pub seen : List ℕ
   pub state : Now CollectPlace (List ℕ)
+
+-- what it is under fits, and where it stands
+pub record FitsCollecting (cells : Cells) (workers : ℕ) (seen : List ℕ) (state : Now CollectPlace (List ℕ))
+    : Type 0 where
+  pub bucket : FitsCells cells
+  pub most_workers : workers ≤ 16
+  pub whole : length seen ≡ workers
+  pub place : FitsNow (CollectFits cells workers) state
 
 -- a new collection
 abbrev pub collecting : Cells → ℕ → List ℕ → Collecting

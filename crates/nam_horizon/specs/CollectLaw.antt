@@ -1,5 +1,6 @@
 -- What a collection does, and with which horizon it ends.
-use Rattle.std.specs.Prelude.{◌≡◌, ◌≢◌, ◌⊎◌, ◌↔◌, ℕ, ◌+◌, ◌<◌, ◌≤◌, true, false, List, [], ◌∷◌, ◌++◌, length, slice_index}
+use Rattle.std.specs.Prelude.{◌≡◌, ◌≢◌, ◌⊎◌, ◌↔◌, ℕ, ◌+◌, ◌<◌, ◌≤◌, true, false, List, [], ◌∷◌, ◌++◌, length}
+use Rattle.std.specs.Prelude.{slice_index}
 use Rattle.nam_verbs.specs.Running.{Always}
 use Rattle.nam_verbs.specs.Steps.{Step, saw, tried, EndsWith, Stretches}
 use Rattle.nam_catalog.specs.declared.shape.Shape.{Shape}
@@ -19,20 +20,25 @@ module _ (workers : ℕ) (seen : List ℕ) where
   -- a worker's horizon entry was found, and its exchange for the snapshot's found this word
   abbrev pub raised : ℕ → ℕ → ℕ → List Step
   raised nth entry word =
-      saw (horizon_at workers (nth + 1)) entry ∷ tried (horizon_at workers (nth + 1)) entry (slice_index seen nth) word ∷ []
+      saw (horizon_at workers (nth + 1)) entry
+      ∷ tried (horizon_at workers (nth + 1)) entry (slice_index seen nth) word ∷ []
 
-  -- The entry that is known of a worker: the one found, where it has reached the snapshot's; the snapshot's, where a lower
-  -- one was exchanged for it; and the word to which that exchange was lost.
+  -- The entry that is known of a worker: the one found, where it has reached the snapshot's; the snapshot's, where a
+  -- lower one was exchanged for it; and the word to which that exchange was lost.
   pub data EntryKnown (nth known : ℕ) (steps : List Step) : Type 0 where
-    was_reached : slice_index seen nth ≤ known → steps ≡ saw (horizon_at workers (nth + 1)) known ∷ [] → EntryKnown nth known steps
-    is_raised : (entry : ℕ) → entry < slice_index seen nth → known ≡ slice_index seen nth → steps ≡ raised nth entry entry → EntryKnown nth known steps
-    was_lost : (entry : ℕ) → entry < slice_index seen nth → known ≢ entry → steps ≡ raised nth entry known → EntryKnown nth known steps
+    was_reached : slice_index seen nth ≤ known → steps ≡ saw (horizon_at workers (nth + 1)) known ∷ []
+        → EntryKnown nth known steps
+    is_raised : (entry : ℕ) → entry < slice_index seen nth → known ≡ slice_index seen nth
+        → steps ≡ raised nth entry entry → EntryKnown nth known steps
+    was_lost : (entry : ℕ) → entry < slice_index seen nth → known ≢ entry → steps ≡ raised nth entry known
+        → EntryKnown nth known steps
 
   -- the entries that are known of workers one after another
   abbrev pub EntriesKnown : ℕ → List ℕ → List Step → Type 0
   EntriesKnown nth [] steps = steps ≡ []
   EntriesKnown nth (entry ∷ known) steps =
-      (first rest : List Step) × (steps ≡ first ++ rest) × EntryKnown nth entry first × EntriesKnown (nth + 1) known rest
+      (first rest : List Step) × (steps ≡ first ++ rest) × EntryKnown nth entry first
+      × EntriesKnown (nth + 1) known rest
 
 -- 2. The cells
 
@@ -50,10 +56,12 @@ module _ (cells : Cells) (known : List ℕ) where
   -- a cell's tag was read, where it is full the end too, and where it may be set free its tag was exchanged
   pub data CellCollected (cell : ℕ) (steps : List Step) : Type 0 where
     not_full : (tag : ℕ) → is_full tag ≡ false → steps ≡ saw (tag_at cells cell) tag ∷ [] → CellCollected cell steps
-    is_kept : (tag ending : ℕ) → is_full tag ≡ true → (is_within (stamp_in cells.form ending) known ≡ false) ⊎ (has_next tag ≡ false)
+    is_kept : (tag ending : ℕ) → is_full tag ≡ true
+        → (is_within (stamp_in cells.form ending) known ≡ false) ⊎ (has_next tag ≡ false)
         → steps ≡ looked cell tag ending → CellCollected cell steps
     is_freed : (tag ending word : ℕ) → MayBeFreed tag ending
-        → steps ≡ looked cell tag ending ++ tried (tag_at cells cell) tag (freed tag) word ∷ [] → CellCollected cell steps
+        → steps ≡ looked cell tag ending ++ tried (tag_at cells cell) tag (freed tag) word ∷ []
+        → CellCollected cell steps
 
 -- 3. A whole collection
 
@@ -68,14 +76,17 @@ pub record CollectedBy (cells : Cells) (workers : ℕ) (seen known : List ℕ) (
 
 -- a collection ends with a known horizon exactly so
 abbrev pub CollectLaw : Type 0
-CollectLaw = (cells : Cells) → FitsCells cells → (workers : ℕ) → 1 ≤ workers → (seen : List ℕ) (steps : List Step) (known : List ℕ)
+CollectLaw = (cells : Cells) → FitsCells cells → (workers : ℕ) → 1 ≤ workers
+    → (seen : List ℕ) (steps : List Step) (known : List ℕ)
     → EndsWith (running (collecting cells workers seen)) steps known ↔ CollectedBy cells workers seen known steps
 
 -- each entry of the horizon that it ends with was found by it or written
 abbrev pub KnownLaw : Type 0
-KnownLaw = (cells : Cells) → FitsCells cells → (workers : ℕ) → 1 ≤ workers → (seen : List ℕ) (steps : List Step) (known : List ℕ)
+KnownLaw = (cells : Cells) → FitsCells cells → (workers : ℕ) → 1 ≤ workers
+    → (seen : List ℕ) (steps : List Step) (known : List ℕ)
     → EndsWith (running (collecting cells workers seen)) steps known → (nth : ℕ) → nth < workers
-    → (before here after : List Step) × (steps ≡ before ++ here ++ after) × EntryKnown workers seen nth (slice_index known nth) here
+    → (before here after : List Step) × (steps ≡ before ++ here ++ after)
+    × EntryKnown workers seen nth (slice_index known nth) here
 
 -- 4. Its exchanges
 
@@ -102,13 +113,17 @@ pub record FreesCell (cells : Cells) (known : List ℕ) (before : List Step) (ad
 
 -- each exchange raises an entry, or frees a cell within the horizon that the collection ends with
 abbrev pub ExchangeLaw : Type 0
-ExchangeLaw = (cells : Cells) → FitsCells cells → (workers : ℕ) → 1 ≤ workers → (seen : List ℕ) (steps : List Step) (known : List ℕ)
+ExchangeLaw = (cells : Cells) → FitsCells cells → (workers : ℕ) → 1 ≤ workers
+    → (seen : List ℕ) (steps : List Step) (known : List ℕ)
     → EndsWith (running (collecting cells workers seen)) steps known
-    → (before after : List Step) (address expected new found : ℕ) → steps ≡ before ++ tried address expected new found ∷ after
+    → (before after : List Step) (address expected new found : ℕ)
+    → steps ≡ before ++ tried address expected new found ∷ after
     → RaisesEntry workers seen before address expected new ⊎ FreesCell cells known before address expected new
 
 -- whatever words are found, each verb reaches a horizon entry, or the tag or the end of a cell of the bucket
 abbrev pub CollectReachesLaw : Type 0
 CollectReachesLaw = (shape : Shape) → FitsLimits shape → (bucket : ℕ) → bucket < shape.buckets → (seen : List ℕ)
-    → Always (λ at. Reaches shape (collect_verb (cells_of shape bucket) shape.workers seen at) (collect_field (cells_of shape bucket) at))
+    → Always
+    (λ at. Reaches shape (collect_verb (cells_of shape bucket) shape.workers seen at)
+    (collect_field (cells_of shape bucket) at))
     (running (collecting (cells_of shape bucket) shape.workers seen))

@@ -39,4 +39,5 @@ NotPassedLaw = (workers : ℕ) → 1 ≤ workers → (seen : List ℕ) (steps : 
 -- whatever words are found, each verb reads a worker's horizon entry
 abbrev pub OldReachesLaw : Type 0
 OldReachesLaw = (shape : Shape) → FitsLimits shape → (seen : List ℕ)
-    → Always (λ worker. Reaches shape (old_verb shape.workers worker) (Horizon worker)) (running (showing shape.workers seen))
+    → Always (λ worker. Reaches shape (old_verb shape.workers worker) (Horizon worker))
+    (running (showing shape.workers seen))

@@ -5,7 +5,8 @@ ghost use Rattle.nam_verbs.specs.Verb.{address_of};
 ghost use Rattle.nam_verbs.specs.Running.{verbs_left};
 ghost use Rattle.nam_layout.specs.PlaceFits.{FitsCells};
 ghost use Rattle.nam_calls.specs.Fits.{CollectFits};
-ghost use Rattle.nam_calls.specs.Horizon.{collect_begin as begin, collect_verb as verb_at, collect_after as after_word, collect_left as left_at};
+ghost use Rattle.nam_calls.specs.Horizon.{collect_begin as begin, collect_verb as verb_at};
+ghost use Rattle.nam_calls.specs.Horizon.{collect_after as after_word, collect_left as left_at};
 ghost use Rattle.nam_calls.specs.Horizon.{entry_known as after_entry, collect_next as after_cell};
 ghost use Rattle.nam_words.specs.Ends.{cells_end, later};
 ghost use Rattle.nam_horizon.specs.Collect.{collecting, running};
@@ -170,19 +171,13 @@ pub struct Collect {
 }
 
 impl Model for Collect {
-    ghost use Rattle.std.specs.Prelude.{◌≡◌, ◌≤◌, length};
-    ghost use Rattle.nam_verbs.specs.Now.{FitsNow};
-    ghost use Rattle.nam_layout.specs.PlaceFits.{FitsCells};
-    ghost use Rattle.nam_calls.specs.Fits.{CollectFits};
-    ghost use Rattle.nam_horizon.specs.Collect.{Collecting};
+    ghost use Rattle.nam_horizon.specs.Collect.{Collecting, FitsCollecting};
 
     ghost Value = { Collecting };
 
     ghost view = { λ a. record { cells = a.cells; workers = a.workers; seen = a.seen; state = a.state } };
 
-    ghost invariant = {
-        λ a. FitsCells a.cells × (a.workers ≤ 16) × (length a.seen ≡ a.workers) × FitsNow (CollectFits a.cells a.workers) a.state
-    };
+    ghost invariant = { λ a. FitsCollecting a.cells a.workers a.seen a.state };
 }
 
 impl Collect {

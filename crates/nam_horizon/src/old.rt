@@ -4,7 +4,8 @@ ghost use Rattle.std.specs.Prelude.{◌≡◌, ◌<◌, ◌≤◌, ◌*◌, leng
 ghost use Rattle.nam_verbs.specs.Verb.{address_of};
 ghost use Rattle.nam_verbs.specs.Running.{verbs_left};
 ghost use Rattle.nam_calls.specs.Fits.{IsOf};
-ghost use Rattle.nam_calls.specs.Horizon.{old_begin as begin, old_verb as verb_at, old_after as after_word, old_left as left_at};
+ghost use Rattle.nam_calls.specs.Horizon.{old_begin as begin, old_verb as verb_at};
+ghost use Rattle.nam_calls.specs.Horizon.{old_after as after_word, old_left as left_at};
 ghost use Rattle.nam_horizon.specs.Old.{showing, running};
 
 use nam_calls::OldEnd;
@@ -60,7 +61,7 @@ pub fn old_left(workers: u32, worker: u32) -> u64
     workers as u64 + 1 - worker as u64
 }
 
-/// Whether the horizon has passed a snapshot: horizon entry after horizon entry, up to one that is above the snapshot's.
+/// Whether the horizon has passed a snapshot: its entries are read one after another, up to one above the snapshot's.
 #[derive(Debug, Drop)]
 pub struct ShowOld {
     workers: u32,

@@ -1,6 +1,7 @@
 -- What a claim of a position for a key makes of the words that it finds.
-use Rattle.std.proofs.Common.{◌≡◌, ◌≢◌, ◌⊎◌, inl, inr, ℕ, ◌+◌, ◌<◌, ◌≤◌, List, [], ◌∷◌, ◌++◌, refl, sym, ◌∙◌, ap, subst, arith, Bool, true, false, ◌||◌}
-use Rattle.std.specs.Prelude.{◌==◌, if◌then◌else◌}
+use Rattle.std.proofs.Common.{◌≡◌, ◌≢◌, ◌⊎◌, inl, inr, ℕ, ◌+◌, ◌<◌, ◌≤◌, List, [], ◌∷◌, ◌++◌, refl, sym, subst, arith}
+use Rattle.std.proofs.Common.{true, false, ◌||◌}
+use Rattle.std.specs.Prelude.{◌==◌}
 use Rattle.std.proofs.lemmas.Bool.{cases_eq}
 use Rattle.std.proofs.lemmas.List.{append-nil}
 use Rattle.std.proofs.lemmas.Bool.Decides.{nat_tests}
@@ -43,7 +44,9 @@ module _ (shape : Shape) (table key : ℕ) (some : 1 ≤ capacity_of shape table
 
   abbrev Parts : ℕ → List Step → ClaimKeyEnd → Type 0
   Parts nth steps end =
-      Stops end nth steps ⊎ ((first rest : List Step) × (steps ≡ first ++ rest) × OtherHas shape table key nth first × EndsFrom (next nth) rest end)
+      Stops end nth steps
+      ⊎ ((first rest : List Step) × (steps ≡ first ++ rest) × OtherHas shape table key nth first
+      × EndsFrom (next nth) rest end)
 
   -- what follows a word, by what it is
   key_goes : (nth word : ℕ) → word ≡ key_word key → after (KeyLook nth) word ≡ there nth
@@ -62,13 +65,16 @@ module _ (shape : Shape) (table key : ℕ) (some : 1 ≤ capacity_of shape table
       rw (test, none) refl
 
   taken_goes : (nth word : ℕ) → (word ≡ 0) ⊎ (word ≡ key_word key) → after (KeyTake nth) word ≡ there nth
-  taken_goes nth word why = let test : ((word == 0) || (word == key_word key)) ≡ true = grind (arith, nat_tests) in rw test refl
+  taken_goes nth word why = let test : ((word == 0) || (word == key_word key)) ≡ true = grind (arith, nat_tests) in rw
+      test refl
 
   lost_goes : (nth word : ℕ) → word ≢ 0 → word ≢ key_word key → after (KeyTake nth) word ≡ next nth
-  lost_goes nth word not_free other = let test : ((word == 0) || (word == key_word key)) ≡ false = grind (arith, nat_tests) in rw test refl
+  lost_goes nth word not_free other = let test : ((word == 0) || (word == key_word key)) ≡ false = grind
+      (arith, nat_tests) in rw test refl
 
   -- the end at a position, by what was found there
-  there_stops : (nth : ℕ) (done : List Step) → ((position : ℕ) → position ≡ on_path capacity key nth → KeyHas shape table key position nth done)
+  there_stops : (nth : ℕ) (done : List Step)
+      → ((position : ℕ) → position ≡ on_path capacity key nth → KeyHas shape table key position nth done)
       → (steps : List Step) (end : ClaimKeyEnd) → EndsFrom (there nth) steps end → Stops end nth (done ++ steps)
   there_stops nth done has [] (At position) ends = rw append-nil (has position (cc))
   there_stops nth done has [] NoSpace ends = absurd (cc)
@@ -81,66 +87,98 @@ module _ (shape : Shape) (table key : ℕ) (some : 1 ≤ capacity_of shape table
   part_take nth (step ∷ steps) end ends =
       let word = step.found in
       let is : step ≡ tried (path_at shape table key nth) 0 (key_word key) word = step_of _ step ends.0 in
-      let goes = λ (now : Now ClaimKeyPlace ClaimKeyEnd) (same : after (KeyTake nth) word ≡ now). subst (λ now. EndsFrom now steps end) same ends.1 in
+      let goes = λ (now : Now ClaimKeyPlace ClaimKeyEnd) (same : after (KeyTake nth) word ≡ now). subst
+      (λ now. EndsFrom now steps end) same ends.1 in
       elim (cases_eq word 0) [
         | inl free ↦
-          inl (rw (is, free) (there_stops nth (exchanged shape table key nth 0) (λ position here. is_claimed here refl) steps end
-          (goes _ (taken_goes nth word (inl free)))))
+            inl (rw (is, free)
+            (there_stops nth (exchanged shape table key nth 0) (λ position here. is_claimed here refl) steps end
+            (goes _ (taken_goes nth word (inl free)))))
         | inr not_free ↦ elim (cases_eq word (key_word key)) [
           | inl same ↦
-            inl (rw (is, same) (there_stops nth (exchanged shape table key nth (key_word key)) (λ position here. was_claimed here refl) steps end
-            (goes _ (taken_goes nth word (inr same)))))
+              inl (rw (is, same)
+              (there_stops nth (exchanged shape table key nth (key_word key))
+              (λ position here. was_claimed here refl) steps end
+              (goes _ (taken_goes nth word (inr same)))))
           | inr other ↦
-            inr (saw (path_at shape table key nth) 0 ∷ step ∷ [], steps, refl, by_loss word not_free other (rw (← is) refl),
-            goes _ (lost_goes nth word not_free other))
+              inr (
+                saw (path_at shape table key nth) 0 ∷ step ∷ [],
+                steps,
+                refl,
+                by_loss word not_free other (rw (← is) refl),
+                goes _ (lost_goes nth word not_free other),
+              )
         ]
       ]
 
   -- a position ends the claim, or bears another key
-  part : (nth : ℕ) (steps : List Step) (end : ClaimKeyEnd) → EndsFrom (now.At (KeyLook nth)) steps end → Parts nth steps end
+  part : (nth : ℕ) (steps : List Step) (end : ClaimKeyEnd) → EndsFrom (now.At (KeyLook nth)) steps end
+      → Parts nth steps end
   part nth [] end ends = absurd ends
   part nth (step ∷ steps) end ends =
       let word = step.found in
       let is : step ≡ saw (path_at shape table key nth) word = step_of _ step ends.0 in
-      let goes = λ (now : Now ClaimKeyPlace ClaimKeyEnd) (same : after (KeyLook nth) word ≡ now). subst (λ now. EndsFrom now steps end) same ends.1 in
+      let goes = λ (now : Now ClaimKeyPlace ClaimKeyEnd) (same : after (KeyLook nth) word ≡ now). subst
+      (λ now. EndsFrom now steps end) same ends.1 in
       elim (cases_eq word (key_word key)) [
         | inl same ↦
-          inl (rw (is, same) (there_stops nth (saw (path_at shape table key nth) (key_word key) ∷ []) (λ position here. was_there here refl) steps end
-          (goes _ (key_goes nth word same))))
+            inl (rw (is, same)
+            (there_stops nth (saw (path_at shape table key nth) (key_word key) ∷ [])
+            (λ position here. was_there here refl) steps end
+            (goes _ (key_goes nth word same))))
         | inr other ↦ elim (cases_eq word 0) [
           | inl free ↦ rw (is, free) (part_take nth steps end (goes _ (free_goes nth word free)))
           | inr not_free ↦
-            inr (step ∷ [], steps, refl, by_look word not_free other (rw (← is) refl), goes _ (other_goes nth word not_free other))
+              inr (
+                step ∷ [],
+                steps,
+                refl,
+                by_look word not_free other (rw (← is) refl),
+                goes _
+                    (other_goes nth word not_free other),
+              )
         ]
       ]
 
   -- The other way round.
 
-  goes_back : (at : ClaimKeyPlace) (word : ℕ) (now : Now ClaimKeyPlace ClaimKeyEnd) (steps : List Step) (end : ClaimKeyEnd) → after at word ≡ now
+  goes_back : (at : ClaimKeyPlace) (word : ℕ) (now : Now ClaimKeyPlace ClaimKeyEnd) (steps : List Step)
+      (end : ClaimKeyEnd) → after at word ≡ now
       → EndsFrom now steps end → EndsFrom (after at word) steps end
   goes_back at word now steps end same ends = subst (λ now. EndsFrom now steps end) (sym same) ends
 
-  passed : (nth : ℕ) (first rest : List Step) (end : ClaimKeyEnd) → OtherHas shape table key nth first → EndsFrom (next nth) rest end
+  passed : (nth : ℕ) (first rest : List Step) (end : ClaimKeyEnd) → OtherHas shape table key nth first
+      → EndsFrom (next nth) rest end
       → EndsFrom (now.At (KeyLook nth)) (first ++ rest) end
   passed nth first rest end (by_look word not_free other is) ends =
       rw is (refl, goes_back (KeyLook nth) word (next nth) rest end (other_goes nth word not_free other) ends)
   passed nth first rest end (by_loss word not_free other is) ends =
-      rw is
-      (refl, goes_back (KeyLook nth) 0 (now.At (KeyTake nth)) (tried (path_at shape table key nth) 0 (key_word key) word ∷ rest) end (free_goes nth 0 refl)
-      (refl, goes_back (KeyTake nth) word (next nth) rest end (lost_goes nth word not_free other) ends))
+      rw is (
+        refl,
+        goes_back (KeyLook nth) 0 (now.At (KeyTake nth))
+            (tried (path_at shape table key nth) 0 (key_word key) word ∷ rest) end (free_goes nth 0 refl)
+            (refl, goes_back (KeyTake nth) word (next nth) rest end (lost_goes nth word not_free other) ends),
+      )
 
   exchange_stops : (nth word : ℕ) → (word ≡ 0) ⊎ (word ≡ key_word key)
       → EndsFrom (now.At (KeyLook nth)) (exchanged shape table key nth word) (At (on_path capacity key nth))
   exchange_stops nth word why =
-      let end = At (on_path capacity key nth) in
-      (refl, goes_back (KeyLook nth) 0 (now.At (KeyTake nth)) (tried (path_at shape table key nth) 0 (key_word key) word ∷ []) end (free_goes nth 0 refl)
-      (refl, goes_back (KeyTake nth) word (there nth) [] end (taken_goes nth word why) refl))
+      let end = At (on_path capacity key nth) in (
+        refl,
+        goes_back (KeyLook nth) 0 (now.At (KeyTake nth))
+            (tried (path_at shape table key nth) 0 (key_word key) word ∷ []) end (free_goes nth 0 refl)
+            (refl, goes_back (KeyTake nth) word (there nth) [] end (taken_goes nth word why) refl),
+      )
 
-  stopped : (nth : ℕ) (steps : List Step) (end : ClaimKeyEnd) → Stops end nth steps → EndsFrom (now.At (KeyLook nth)) steps end
+  stopped : (nth : ℕ) (steps : List Step) (end : ClaimKeyEnd) → Stops end nth steps
+      → EndsFrom (now.At (KeyLook nth)) steps end
   stopped nth steps NoSpace stops = absurd stops
   stopped nth steps (At position) (was_there here is) =
-      rw (is, here)
-      (refl, goes_back (KeyLook nth) (key_word key) (there nth) [] (At (on_path capacity key nth)) (key_goes nth (key_word key) refl) refl)
+      rw (is, here) (
+        refl,
+        goes_back (KeyLook nth) (key_word key) (there nth) [] (At (on_path capacity key nth))
+            (key_goes nth (key_word key) refl) refl,
+      )
   stopped nth steps (At position) (is_claimed here is) = rw (is, here) (exchange_stops nth 0 (inl refl))
   stopped nth steps (At position) (was_claimed here is) = rw (is, here) (exchange_stops nth (key_word key) (inr refl))
 
@@ -166,7 +204,8 @@ module _ (shape : Shape) (table key : ℕ) (some : 1 ≤ capacity_of shape table
     | inr missed ↦ let none = missed.1 in absurd (cc)
   ]
 
-  pub claims_by : (steps : List Step) (position : ℕ) → StopsAt (OtherHas shape table key) (KeyHas shape table key position) capacity steps
+  pub claims_by : (steps : List Step) (position : ℕ)
+      → StopsAt (OtherHas shape table key) (KeyHas shape table key position) capacity steps
       → EndsFrom (now.At (KeyLook 0)) steps (At position)
   claims_by steps position =
       search_stops (claim_key_verb shape table key) after KeyLook next capacity NoSpace goes_on misses

@@ -1,5 +1,6 @@
 -- What a search for a key makes of the words that it finds.
-use Rattle.std.proofs.Common.{◌≡◌, ◌≢◌, ◌⊎◌, inl, inr, ℕ, ◌+◌, ◌<◌, ◌≤◌, List, [], ◌∷◌, ◌++◌, refl, sym, ◌∙◌, ap, subst, arith, Bool, true, false, ◌||◌}
+use Rattle.std.proofs.Common.{◌≡◌, ◌≢◌, ◌⊎◌, inl, inr, ℕ, ◌+◌, ◌<◌, ◌≤◌, List, [], ◌∷◌, ◌++◌, refl, sym, ◌∙◌, ap}
+use Rattle.std.proofs.Common.{subst, arith, true, false}
 use Rattle.std.specs.Prelude.{◌==◌, if◌then◌else◌}
 use Rattle.std.proofs.lemmas.Bool.{cases_eq}
 use Rattle.std.proofs.lemmas.Bool.Decides.{nat_tests}
@@ -33,10 +34,13 @@ module _ (shape : Shape) (table key : ℕ) (some : 1 ≤ capacity_of shape table
 
   abbrev Parts : ℕ → List Step → FindEnd → Type 0
   Parts nth steps end =
-      Stops end nth steps ⊎ ((first rest : List Step) × (steps ≡ first ++ rest) × BearsOther shape table key nth first × EndsFrom (next nth) rest end)
+      Stops end nth steps
+      ⊎ ((first rest : List Step) × (steps ≡ first ++ rest) × BearsOther shape table key nth first
+      × EndsFrom (next nth) rest end)
 
   -- what follows a word, by what it is
-  key_goes : (nth word : ℕ) → word ≡ key_word key → find_after shape table key nth word ≡ now.Over (At (on_path capacity key nth))
+  key_goes : (nth word : ℕ) → word ≡ key_word key
+      → find_after shape table key nth word ≡ now.Over (At (on_path capacity key nth))
   key_goes nth word same = let test : (word == key_word key) ≡ true = grind (arith, nat_tests) in rw test refl
 
   none_goes : (nth : ℕ) → find_after shape table key nth 0 ≡ now.Over Absent
@@ -48,7 +52,8 @@ module _ (shape : Shape) (table key : ℕ) (some : 1 ≤ capacity_of shape table
       let free : (word == 0) ≡ false = grind (arith, nat_tests) in
       rw (test, free) refl
 
-  key_stops : (nth : ℕ) (steps : List Step) (end : FindEnd) → EndsFrom (now.Over (At (on_path capacity key nth))) steps end
+  key_stops : (nth : ℕ) (steps : List Step) (end : FindEnd)
+      → EndsFrom (now.Over (At (on_path capacity key nth))) steps end
       → Stops end nth (saw (path_at shape table key nth) (key_word key) ∷ steps)
   key_stops nth [] (At position) ends = record { position_is = cc; steps_are = refl }
   key_stops nth [] Absent ends = absurd (cc)
@@ -66,28 +71,41 @@ module _ (shape : Shape) (table key : ℕ) (some : 1 ≤ capacity_of shape table
   part nth (step ∷ steps) end ends =
       let word = step.found in
       let is : step ≡ saw (path_at shape table key nth) word = step_of _ step ends.0 in
-      let goes = λ (now : Now ℕ FindEnd) (same : find_after shape table key nth word ≡ now). subst (λ now. EndsFrom now steps end) same ends.1 in
+      let goes = λ (now : Now ℕ FindEnd) (same : find_after shape table key nth word ≡ now). subst
+      (λ now. EndsFrom now steps end) same ends.1 in
       elim (cases_eq word (key_word key)) [
         | inl same ↦ inl (rw (is, same) (key_stops nth steps end (goes _ (key_goes nth word same))))
         | inr other ↦ elim (cases_eq word 0) [
-          | inl free ↦ inl (rw (is, free) (none_stops nth steps end (goes _ (ap (find_after shape table key nth) free ∙ none_goes nth))))
+          | inl free ↦ inl
+              (rw (is, free)
+              (none_stops nth steps end (goes _ (ap (find_after shape table key nth) free ∙ none_goes nth))))
           | inr not_free ↦
-            inr (step ∷ [], steps, refl, record { word = word; not_free = not_free; other = other; steps_are = rw (← is) refl },
-            goes _ (other_goes nth word not_free other))
+              inr (
+                step ∷ [],
+                steps,
+                refl,
+                record { word = word; not_free = not_free; other = other; steps_are = rw (← is) refl },
+                goes _ (other_goes nth word not_free other),
+              )
         ]
       ]
 
   -- The other way round.
 
-  passed : (nth : ℕ) (first rest : List Step) (end : FindEnd) → BearsOther shape table key nth first → EndsFrom (next nth) rest end
+  passed : (nth : ℕ) (first rest : List Step) (end : FindEnd) → BearsOther shape table key nth first
+      → EndsFrom (next nth) rest end
       → EndsFrom (now.At nth) (first ++ rest) end
   passed nth first rest end bears ends =
-      rw bears.steps_are (refl, subst (λ now. EndsFrom now rest end) (sym (other_goes nth bears.word bears.not_free bears.other)) ends)
+      rw bears.steps_are
+      (refl, subst (λ now. EndsFrom now rest end) (sym (other_goes nth bears.word bears.not_free bears.other)) ends)
 
   stopped : (nth : ℕ) (steps : List Step) (end : FindEnd) → Stops end nth steps → EndsFrom (now.At nth) steps end
   stopped nth steps (At position) bears =
-      rw (bears.steps_are, bears.position_is)
-      (refl, subst (λ now. EndsFrom now [] (At (on_path capacity key nth))) (sym (key_goes nth (key_word key) refl)) refl)
+      rw (bears.steps_are, bears.position_is) (
+        refl,
+        subst (λ now. EndsFrom now [] (At (on_path capacity key nth))) (sym (key_goes nth (key_word key) refl))
+            refl,
+      )
   stopped nth steps Absent bears = rw bears (refl, subst (λ now. EndsFrom now [] Absent) (sym (none_goes nth)) refl)
 
   -- position after position
@@ -102,11 +120,14 @@ module _ (shape : Shape) (table key : ℕ) (some : 1 ≤ capacity_of shape table
 
   ended : (steps : List Step) (end : FindEnd) → EndsFrom (now.At 0) steps end
       → StopsAt (BearsOther shape table key) (Stops end) capacity steps ⊎ (AllOther steps × (Absent ≡ end))
-  ended = search_ends (find_verb shape table key) (find_after shape table key) (λ nth. nth) next capacity Absent goes_on misses
+  ended = search_ends (find_verb shape table key) (find_after shape table key) (λ nth. nth) next capacity Absent
+      goes_on misses
       (BearsOther shape table key) Stops (λ nth within. part nth) some
 
-  stops : (steps : List Step) (end : FindEnd) → StopsAt (BearsOther shape table key) (Stops end) capacity steps → EndsFrom (now.At 0) steps end
-  stops = search_stops (find_verb shape table key) (find_after shape table key) (λ nth. nth) next capacity Absent goes_on misses
+  stops : (steps : List Step) (end : FindEnd) → StopsAt (BearsOther shape table key) (Stops end) capacity steps
+      → EndsFrom (now.At 0) steps end
+  stops = search_stops (find_verb shape table key) (find_after shape table key) (λ nth. nth) next capacity Absent
+      goes_on misses
       (BearsOther shape table key) Stops (λ nth within. passed nth) (λ nth within. stopped nth)
 
   pub found_by : (steps : List Step) (position : ℕ) → EndsFrom (now.At 0) steps (At position)
@@ -116,7 +137,8 @@ module _ (shape : Shape) (table key : ℕ) (some : 1 ≤ capacity_of shape table
     | inr missed ↦ let none = missed.1 in absurd (cc)
   ]
 
-  pub finds_by : (steps : List Step) (position : ℕ) → StopsAt (BearsOther shape table key) (BearsKey shape table key position) capacity steps
+  pub finds_by : (steps : List Step) (position : ℕ)
+      → StopsAt (BearsOther shape table key) (BearsKey shape table key position) capacity steps
       → EndsFrom (now.At 0) steps (At position)
   finds_by steps position = stops steps (At position)
 
@@ -127,9 +149,11 @@ module _ (shape : Shape) (table key : ℕ) (some : 1 ≤ capacity_of shape table
     | inr missed ↦ inr missed.0
   ]
 
-  pub misses_by : (steps : List Step) → StopsAt (BearsOther shape table key) (BearsNone shape table key) capacity steps ⊎ AllOther steps
+  pub misses_by : (steps : List Step) → StopsAt (BearsOther shape table key) (BearsNone shape table key) capacity steps
+      ⊎ AllOther steps
       → EndsFrom (now.At 0) steps Absent
   misses_by steps (inl stop) = stops steps Absent stop
   misses_by steps (inr all) =
-      search_misses (find_verb shape table key) (find_after shape table key) (λ nth. nth) next capacity Absent goes_on misses
+      search_misses (find_verb shape table key) (find_after shape table key) (λ nth. nth) next capacity Absent goes_on
+      misses
       (BearsOther shape table key) Stops (λ nth within. passed nth) some steps all

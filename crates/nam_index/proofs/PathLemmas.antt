@@ -1,5 +1,6 @@
 -- paths, and the key words of a table's positions, which stand one after another
-use Rattle.std.proofs.Common.{◌≡◌, ◌⊎◌, inl, inr, ℕ, zero, suc, ◌+◌, ◌-◌, ◌*◌, ◌^◌, ◌%◌, ◌<◌, ◌≤◌, List, [], ◌∷◌, length, refl, sym, ◌∙◌, ap, arith}
+use Rattle.std.proofs.Common.{◌≡◌, ◌⊎◌, inl, inr, ℕ, zero, suc, ◌+◌, ◌-◌, ◌*◌, ◌^◌, ◌%◌, ◌<◌, ◌≤◌, List, [], ◌∷◌}
+use Rattle.std.proofs.Common.{length, sym, ◌∙◌, ap, arith}
 use Rattle.std.specs.Prelude.{All, slice_index}
 use Rattle.std.proofs.Math.Nat.{add-mod_left, mod-eq_of_lt}
 use Rattle.std.proofs.lemmas.Bool.{cases_lt}
@@ -25,10 +26,12 @@ record StandInOrder (tables : List Table) (table : ℕ) : Type 0 where
       + position * position_words (slice_index (widths_of tables) table) (slice_index (rings_of tables) table)
   pub within :
       row_at tables (row_of tables table 0)
-      + slice_index (capacities_of tables) table * position_words (slice_index (widths_of tables) table) (slice_index (rings_of tables) table)
+      + slice_index (capacities_of tables) table * position_words (slice_index (widths_of tables) table)
+      (slice_index (rings_of tables) table)
       ≤ tables_words tables
 
-later_row_at : (t : Table) (ts : List Table) (row : ℕ) → row_at (t ∷ ts) (t.capacity + row) ≡ table_words t + row_at ts row
+later_row_at : (t : Table) (ts : List Table) (row : ℕ)
+    → row_at (t ∷ ts) (t.capacity + row) ≡ table_words t + row_at ts row
 later_row_at t ts row =
     let past : t.capacity ≤ t.capacity + row = omega arith in
     let before : t.capacity + row - t.capacity ≡ row = omega arith in
@@ -81,15 +84,17 @@ module _ (shape : Shape) (limits : FitsLimits shape) (table : ℕ) (is : IsTable
       }
 
 -- the remainder of a sum of two numbers below the capacity
-remainder : (capacity n : ℕ) → n < capacity + capacity → ((n < capacity) × (n % capacity ≡ n)) ⊎ ((capacity ≤ n) × (n % capacity + capacity ≡ n))
+remainder : (capacity n : ℕ) → n < capacity + capacity → ((n < capacity) × (n % capacity ≡ n))
+    ⊎ ((capacity ≤ n) × (n % capacity + capacity ≡ n))
 remainder capacity n less = elim (cases_lt n capacity) [
   | inl below ↦ inl (below, mod-eq_of_lt below)
   | inr least ↦
-    let rest = n - capacity in
-    let sum : capacity + rest ≡ n = omega arith in
-    let below : rest < capacity = omega arith in
-    let same : n % capacity ≡ rest = ap (λ m. m % capacity) (sym sum) ∙ add-mod_left capacity rest ∙ mod-eq_of_lt below in
-    inr (least, omega arith)
+      let rest = n - capacity in
+      let sum : capacity + rest ≡ n = omega arith in
+      let below : rest < capacity = omega arith in
+      let same : n % capacity ≡ rest = ap (λ m. m % capacity) (sym sum) ∙ add-mod_left capacity rest
+      ∙ mod-eq_of_lt below in
+      inr (least, omega arith)
 ]
 
 module _ (capacity key : ℕ) (some : 1 ≤ capacity) where
@@ -104,17 +109,26 @@ module _ (capacity key : ℕ) (some : 1 ≤ capacity) where
       ⊎ ((capacity ≤ first + passed) × (on_path capacity key passed + capacity ≡ first + passed))
   turn passed less = let f = first_below in remainder capacity (first + passed) (omega arith)
 
-  reaches : (position : ℕ) → position < capacity → (passed : ℕ) × (passed < capacity) × (on_path capacity key passed ≡ position)
+  reaches : (position : ℕ) → position < capacity → (passed : ℕ) × (passed < capacity)
+      × (on_path capacity key passed ≡ position)
   reaches position less = elim (cases_lt position first) [
     | inl before ↦
-      let f = first_below in
-      let passed = position + capacity - first in
-      let within : passed < capacity = omega arith in
-      (passed, within, elim (turn passed within) [ | inl t ↦ let a = t.0 in absurd (omega arith) | inr t ↦ let a = t.1 in omega arith ])
+        let f = first_below in
+        let passed = position + capacity - first in
+        let within : passed < capacity = omega arith in (
+          passed,
+          within,
+          elim (turn passed within)
+              [ inl t ↦ let a = t.0 in absurd (omega arith) | inr t ↦ let a = t.1 in omega arith ],
+        )
     | inr after ↦
-      let passed = position - first in
-      let within : passed < capacity = omega arith in
-      (passed, within, elim (turn passed within) [ | inl t ↦ let a = t.1 in omega arith | inr t ↦ let a = t.0 in absurd (omega arith) ])
+        let passed = position - first in
+        let within : passed < capacity = omega arith in (
+          passed,
+          within,
+          elim (turn passed within)
+              [ inl t ↦ let a = t.1 in omega arith | inr t ↦ let a = t.0 in absurd (omega arith) ],
+        )
   ]
 
   same_turn : (a b : ℕ) → a < capacity → b < capacity → on_path capacity key a ≡ on_path capacity key b → a ≡ b

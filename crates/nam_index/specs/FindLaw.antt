@@ -30,11 +30,12 @@ module _ (shape : Shape) (table key : ℕ) where
 
 -- found exactly where a position was found to bear the key, after each before it on the path was found to bear another
 abbrev pub FoundLaw : Type 0
-FoundLaw = (shape : Shape) → FitsLimits shape → (table : ℕ) → IsTableOf shape table → (key : ℕ) (steps : List Step) (position : ℕ)
+FoundLaw = (shape : Shape) → FitsLimits shape → (table : ℕ) → IsTableOf shape table
+    → (key : ℕ) (steps : List Step) (position : ℕ)
     → EndsWith (running (finding shape table key)) steps (At position)
     ↔ StopsAt (BearsOther shape table key) (BearsKey shape table key position) (capacity_of shape table) steps
 
--- absent exactly where a position was found to bear none, after others, or where all positions were found to bear others
+-- absent exactly where a position was found to bear none, after others, or where all were found to bear others
 abbrev pub AbsentLaw : Type 0
 AbsentLaw = (shape : Shape) → FitsLimits shape → (table : ℕ) → IsTableOf shape table → (key : ℕ) (steps : List Step)
     → EndsWith (running (finding shape table key)) steps Absent
@@ -44,4 +45,5 @@ AbsentLaw = (shape : Shape) → FitsLimits shape → (table : ℕ) → IsTableOf
 -- whatever words are found, each verb reads the key word of a position of the table
 abbrev pub FindReachesLaw : Type 0
 FindReachesLaw = (shape : Shape) → FitsLimits shape → (table : ℕ) → IsTableOf shape table → (key : ℕ)
-    → Always (λ passed. Reaches shape (find_verb shape table key passed) (path_field shape table key passed)) (running (finding shape table key))
+    → Always (λ passed. Reaches shape (find_verb shape table key passed) (path_field shape table key passed))
+    (running (finding shape table key))

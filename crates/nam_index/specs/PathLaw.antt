@@ -5,7 +5,8 @@ use Rattle.nam_catalog.specs.declared.shape.Shape.{Shape}
 use Rattle.nam_catalog.specs.Fits.{FitsLimits}
 use Rattle.nam_catalog.specs.Words.{words_of}
 use Rattle.nam_calls.specs.Words.{on_path}
-use Rattle.nam_calls.specs.Index.{find_begin, find_verb, find_after, find_left, claim_key_begin, claim_key_verb, claim_key_after, claim_key_left}
+use Rattle.nam_calls.specs.Index.{find_begin, find_verb, find_after, find_left, claim_key_begin, claim_key_verb}
+use Rattle.nam_calls.specs.Index.{claim_key_after, claim_key_left}
 use Rattle.nam_calls.specs.TxnFits.{IsTableOf}
 use Rattle.nam_index.specs.Find as find
 use Rattle.nam_index.specs.Claim as claim
@@ -13,7 +14,8 @@ use Rattle.nam_index.specs.Claim as claim
 -- each position of a table stands on the path of each key, and once
 pub record GoesThrough (capacity key : ℕ) : Type 0 where
   pub within : (passed : ℕ) → passed < capacity → on_path capacity key passed < capacity
-  pub each : (position : ℕ) → position < capacity → (passed : ℕ) × (passed < capacity) × (on_path capacity key passed ≡ position)
+  pub each : (position : ℕ) → position < capacity → (passed : ℕ) × (passed < capacity)
+      × (on_path capacity key passed ≡ position)
   pub once : (a b : ℕ) → a < capacity → b < capacity → on_path capacity key a ≡ on_path capacity key b → a ≡ b
 
 abbrev pub PathLaw : Type 0

@@ -6,9 +6,11 @@ ghost use Rattle.nam_verbs.specs.Running.{verbs_left};
 ghost use Rattle.nam_catalog.specs.Words.{words_of};
 ghost use Rattle.nam_calls.specs.Words.{capacity_of};
 ghost use Rattle.nam_calls.specs.Fits.{ClaimKeyFits};
-ghost use Rattle.nam_calls.specs.Index.{claim_key_begin as begin, claim_key_verb as verb_at, claim_key_after as after_word, claim_key_left as left_at};
+ghost use Rattle.nam_calls.specs.Index.{claim_key_begin as begin, claim_key_verb as verb_at};
+ghost use Rattle.nam_calls.specs.Index.{claim_key_after as after_word, claim_key_left as left_at};
 ghost use Rattle.nam_index.specs.Path.{FitsPath};
-ghost use Rattle.nam_index.specs.Claim.{claim_verb as claim_at, claim_next as claim_on, claim_after as claim_word, claim_left as claim_rest};
+ghost use Rattle.nam_index.specs.Claim.{claim_verb as claim_at, claim_next as claim_on};
+ghost use Rattle.nam_index.specs.Claim.{claim_after as claim_word, claim_left as claim_rest};
 ghost use Rattle.nam_index.specs.Claim.{claiming, running};
 
 use crate::path::{Path, key_at, path_of, position_at};

@@ -6,7 +6,8 @@ ghost use Rattle.nam_verbs.specs.Running.{verbs_left};
 ghost use Rattle.nam_catalog.specs.Words.{words_of};
 ghost use Rattle.nam_calls.specs.Words.{capacity_of};
 ghost use Rattle.nam_calls.specs.Fits.{FindFits};
-ghost use Rattle.nam_calls.specs.Index.{find_begin as begin, find_verb as verb_at, find_after as after_word, find_left as left_at};
+ghost use Rattle.nam_calls.specs.Index.{find_begin as begin, find_verb as verb_at};
+ghost use Rattle.nam_calls.specs.Index.{find_after as after_word, find_left as left_at};
 ghost use Rattle.nam_index.specs.Path.{FitsPath};
 ghost use Rattle.nam_index.specs.Find.{look_verb as look_at, look_after as look_word, look_left as look_rest};
 ghost use Rattle.nam_index.specs.Find.{finding, running};
@@ -69,7 +70,13 @@ pub fn find_verb(layout: &Layout, table: u32, key: u64, passed: u32) -> Verb
 }
 
 /// What follows the word that this verb found.
-pub fn find_after(layout: &Layout, table: u32, key: u64, passed: u32, found: u64) -> Now<u32, FindEnd>
+pub fn find_after(
+    layout: &Layout,
+    table: u32,
+    key: u64,
+    passed: u32,
+    found: u64,
+) -> Now<u32, FindEnd>
     requires table { table < length layout.now.tables }
     requires key { key < 2 ^ 64 - 1 }
     requires passed { FindFits (capacity_of layout.now table) passed }

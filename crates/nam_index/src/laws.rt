@@ -20,9 +20,9 @@ pub fn find_law()
     ensures absent { AbsentLaw }
 {}
 
-/// A claim ends at a position exactly where this was found to bear the key, or to bear none and its exchange for the key
-/// was done or was lost to the same key; each position before it on the path having been found to bear another key, by
-/// its read or by a lost exchange. There is no space exactly where all positions of the table were found to bear others.
+/// A claim ends at a position exactly where this was found to bear the key, or to bear none and its exchange for the
+/// key was done or was lost to the same key; each position before it on the path having been found to bear another key,
+/// by its read or by a lost exchange. There is no space exactly where all positions were found to bear other keys.
 pub fn claim_law()
     ensures claimed { ClaimedLaw }
     ensures no_space { NoSpaceLaw }

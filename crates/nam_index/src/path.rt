@@ -1,14 +1,15 @@
 //! Paths of keys.
 
 ghost use Rattle.std.specs.Prelude.{◌≡◌, ℕ, ◌<◌, ◌-◌, ◌^◌, length};
-ghost use Rattle.nam_index.specs.Path.{path_of as path_for, position_at as position_after, key_at as address_after, FitsPath};
+ghost use Rattle.nam_index.specs.Path.{path_of as path_for, position_at as position_after};
+ghost use Rattle.nam_index.specs.Path.{key_at as address_after, FitsPath};
 ghost use Rattle.nam_calls.specs.Words.{path_at};
 
 use nam_layout::Layout;
 
-/// The positions of a table in the order in which a key is looked for: the first is that of the key modulo the capacity,
-/// and after the table's last position its first follows.
-#[derive(Clone, Copy, Debug, PartialEq, Eq)]
+/// The positions of a table in the order in which a key is looked for: the first is that of the key modulo the
+/// capacity, and after the table's last position its first follows.
+#[derive(Clone, Copy, Debug)]
 pub struct Path {
     pub key: u64,
     pub capacity: u32,

@@ -43,15 +43,9 @@ fn two_tables() -> Option<Layout>
 fn opening(alloc: Global) -> Result<Vec<u64>, AllocError>
     ensures { IfOk result (λ words. length words.items ≡ 49) }
 {
-    let words: Vec<u64> = vec![
-        in alloc;
-        0, 0,
-        0, 2, 0, 0, 5, 0, 0,
-        0, 2, 0, 0, 5, 0, 0,
-        0, 2, 0, 0, 5, 0, 0,
-        5, 0, 0, 40, 5, 0, 0,
-        8, 0, 0, 70, 5, 0, 0,
-        0, 0, 0, 0, 0, 0, 0, 0, 0, 0, 0, 0,
+    let words: Vec<u64> = vec![in alloc;
+        0, 0, 0, 2, 0, 0, 5, 0, 0, 0, 2, 0, 0, 5, 0, 0, 0, 2, 0, 0, 5, 0, 0, 5, 0, 0, 40, 5, 0, 0,
+        8, 0, 0, 70, 5, 0, 0, 0, 0, 0, 0, 0, 0, 0, 0, 0, 0, 0, 0,
     ]?;
     Ok(words)
 }

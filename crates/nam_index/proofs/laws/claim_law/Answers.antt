@@ -13,8 +13,10 @@ pub returns-clause-claimed : goal.returns-clause-claimed
 returns-clause-claimed c = λ shape limits table is key steps position.
     let some = has_capacity shape limits table is in (
       λ ends. claimed_by shape table key some steps position
-          (subst (λ (call : Running ClaimKeyPlace ClaimKeyEnd). EndsWith call steps (At position)) (claim_is shape limits table is key) ends),
-      λ stop. subst (λ (call : Running ClaimKeyPlace ClaimKeyEnd). EndsWith call steps (At position)) (sym (claim_is shape limits table is key))
+          (subst (λ (call : Running ClaimKeyPlace ClaimKeyEnd). EndsWith call steps (At position))
+          (claim_is shape limits table is key) ends),
+      λ stop. subst (λ (call : Running ClaimKeyPlace ClaimKeyEnd). EndsWith call steps (At position))
+          (sym (claim_is shape limits table is key))
           (claims_by shape table key some steps position stop),
     )
 
@@ -22,7 +24,9 @@ pub returns-clause-no_space : goal.returns-clause-no_space
 returns-clause-no_space c = λ shape limits table is key steps.
     let some = has_capacity shape limits table is in (
       λ ends. missed_by shape table key some steps
-          (subst (λ (call : Running ClaimKeyPlace ClaimKeyEnd). EndsWith call steps NoSpace) (claim_is shape limits table is key) ends),
-      λ all. subst (λ (call : Running ClaimKeyPlace ClaimKeyEnd). EndsWith call steps NoSpace) (sym (claim_is shape limits table is key))
+          (subst (λ (call : Running ClaimKeyPlace ClaimKeyEnd). EndsWith call steps NoSpace)
+          (claim_is shape limits table is key) ends),
+      λ all. subst (λ (call : Running ClaimKeyPlace ClaimKeyEnd). EndsWith call steps NoSpace)
+          (sym (claim_is shape limits table is key))
           (misses_by shape table key some steps all),
     )

@@ -12,8 +12,10 @@ pub returns-clause-found : goal.returns-clause-found
 returns-clause-found c = λ shape limits table is key steps position.
     let some = has_capacity shape limits table is in (
       λ ends. found_by shape table key some steps position
-          (subst (λ (call : Running _ FindEnd). EndsWith call steps (At position)) (find_is shape limits table is key) ends),
-      λ stop. subst (λ (call : Running _ FindEnd). EndsWith call steps (At position)) (sym (find_is shape limits table is key))
+          (subst (λ (call : Running _ FindEnd). EndsWith call steps (At position)) (find_is shape limits table is key)
+          ends),
+      λ stop. subst (λ (call : Running _ FindEnd). EndsWith call steps (At position))
+          (sym (find_is shape limits table is key))
           (finds_by shape table key some steps position stop),
     )
 

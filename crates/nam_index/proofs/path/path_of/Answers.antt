@@ -1,13 +1,13 @@
-use Rattle.std.proofs.Common.{◌≡◌, ◌+◌, ◌*◌, sym, ◌∙◌, ap, subst}
+use Rattle.std.proofs.Common.{sym, ◌∙◌, ap, subst}
 use Rattle.nam_layout.specs.declared.field.Place.{Place}
 use Rattle.nam_calls.proofs.FallsKeys.{has_capacity, width_is, ring_is}
-use Rattle.nam_index.specs.declared.path.Path.{Path}
-use Rattle.nam_index.specs.Path.{path_of, key_at, FitsPath}
+use Rattle.nam_index.specs.Path.{key_at, FitsPath}
 use Rattle.nam_index.proofs.PathLemmas.{addresses_are, path_fits}
 use Rattle.nam_index.proofs.path.path_of.Goals as goal
 
 pub place-place-requires : goal.place-place-requires
-place-place-requires c = (c.requires.table, has_capacity c.args.layout.now c.total-reach.ensures.fits c.args.table c.requires.table)
+place-place-requires c =
+    (c.requires.table, has_capacity c.args.layout.now c.total-reach.ensures.fits c.args.table c.requires.table)
 
 pub returns-clause-value : goal.returns-clause-value
 returns-clause-value c =

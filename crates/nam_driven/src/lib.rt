@@ -6,3 +6,5 @@
 mod commit;
 #[cfg(test)]
 mod tests;
+#[cfg(test)]
+mod tidy;

@@ -2,6 +2,7 @@
 
 ghost use Rattle.std.specs.Prelude.{◌≡◌, ◌≤◌, ◌<◌, ◌+◌, ◌^◌, length, IfSome, IfOk};
 ghost use Rattle.nam_verbs.specs.Verb.{address_of};
+ghost use Rattle.nam_catalog.specs.Fits.{FitsLimits};
 ghost use Rattle.nam_layout.specs.PlaceFits.{FitsPlace, FitsCells};
 
 use lists::ShortList;
@@ -105,8 +106,11 @@ impl PlainStore {
         }
     }
 
-    /// The layout of the store.
-    pub fn layout(&self) -> &Layout {
+    /// The layout of the store, whose shape is within its limits.
+    pub fn layout(&self) -> &Layout
+        ensures { FitsLimits result.now }
+    {
+        let _words = self.layout.total();
         &self.layout
     }
 

@@ -16,7 +16,8 @@ copy_writes place fits count header old wide ending =
       λ found. (
         refl,
         λ found. writes_words (copy_verb place count header old ending) (λ at found. copy_after place at)
-            (slot_word_at place (slot_of place count)) old CopyWord (At CopyHead) (λ nth. refl) (λ nth found. rw wide refl)
+            (slot_word_at place (slot_of place count)) old CopyWord (At CopyHead) (λ nth. refl)
+            (λ nth found. rw wide refl)
             (Write (slot_at place (slot_of place count)) header ∷ []) tt (refl, λ found. refl) (omega arith),
       ),
     )

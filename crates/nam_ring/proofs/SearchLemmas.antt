@@ -33,13 +33,15 @@ module _ (place : Place) (fits : FitsPlace place) (seen : List ℕ) where
   -- the slot stops the search, or was ended by its first steps
   abbrev Parts : ℕ → List Step → SearchEnd → Type 0
   Parts slot steps end =
-      Stops end slot steps ⊎ ((first rest : List Step) × (steps ≡ first ++ rest) × SlotEnded place seen slot first × EndsFrom (next_slot place slot) rest end)
+      Stops end slot steps ⊎ ((first rest : List Step) × (steps ≡ first ++ rest) × SlotEnded place seen slot first
+      × EndsFrom (next_slot place slot) rest end)
 
   abbrev value_of : ℕ → List ℕ → Option (List ℕ)
   value_of header words = if is_deleted place.form header then None else Some words
 
   -- the end of a search that found something
-  gives : (slot header ending : ℕ) (words : List ℕ) (again : ℕ) → HasSeen place seen header → sees place.form seen ending ≡ false → length words ≡ place.width
+  gives : (slot header ending : ℕ) (words : List ℕ) (again : ℕ) → HasSeen place seen header
+      → sees place.form seen ending ≡ false → length words ≡ place.width
       → same_stamp place.form again header ≡ true → again ≢ mark
       → (steps : List Step) (end : SearchEnd) → EndsFrom (Over (Found (value_of header words))) steps end
       → Stops end slot (looked place seen slot header ending words ++ saw (slot_at place slot) again ∷ steps)
@@ -60,32 +62,49 @@ module _ (place : Place) (fits : FitsPlace place) (seen : List ℕ) where
   gives slot header ending words again shows newest whole same still (step ∷ steps) end ends = absurd ends
 
   -- the header read again, after the words
-  part_again : (slot header ending : ℕ) (words : List ℕ) → HasSeen place seen header → sees place.form seen ending ≡ false → length words ≡ place.width
-      → (steps : List Step) (end : SearchEnd) → EndsFrom (At (SlotAgain slot header words)) steps end → Parts slot (looked place seen slot header ending words ++ steps) end
+  part_again : (slot header ending : ℕ) (words : List ℕ) → HasSeen place seen header
+      → sees place.form seen ending ≡ false → length words ≡ place.width
+      → (steps : List Step) (end : SearchEnd) → EndsFrom (At (SlotAgain slot header words)) steps end
+      → Parts slot (looked place seen slot header ending words ++ steps) end
   part_again slot header ending words shows newest whole [] end ends = absurd ends
   part_again slot header ending words shows newest whole (step ∷ steps) end ends =
       let again = step.found in
       let is : step ≡ saw (slot_at place slot) again = step_of _ step ends.0 in
       let before = looked place seen slot header ending words in
-      let ended : (same_stamp place.form again header ≡ false) ⊎ (again ≡ mark) → EndsFrom (next_slot place slot) steps end → Parts slot (before ++ step ∷ steps) end =
-      λ why goes. inr (before ++ step ∷ [], steps, sym (append_assoc before (step ∷ []) steps), by_change header ending words again shows newest whole why (rw (← is) refl), goes) in
-      by_test (λ now. EndsFrom now steps end → Parts slot (before ++ step ∷ steps) end) (same_stamp place.form again header && not (again == mark))
+      let ended : (same_stamp place.form again header ≡ false) ⊎ (again ≡ mark)
+      → EndsFrom (next_slot place slot) steps end → Parts slot (before ++ step ∷ steps) end =
+      λ why goes. inr (
+        before ++ step ∷ [],
+        steps,
+        sym
+            (append_assoc before (step ∷ []) steps),
+        by_change header ending words again shows newest whole why
+            (rw (← is) refl),
+        goes,
+      ) in
+      by_test (λ now. EndsFrom now steps end → Parts slot (before ++ step ∷ steps) end)
+      (same_stamp place.form again header && not (again == mark))
       (Over (Found (value_of header words))) (next_slot place slot)
-      (λ test goes. inl (rw is (gives slot header ending words again shows newest whole (grind (arith, nat_tests)) (grind (arith, nat_tests)) steps end goes)))
+      (λ test goes. inl (rw is (gives slot header ending words again shows newest whole (grind (arith, nat_tests))
+      (grind (arith, nat_tests)) steps end goes)))
       (λ test. ended (grind (arith, nat_tests)))
       ends.1
 
   -- the slot's words, after its end
-  part_words : (slot header ending : ℕ) → HasSeen place seen header → sees place.form seen ending ≡ false → (steps : List Step) (end : SearchEnd)
+  part_words : (slot header ending : ℕ) → HasSeen place seen header → sees place.form seen ending ≡ false
+      → (steps : List Step) (end : SearchEnd)
       → EndsFrom (At (SlotWords slot header [])) steps end
       → Parts slot (saw (slot_at place slot) header ∷ saw (slot_end_at place slot) ending ∷ steps) end
   part_words slot header ending shows newest steps end ends =
-      let all = words_read (ring_verb place) (ring_after place seen) (slot_word_at place slot) place.width (SlotWords slot header)
-      (λ words. At (SlotAgain slot header words)) (λ got. refl) (λ got word. if_in At _ _ _) fits.least_width steps end ends in
+      let all = words_read (ring_verb place) (ring_after place seen) (slot_word_at place slot) place.width
+      (SlotWords slot header)
+      (λ words. At (SlotAgain slot header words)) (λ got. refl)
+      (λ got word. if_in At _ _ _) fits.least_width steps end ends in
       rw all.2 (part_again slot header ending all.0 shows newest all.3 all.1 end all.4)
 
   -- the slot's end, after its header
-  part_end : (slot header : ℕ) → HasSeen place seen header → (steps : List Step) (end : SearchEnd) → EndsFrom (At (SlotEnding slot header)) steps end
+  part_end : (slot header : ℕ) → HasSeen place seen header → (steps : List Step) (end : SearchEnd)
+      → EndsFrom (At (SlotEnding slot header)) steps end
       → Parts slot (saw (slot_at place slot) header ∷ steps) end
   part_end slot header shows [] end ends = absurd ends
   part_end slot header shows (step ∷ steps) end ends =
@@ -99,58 +118,89 @@ module _ (place : Place) (fits : FitsPlace place) (seen : List ℕ) where
       ends.1
 
   -- a slot stops the search, or is ended
-  part_slot : (slot : ℕ) (steps : List Step) (end : SearchEnd) → EndsFrom (At (SlotHead slot)) steps end → Parts slot steps end
+  part_slot : (slot : ℕ) (steps : List Step) (end : SearchEnd) → EndsFrom (At (SlotHead slot)) steps end
+      → Parts slot steps end
   part_slot slot [] end ends = absurd ends
   part_slot slot (step ∷ steps) end ends =
       let header = step.found in
       let is : step ≡ saw (slot_at place slot) header = step_of _ step ends.0 in
-      by_test (λ now. EndsFrom now steps end → Parts slot (step ∷ steps) end) ((header == mark) || not (sees place.form seen header))
+      by_test (λ now. EndsFrom now steps end → Parts slot (step ∷ steps) end)
+      ((header == mark) || not (sees place.form seen header))
       (next_slot place slot) (At (SlotEnding slot header))
       (λ test goes. inr (step ∷ [], steps, refl, by_header header (grind (arith, nat_tests)) (rw (← is) refl), goes))
-      (λ test goes. rw is (part_end slot header (record { version = grind (arith, nat_tests); visible = grind (arith, nat_tests) }) steps end goes))
+      (λ test goes. rw is (part_end slot header (record
+      { version = grind (arith, nat_tests); visible = grind (arith, nat_tests) }) steps end goes))
       ends.1
 
   -- The other way round: what each test says, put together.
 
-  chosen : (test : Bool) (is : Bool) (a b : Now RingPlace SearchEnd) (steps : List Step) (end : SearchEnd) → test ≡ is → EndsFrom (if is then a else b) steps end
+  chosen : (test : Bool) (is : Bool) (a b : Now RingPlace SearchEnd) (steps : List Step) (end : SearchEnd)
+      → test ≡ is → EndsFrom (if is then a else b) steps end
       → EndsFrom (if test then a else b) steps end
   chosen test is a b steps end same ends = rw same ends
 
-  from_head : (slot header : ℕ) (steps : List Step) (end : SearchEnd) → HasSeen place seen header → EndsFrom (At (SlotEnding slot header)) steps end
+  from_head : (slot header : ℕ) (steps : List Step) (end : SearchEnd) → HasSeen place seen header
+      → EndsFrom (At (SlotEnding slot header)) steps end
       → EndsFrom (At (SlotHead slot)) (saw (slot_at place slot) header ∷ steps) end
   from_head slot header steps end shows ends =
-      let version = shows.version in let visible = shows.visible in
-      (refl, chosen ((header == mark) || not (sees place.form seen header)) false (next_slot place slot) (At (SlotEnding slot header)) steps end (grind (arith, nat_tests)) ends)
+      let version = shows.version in let visible = shows.visible in (
+        refl,
+        chosen ((header == mark) || not (sees place.form seen header)) false (next_slot place slot)
+            (At (SlotEnding slot header)) steps end (grind (arith, nat_tests)) ends,
+      )
 
-  from_words : (slot header ending : ℕ) (words : List ℕ) (steps : List Step) (end : SearchEnd) → HasSeen place seen header → sees place.form seen ending ≡ false
+  from_words : (slot header ending : ℕ) (words : List ℕ) (steps : List Step) (end : SearchEnd)
+      → HasSeen place seen header → sees place.form seen ending ≡ false
       → length words ≡ place.width → EndsFrom (At (SlotAgain slot header words)) steps end
       → EndsFrom (At (SlotHead slot)) (looked place seen slot header ending words ++ steps) end
   from_words slot header ending words steps end shows newest whole ends =
-      from_head slot header (saw (slot_end_at place slot) ending ∷ saw_words (slot_word_at place slot) words ++ steps) end shows (
+      from_head slot header (saw (slot_end_at place slot) ending ∷ saw_words
+      (slot_word_at place slot) words ++ steps) end shows (
         refl,
-        chosen (sees place.form seen ending) false (next_slot place slot) (At (SlotWords slot header [])) (saw_words (slot_word_at place slot) words ++ steps) end newest
-            (reads_words (ring_verb place) (ring_after place seen) (slot_word_at place slot) place.width (SlotWords slot header)
-            (λ words. At (SlotAgain slot header words)) (λ got. refl) (λ got word. if_in At _ _ _) words fits.least_width whole steps end ends),
+        chosen (sees place.form seen ending) false (next_slot place slot) (At (SlotWords slot header []))
+            (saw_words (slot_word_at place slot) words ++ steps) end newest
+            (reads_words (ring_verb place) (ring_after place seen) (slot_word_at place slot) place.width
+            (SlotWords slot header)
+            (λ words. At (SlotAgain slot header words)) (λ got. refl)
+            (λ got word. if_in At _ _ _) words fits.least_width whole steps end ends),
       )
 
-  passed_slot : (slot : ℕ) (first rest : List Step) (end : SearchEnd) → SlotEnded place seen slot first → EndsFrom (next_slot place slot) rest end
+  passed_slot : (slot : ℕ) (first rest : List Step) (end : SearchEnd) → SlotEnded place seen slot first
+      → EndsFrom (next_slot place slot) rest end
       → EndsFrom (At (SlotHead slot)) (first ++ rest) end
   passed_slot slot first rest end (by_header header why is) ends =
-      rw is (refl, chosen ((header == mark) || not (sees place.form seen header)) true (next_slot place slot) (At (SlotEnding slot header)) rest end (grind (arith, nat_tests)) ends)
+      rw is (
+        refl,
+        chosen ((header == mark) || not (sees place.form seen header)) true (next_slot place slot)
+            (At (SlotEnding slot header)) rest end (grind (arith, nat_tests)) ends,
+      )
   passed_slot slot first rest end (by_end header ending shows ended is) ends =
-      rw is (from_head slot header (saw (slot_end_at place slot) ending ∷ rest) end shows (refl, chosen (sees place.form seen ending) true (next_slot place slot) (At (SlotWords slot header [])) rest end ended ends))
+      rw is (from_head slot header (saw (slot_end_at place slot) ending ∷ rest) end shows (
+        refl,
+        chosen (sees place.form seen ending) true (next_slot place slot)
+            (At (SlotWords slot header [])) rest end ended ends,
+      ))
   passed_slot slot first rest end (by_change header ending words again shows newest whole why is) ends =
       rw is (subst (λ steps. EndsFrom (At (SlotHead slot)) steps end)
       (sym (append_assoc (looked place seen slot header ending words) (saw (slot_at place slot) again ∷ []) rest))
-      (from_words slot header ending words (saw (slot_at place slot) again ∷ rest) end shows newest whole
-      (refl, chosen (same_stamp place.form again header && not (again == mark)) false (Over (Found (value_of header words))) (next_slot place slot) rest end (grind (arith, nat_tests)) ends)))
+      (from_words slot header ending words (saw (slot_at place slot) again ∷ rest) end shows newest whole (
+        refl,
+        chosen (same_stamp place.form again header && not (again == mark)) false
+            (Over (Found (value_of header words))) (next_slot place slot) rest end (grind (arith, nat_tests)) ends,
+      )))
 
-  stopped_slot : (slot : ℕ) (steps : List Step) (end : SearchEnd) → Stops end slot steps → EndsFrom (At (SlotHead slot)) steps end
+  stopped_slot : (slot : ℕ) (steps : List Step) (end : SearchEnd) → Stops end slot steps
+      → EndsFrom (At (SlotHead slot)) steps end
   stopped_slot slot steps NotThere stops = absurd stops
   stopped_slot slot steps (Found value) g =
       let same = g.same in let still = g.still in
-      rw (g.steps_are, g.value_is) (from_words slot g.header g.ending g.words (saw (slot_at place slot) g.again ∷ []) (Found (value_of g.header g.words)) g.shows g.newest g.whole
-      (refl, chosen (same_stamp place.form g.again g.header && not (g.again == mark)) true (Over (Found (value_of g.header g.words))) (next_slot place slot) [] (Found (value_of g.header g.words)) (grind (arith, nat_tests)) refl))
+      rw (g.steps_are, g.value_is) (from_words slot g.header g.ending g.words (saw (slot_at place slot) g.again ∷ [])
+      (Found (value_of g.header g.words)) g.shows g.newest g.whole (
+        refl,
+        chosen (same_stamp place.form g.again g.header && not (g.again == mark)) true
+            (Over (Found (value_of g.header g.words))) (next_slot place slot) [] (Found (value_of g.header g.words))
+            (grind (arith, nat_tests)) refl,
+      ))
 
   -- slot after slot
   goes_on : (slot : ℕ) → slot + 1 < place.ring → next_slot place slot ≡ At (SlotHead (slot + 1))
@@ -162,27 +212,34 @@ module _ (place : Place) (fits : FitsPlace place) (seen : List ℕ) where
   pub found_by : (steps : List Step) (value : Option (List ℕ)) → EndsFrom (At (SlotHead 0)) steps (Found value)
       → StopsAt (SlotEnded place seen) (SlotGives place seen value) place.ring steps
   found_by steps value ends =
-      elim (search_ends (ring_verb place) (ring_after place seen) SlotHead (next_slot place) place.ring NotThere goes_on misses (SlotEnded place seen) Stops
+      elim (search_ends (ring_verb place) (ring_after place seen) SlotHead
+      (next_slot place) place.ring NotThere goes_on misses (SlotEnded place seen) Stops
       (λ slot within. part_slot slot) fits.least_ring steps (Found value) ends) [
         | inl stops ↦ stops
         | inr missed ↦ let none = missed.1 in absurd (cc)
       ]
 
-  pub finds_by : (steps : List Step) (value : Option (List ℕ)) → StopsAt (SlotEnded place seen) (SlotGives place seen value) place.ring steps
+  pub finds_by : (steps : List Step) (value : Option (List ℕ))
+      → StopsAt (SlotEnded place seen) (SlotGives place seen value) place.ring steps
       → EndsFrom (At (SlotHead 0)) steps (Found value)
   finds_by steps value stops =
-      search_stops (ring_verb place) (ring_after place seen) SlotHead (next_slot place) place.ring NotThere goes_on misses (SlotEnded place seen) Stops
+      search_stops (ring_verb place) (ring_after place seen) SlotHead
+      (next_slot place) place.ring NotThere goes_on misses (SlotEnded place seen) Stops
       (λ slot within. passed_slot slot) (λ slot within. stopped_slot slot) steps (Found value) stops
 
-  pub missed_by : (steps : List Step) → EndsFrom (At (SlotHead 0)) steps NotThere → Stretches (SlotEnded place seen) 0 place.ring steps
+  pub missed_by : (steps : List Step) → EndsFrom (At (SlotHead 0)) steps NotThere
+      → Stretches (SlotEnded place seen) 0 place.ring steps
   missed_by steps ends =
-      elim (search_ends (ring_verb place) (ring_after place seen) SlotHead (next_slot place) place.ring NotThere goes_on misses (SlotEnded place seen) Stops
+      elim (search_ends (ring_verb place) (ring_after place seen) SlotHead
+      (next_slot place) place.ring NotThere goes_on misses (SlotEnded place seen) Stops
       (λ slot within. part_slot slot) fits.least_ring steps NotThere ends) [
         | inl stops ↦ absurd stops.stops
         | inr missed ↦ missed.0
       ]
 
-  pub misses_by : (steps : List Step) → Stretches (SlotEnded place seen) 0 place.ring steps → EndsFrom (At (SlotHead 0)) steps NotThere
+  pub misses_by : (steps : List Step) → Stretches (SlotEnded place seen) 0 place.ring steps
+      → EndsFrom (At (SlotHead 0)) steps NotThere
   misses_by steps passed =
-      search_misses (ring_verb place) (ring_after place seen) SlotHead (next_slot place) place.ring NotThere goes_on misses (SlotEnded place seen) Stops
+      search_misses (ring_verb place) (ring_after place seen) SlotHead
+      (next_slot place) place.ring NotThere goes_on misses (SlotEnded place seen) Stops
       (λ slot within. passed_slot slot) fits.least_ring steps passed

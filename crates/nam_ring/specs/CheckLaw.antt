@@ -20,15 +20,18 @@ checked place count header = saw place.count_at count ∷ saw (slot_at place (sl
 -- free for the current version exactly where the header found has the moved flag
 abbrev pub FreeLaw : Type 0
 FreeLaw = (place : Place) (steps : List Step) (count : ℕ)
-    → EndsWith (running (checking place)) steps (Free count) ↔ ((header : ℕ) × (is_moved place.form header ≡ true) × (steps ≡ checked place count header))
+    → EndsWith (running (checking place)) steps (Free count) ↔ ((header : ℕ) × (is_moved place.form header ≡ true)
+    × (steps ≡ checked place count header))
 
 -- not moved exactly where it has none
 abbrev pub NotMovedLaw : Type 0
 NotMovedLaw = (place : Place) (steps : List Step) (slot header : ℕ)
     → EndsWith (running (checking place)) steps (NotMoved slot header)
-    ↔ ((count : ℕ) × (slot ≡ slot_of place count) × (is_moved place.form header ≡ false) × (steps ≡ checked place count header))
+    ↔ ((count : ℕ) × (slot ≡ slot_of place count) × (is_moved place.form header ≡ false)
+    × (steps ≡ checked place count header))
 
 -- whatever words are found, the verbs read the row's count and a header of its ring
 abbrev pub CheckReachesLaw : Type 0
 CheckReachesLaw = (shape : Shape) → FitsLimits shape → (row : ℕ) → IsRow shape row
-    → Always (λ at. Reaches shape (slot_verb (row_place shape row) at) (slot_field (row_place shape row) at)) (running (checking (row_place shape row)))
+    → Always (λ at. Reaches shape (slot_verb (row_place shape row) at) (slot_field (row_place shape row) at))
+    (running (checking (row_place shape row)))

@@ -24,11 +24,15 @@ copy_into place slot header old ending =
 
 -- whatever is found, these are written, and nothing else
 abbrev pub CopyLaw : Type 0
-CopyLaw = (place : Place) → FitsPlace place → (count header : ℕ) (old : List ℕ) → length old ≡ place.width → (ending : Stamp)
-    → EndsAfter (running (copying place count header old ending)) (copy_into place (slot_of place count) header old ending) tt
+CopyLaw = (place : Place) → FitsPlace place → (count header : ℕ) (old : List ℕ) → length old ≡ place.width →
+    (ending : Stamp)
+    → EndsAfter (running (copying place count header old ending))
+    (copy_into place (slot_of place count) header old ending) tt
 
 -- and each verb writes a field of the row's ring
 abbrev pub CopyReachesLaw : Type 0
-CopyReachesLaw = (shape : Shape) → FitsLimits shape → (row : ℕ) → IsRow shape row → (count header : ℕ) (old : List ℕ) (ending : Stamp)
-    → Always (λ at. Reaches shape (copy_verb (row_place shape row) count header old ending at) (copy_field (row_place shape row) count at))
+CopyReachesLaw = (shape : Shape) → FitsLimits shape → (row : ℕ) → IsRow shape row → (count header : ℕ) (old : List ℕ)
+    (ending : Stamp)
+    → Always (λ at. Reaches shape (copy_verb (row_place shape row) count header old ending at)
+    (copy_field (row_place shape row) count at))
     (running (copying (row_place shape row) count header old ending))

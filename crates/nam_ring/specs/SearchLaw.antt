@@ -28,10 +28,12 @@ module _ (place : Place) (seen : List ℕ) where
 
   -- a slot was ended by a word found: by its header, by its end, or by its header read again
   pub data SlotEnded (slot : ℕ) (steps : List Step) : Type 0 where
-    by_header : (header : ℕ) → (header ≡ mark) ⊎ (sees place.form seen header ≡ false) → steps ≡ saw (slot_at place slot) header ∷ [] → SlotEnded slot steps
+    by_header : (header : ℕ) → (header ≡ mark) ⊎ (sees place.form seen header ≡ false)
+        → steps ≡ saw (slot_at place slot) header ∷ [] → SlotEnded slot steps
     by_end : (header ending : ℕ) → HasSeen header → sees place.form seen ending ≡ true
         → steps ≡ saw (slot_at place slot) header ∷ saw (slot_end_at place slot) ending ∷ [] → SlotEnded slot steps
-    by_change : (header ending : ℕ) (words : List ℕ) (again : ℕ) → HasSeen header → sees place.form seen ending ≡ false → length words ≡ place.width
+    by_change : (header ending : ℕ) (words : List ℕ) (again : ℕ) → HasSeen header
+        → sees place.form seen ending ≡ false → length words ≡ place.width
         → (same_stamp place.form again header ≡ false) ⊎ (again ≡ mark)
         → steps ≡ looked slot header ending words ++ saw (slot_at place slot) again ∷ [] → SlotEnded slot steps
 
@@ -53,7 +55,8 @@ module _ (place : Place) (seen : List ℕ) where
 -- found exactly where a slot has it, after each slot before it was ended by a word found
 abbrev pub FoundLaw : Type 0
 FoundLaw = (place : Place) → FitsPlace place → (seen : List ℕ) (steps : List Step) (value : Option (List ℕ))
-    → EndsWith (running (searching place seen)) steps (Found value) ↔ StopsAt (SlotEnded place seen) (SlotGives place seen value) place.ring steps
+    → EndsWith (running (searching place seen)) steps (Found value) ↔ StopsAt (SlotEnded place seen)
+    (SlotGives place seen value) place.ring steps
 
 -- not there exactly where each slot was ended by a word found
 abbrev pub NotThereLaw : Type 0
@@ -63,4 +66,5 @@ NotThereLaw = (place : Place) → FitsPlace place → (seen : List ℕ) (steps :
 -- whatever words are found, each verb reads a field of the row's ring
 abbrev pub SearchReachesLaw : Type 0
 SearchReachesLaw = (shape : Shape) → FitsLimits shape → (row : ℕ) → IsRow shape row → (seen : List ℕ)
-    → Always (λ at. Reaches shape (ring_verb (row_place shape row) at) (ring_field (row_place shape row) at)) (running (searching (row_place shape row) seen))
+    → Always (λ at. Reaches shape (ring_verb (row_place shape row) at) (ring_field (row_place shape row) at))
+    (running (searching (row_place shape row) seen))

@@ -1,5 +1,5 @@
 -- For which version a move holds a claimed cell, whatever words it found.
-use Rattle.std.proofs.Common.{◌≡◌, ℕ, List, [], ◌∷◌, ◌++◌, length, refl, sym, ◌∙◌, ap, subst, true, false, Some, IsNone}
+use Rattle.std.proofs.Common.{◌≡◌, ℕ, List, [], ◌∷◌, ◌++◌, length, refl, sym, ◌∙◌, ap, subst, false, Some, IsNone}
 use Rattle.std.specs.Prelude.{◌==◌}
 use Rattle.std.proofs.lemmas.List.{append_assoc, append-nil}
 use Rattle.si_model.specs.declared.log.Stamp.{Stamp}
@@ -12,7 +12,7 @@ use Rattle.nam_verbs.specs.Steps.{Step, saw}
 use Rattle.nam_verbs.proofs.TestLemmas.{by_test}
 use Rattle.nam_layout.specs.declared.field.Place.{Place}
 use Rattle.nam_layout.specs.declared.field.Cells.{Cells}
-use Rattle.nam_layout.specs.PlaceFits.{FitsPlace, FitsCells}
+use Rattle.nam_layout.specs.PlaceFits.{FitsCells}
 use Rattle.nam_calls.specs.declared.overflow.ClaimPlace.{ClaimPlace}
 use Rattle.nam_calls.specs.declared.overflow.ClaimPlace.TheVariants.{ClaimLook}
 use Rattle.nam_calls.specs.declared.overflow.ClaimEnd.{ClaimEnd}

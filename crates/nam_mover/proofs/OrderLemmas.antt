@@ -1,6 +1,6 @@
 -- What a move has done before a write and before an exchange, whatever words it found.
-use Rattle.std.proofs.Common.{◌≡◌, ◌⊎◌, inl, inr, ℕ, ◌+◌, ◌<◌, ◌≤◌, List, [], ◌∷◌, ◌++◌, length, refl, sym, ◌∙◌, ap}
-use Rattle.std.proofs.Common.{subst, arith, Some}
+use Rattle.std.proofs.Common.{◌≡◌, ◌⊎◌, inl, inr, ℕ, ◌+◌, ◌<◌, List, [], ◌∷◌, ◌++◌, refl, sym, ◌∙◌}
+use Rattle.std.proofs.Common.{arith, Some}
 use Rattle.std.proofs.lemmas.List.{append_assoc}
 use Rattle.nam_verbs.specs.declared.verb.Verb.{Verb}
 use Rattle.nam_verbs.specs.declared.verb.Verb.TheVariants.{Write, Exchange}
@@ -21,7 +21,7 @@ use Rattle.nam_calls.specs.declared.mover.MovePlace.TheVariants.{MoveWords, Move
 use Rattle.nam_calls.specs.declared.mover.MovePlace.TheVariants.{MoveBack}
 use Rattle.nam_calls.specs.declared.mover.MoveAnswer.{MoveAnswer}
 use Rattle.nam_calls.specs.declared.mover.MoveAnswer.TheVariants.{Moved}
-use Rattle.nam_calls.specs.Stamps.{stamp_in, with_moved, full}
+use Rattle.nam_calls.specs.Stamps.{stamp_in, with_moved}
 use Rattle.nam_calls.specs.Words.{slot_at, tag_at}
 use Rattle.nam_calls.specs.Fits.{Any, MoveFits}
 use Rattle.nam_calls.specs.Mover.{move_verb, move_after, move_left}

@@ -85,7 +85,7 @@ module _ (place : Place) (cells : Cells) where
     pub stamp_is : stamp ≡ stamp_in place.form header
     pub steps_are : steps ≡ copy ++ last
 
-  -- the slot bore another header after the copy, and the cell was set free for the next generation
+  -- the slot bore another header after the copy, and the cell was set free for the next generation, if there is one
   pub record WasGivenBack (stamp : Stamp) (steps : List Step) : Type 0 where
     pub count : ℕ
     pub header : ℕ

@@ -4,7 +4,7 @@ use Rattle.si_model.specs.declared.log.Stamp.{Stamp}
 use Rattle.nam_verbs.specs.declared.verb.Verb.TheVariants.{Write, Exchange}
 use Rattle.nam_verbs.specs.Machine.{after_words}
 use Rattle.nam_verbs.specs.Running.{next_verb, after_found}
-use Rattle.nam_verbs.specs.Steps.{Step, verbs_of}
+use Rattle.nam_verbs.specs.Steps.{Step}
 use Rattle.nam_layout.specs.declared.field.Place.{Place}
 use Rattle.nam_layout.specs.declared.field.Cells.{Cells}
 use Rattle.nam_layout.specs.PlaceFits.{FitsPlace, FitsCells}

@@ -10,7 +10,7 @@ ghost use Rattle.nam_mover.specs.OrderLaw.{WriteLaw, ExchangeLaw};
 /// A version is moved exactly where a cell was claimed, the slot's words were read, owner, begin, end and words were
 /// written into that cell, the slot's header was found the same, the tag was written full, and then the moved flag
 /// was tried, whatever that found. The cell is given back exactly where the slot's header was found changed, and the
-/// tag of the next generation was written, which is free.
+/// free tag of the next generation was written; a tag of the last generation stays as it is.
 pub fn move_law()
     ensures nothing { NothingLaw }
     ensures no_room { NoRoomLaw }

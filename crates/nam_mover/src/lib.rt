@@ -15,6 +15,6 @@ mod running;
 mod tests;
 
 pub use laws::{claimed_law, move_law, order_law, reach_law};
-pub use nam_calls::{MoveAnswer, MovePlace};
+pub use nam_calls::MoveAnswer;
 pub use place::{move_after, move_begin, move_claimed, move_left, move_verb};
 pub use running::Move;

@@ -1,13 +1,10 @@
 -- The writes of a filling.
-use Rattle.std.proofs.Common.{◌≡◌, ℕ, ◌+◌, ◌<◌, List, [], ◌∷◌, ◌++◌, length, refl, arith, subst}
-use Rattle.std.specs.Prelude.{◌==◌, if◌then◌else◌, slice_index}
+use Rattle.std.proofs.Common.{◌≡◌, ℕ, ◌<◌, [], length, refl, arith}
 use Rattle.std.proofs.lemmas.List.{append-nil}
-use Rattle.nam_verbs.specs.declared.now.Now.{Now}
 use Rattle.nam_verbs.specs.declared.now.Now.TheVariants.{At, Over}
 use Rattle.nam_verbs.specs.Steps.{Does}
 use Rattle.nam_layout.specs.declared.field.Cells.{Cells}
 use Rattle.nam_calls.specs.declared.overflow.Version.{Version}
-use Rattle.nam_calls.specs.declared.overflow.FillPlace.{FillPlace}
 use Rattle.nam_calls.specs.declared.overflow.FillPlace.TheVariants.{FillOwner, FillWord}
 use Rattle.nam_calls.specs.Words.{cell_word_at}
 use Rattle.nam_calls.specs.Overflow.{fill_verb, fill_after}

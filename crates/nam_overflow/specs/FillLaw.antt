@@ -7,7 +7,6 @@ use Rattle.nam_verbs.specs.Steps.{writes_of, EndsAfter}
 use Rattle.nam_catalog.specs.declared.shape.Shape.{Shape}
 use Rattle.nam_layout.specs.declared.field.Cells.{Cells}
 use Rattle.nam_layout.specs.Place.{cells_of}
-use Rattle.nam_calls.specs.declared.overflow.Version.{Version}
 use Rattle.nam_calls.specs.Words.{owner_at, begin_at, end_at, cell_word_at}
 use Rattle.nam_calls.specs.Overflow.{fill_verb}
 use Rattle.nam_calls.specs.VerbFields.{Reaches, fill_field}

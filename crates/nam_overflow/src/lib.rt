@@ -17,5 +17,5 @@ mod tests;
 pub use claim::{ClaimCell, claim_after, claim_begin, claim_left, claim_verb};
 pub use fill::{FillCell, fill_after, fill_begin, fill_left, fill_verb};
 pub use laws::{claim_law, fill_law, reach_law, search_law};
-pub use nam_calls::{CellPlace, ClaimEnd, ClaimPlace, FillPlace, SearchEnd as CellEnd, Version};
+pub use nam_calls::{ClaimEnd, SearchEnd as CellEnd};
 pub use search::{SearchCells, cell_after, cell_begin, cell_left, cell_verb};

@@ -1,12 +1,13 @@
 //! The places of a move.
 
-ghost use Rattle.std.specs.Prelude.{◌≡◌, ◌<◌};
+ghost use Rattle.std.specs.Prelude.{◌≡◌, ◌<◌, ◌≤◌, IsSome, if◌then◌else◌};
 ghost use Rattle.nam_verbs.specs.Verb.{address_of};
 ghost use Rattle.nam_layout.specs.PlaceFits.{FitsPlace, FitsCells};
 ghost use Rattle.nam_calls.specs.Fits.{MoveFits};
 ghost use Rattle.nam_calls.specs.Mover.{move_begin as begin, move_verb as verb_at, move_after as after_word};
 ghost use Rattle.nam_calls.specs.Mover.{move_left as left_at};
 ghost use Rattle.nam_calls.specs.Mover.{on_claim as after_claim, on_fill as after_fill, move_claimed as claimed_at};
+ghost use Rattle.nam_calls.specs.declared.mover.MovePlace.TheVariants.{MoveFull, MoveBack};
 ghost use Rattle.nam_words.specs.Ends.{place_end, cells_end, later};
 
 use nam_calls::{ClaimEnd, ClaimPlace, FillPlace, MoveAnswer, MovePlace, Version};
@@ -134,6 +135,22 @@ fn on_fill(
     }
 }
 
+// The cell is said to be full where the slot's header is the same, and else is given back.
+fn after_look(slot: u32, header: u64, cell: u32, tag: u64, same: bool) -> MovePlace
+    ensures { result ≡ (if same then MoveFull slot header cell tag else MoveBack header cell tag) }
+{
+    if same {
+        MovePlace::MoveFull {
+            slot,
+            header,
+            cell,
+            tag,
+        }
+    } else {
+        MovePlace::MoveBack { header, cell, tag }
+    }
+}
+
 /// What follows the word that the verb of a place found.
 pub fn move_after(
     place: &Place,
@@ -147,31 +164,43 @@ pub fn move_after(
     ensures { result ≡ after_word place.now cells.now at found }
 {
     match at {
-        MovePlace::MoveCount => Now::At(MovePlace::MoveHead {
-            slot: slot_of(place, found),
-        }),
+        MovePlace::MoveCount => {
+            let slot = slot_of(place, found);
+            Now::At(MovePlace::MoveHead { slot })
+        }
         MovePlace::MoveHead { slot } => {
             if is_moved(place.form, found) {
-                Now::Over(MoveAnswer::Nothing)
-            } else {
-                Now::At(MovePlace::MoveEnding {
-                    slot,
-                    header: found,
-                })
+                return Now::Over(MoveAnswer::Nothing);
             }
+            let header = found;
+            Now::At(MovePlace::MoveEnding { slot, header })
         }
-        MovePlace::MoveEnding { slot, header } => Now::At(MovePlace::MoveClaim {
-            slot,
-            header,
-            ending: found,
-            at: claim_begin(),
-        }),
+        MovePlace::MoveEnding { slot, header } => {
+            on_claim(cells, slot, header, found, Now::At(claim_begin()))
+        }
         MovePlace::MoveClaim {
             slot,
             header,
             ending,
             at,
         } => on_claim(cells, slot, header, ending, claim_after(cells, at, found)),
+        claimed => after_claim(place, cells, claimed, found),
+    }
+}
+
+// The same at the places where a cell is claimed.
+fn after_claim(
+    place: &Place,
+    cells: &Cells,
+    at: MovePlace,
+    found: u64,
+) -> Now<MovePlace, MoveAnswer>
+    requires place { FitsPlace place.now }
+    requires at { MoveFits place.now cells.now at }
+    requires claimed { IsSome (claimed_at place.now at) }
+    ensures { result ≡ after_word place.now cells.now at found }
+{
+    match at {
         MovePlace::MoveWords {
             slot,
             header,
@@ -181,29 +210,22 @@ pub fn move_after(
             mut got,
         } => {
             got.push(found);
-            if got.len() == place.width as usize {
-                Now::At(MovePlace::MoveFill {
-                    slot,
-                    header,
-                    cell,
-                    tag,
-                    version: Version {
-                        begin: without_moved(place.form, header),
-                        end: ending,
-                        value: got,
-                    },
-                    at: fill_begin(),
-                })
-            } else {
-                Now::At(MovePlace::MoveWords {
+            if got.len() != place.width as usize {
+                return Now::At(MovePlace::MoveWords {
                     slot,
                     header,
                     ending,
                     cell,
                     tag,
                     got,
-                })
+                });
             }
+            let version = Version {
+                begin: without_moved(place.form, header),
+                end: ending,
+                value: got,
+            };
+            on_fill(slot, header, cell, tag, version, Now::At(fill_begin()))
         }
         MovePlace::MoveFill {
             slot,
@@ -212,31 +234,27 @@ pub fn move_after(
             tag,
             version,
             at,
-        } => on_fill(
-            slot,
-            header,
-            cell,
-            tag,
-            version,
-            fill_after(place.width, at),
-        ),
+        } => {
+            let now = fill_after(place.width, at);
+            on_fill(slot, header, cell, tag, version, now)
+        }
+        copied => after_copy(place, cells, copied, found),
+    }
+}
+
+// The same once the cell is filled: no more than three verbs are to come.
+fn after_copy(place: &Place, cells: &Cells, at: MovePlace, found: u64) -> Now<MovePlace, MoveAnswer>
+    requires at { MoveFits place.now cells.now at }
+    requires few { left_at place.now cells.now at ≤ 3 }
+    ensures { result ≡ after_word place.now cells.now at found }
+{
+    match at {
         MovePlace::MoveAgain {
             slot,
             header,
             cell,
             tag,
-        } => {
-            if found == header {
-                Now::At(MovePlace::MoveFull {
-                    slot,
-                    header,
-                    cell,
-                    tag,
-                })
-            } else {
-                Now::At(MovePlace::MoveBack { header, cell, tag })
-            }
-        }
+        } => Now::At(after_look(slot, header, cell, tag, found == header)),
         MovePlace::MoveFull { slot, header, .. } => Now::At(MovePlace::MoveFlag { slot, header }),
         MovePlace::MoveFlag { header, .. } => Now::Over(MoveAnswer::Moved {
             stamp: stamp_in(place.form, header),
@@ -244,6 +262,7 @@ pub fn move_after(
         MovePlace::MoveBack { header, .. } => Now::Over(MoveAnswer::Back {
             stamp: stamp_in(place.form, header),
         }),
+        _ => unreachable!(),
     }
 }
 

@@ -1,6 +1,7 @@
 //! The search of a bucket's cells.
 
-ghost use Rattle.std.specs.Prelude.{◌≡◌, ◌<◌, ◌*◌, ◌+◌};
+ghost use Rattle.std.specs.Prelude.{◌≡◌, ◌<◌, ◌≤◌, ◌*◌, ◌+◌, [], ◌∷◌, ◌++◌, length, if◌then◌else◌, Some, None};
+ghost use Rattle.nam_verbs.specs.declared.now.Now.TheVariants.{At};
 ghost use Rattle.nam_verbs.specs.Verb.{address_of};
 ghost use Rattle.nam_verbs.specs.Running.{verbs_left};
 ghost use Rattle.nam_layout.specs.PlaceFits.{FitsPlace, FitsCells};
@@ -9,9 +10,14 @@ ghost use Rattle.nam_calls.specs.Overflow.{cell_begin as begin, cell_verb as ver
 ghost use Rattle.nam_calls.specs.Overflow.{cell_after as after_word};
 ghost use Rattle.nam_calls.specs.Overflow.{cells_left as left_after, cell_left as left_at};
 ghost use Rattle.nam_calls.specs.Fits.{CellFits};
+ghost use Rattle.nam_calls.specs.Words.{until};
+ghost use Rattle.nam_calls.specs.Stamps.{is_deleted as deleted};
+ghost use Rattle.nam_calls.specs.declared.overflow.CellPlace.TheVariants.{CellWords, CellAgain};
+ghost use Rattle.nam_calls.specs.declared.ring.SearchEnd.TheVariants.{Found};
 ghost use Rattle.nam_overflow.specs.Search.{searching, running};
 
 use nam_calls::{CellPlace, SearchEnd};
+use nam_catalog::Form;
 use nam_layout::{Cells, Place};
 use nam_verbs::{Machine, Now, Verb};
 use nam_words::{begin_at, cell_word_at, end_at, is_deleted, is_full, owner_at, sees, tag_at};
@@ -56,6 +62,55 @@ fn next_cell(cells: &Cells, cell: u32) -> Now<CellPlace, SearchEnd>
     }
 }
 
+// The cell is looked at further where its word passes, and else the next cell.
+fn going(cells: &Cells, cell: u32, passes: bool, further: CellPlace) -> Now<CellPlace, SearchEnd>
+    requires fits { FitsCells cells.now }
+    requires cell { cell < cells.now.cells }
+    ensures { result ≡ (if passes then At further else next_at cells.now cell) }
+{
+    if passes {
+        Now::At(further)
+    } else {
+        next_cell(cells, cell)
+    }
+}
+
+// With one more of the cell's words, the next one follows, or the tag again.
+fn one_more(width: u32, cell: u32, tag: u64, header: u64, got: Value, found: u64) -> CellPlace
+    requires most { width ≤ 8 }
+    requires got { length got < width }
+    ensures { result ≡ until width (got ++ found ∷ []) (CellWords cell tag header) (CellAgain cell tag header) }
+{
+    let mut got = got;
+    got.push(found);
+    if got.len() == width as usize {
+        CellPlace::CellAgain {
+            cell,
+            tag,
+            header,
+            value: got,
+        }
+    } else {
+        CellPlace::CellWords {
+            cell,
+            tag,
+            header,
+            got,
+        }
+    }
+}
+
+// The value of a whole version, and none of a deletion.
+fn value_of(form: Form, header: u64, value: Value) -> SearchEnd
+    ensures { result ≡ Found (if deleted form header then None else Some value) }
+{
+    if is_deleted(form, header) {
+        SearchEnd::Found(None)
+    } else {
+        SearchEnd::Found(Some(value))
+    }
+}
+
 /// What follows the word that the verb of a place found.
 pub fn cell_after(
     cells: &Cells,
@@ -71,65 +126,36 @@ pub fn cell_after(
 {
     match at {
         CellPlace::CellTag { cell } => {
-            if !is_full(found) {
-                next_cell(cells, cell)
-            } else {
-                Now::At(CellPlace::CellOwner { cell, tag: found })
-            }
+            let further = CellPlace::CellOwner { cell, tag: found };
+            going(cells, cell, is_full(found), further)
         }
         CellPlace::CellOwner { cell, tag } => {
-            if found != place.row as u64 {
-                next_cell(cells, cell)
-            } else {
-                Now::At(CellPlace::CellBegin { cell, tag })
-            }
+            let further = CellPlace::CellBegin { cell, tag };
+            going(cells, cell, found == place.row as u64, further)
         }
         CellPlace::CellBegin { cell, tag } => {
-            if !sees(place.form, seen, found) {
-                next_cell(cells, cell)
-            } else {
-                Now::At(CellPlace::CellEnding {
-                    cell,
-                    tag,
-                    header: found,
-                })
-            }
+            let header = found;
+            let further = CellPlace::CellEnding { cell, tag, header };
+            going(cells, cell, sees(place.form, seen, found), further)
         }
         CellPlace::CellEnding { cell, tag, header } => {
             if sees(place.form, seen, found) {
-                next_cell(cells, cell)
-            } else {
-                Now::At(CellPlace::CellWords {
-                    cell,
-                    tag,
-                    header,
-                    got: Value::new(),
-                })
+                return next_cell(cells, cell);
             }
+            let got = Value::new();
+            Now::At(CellPlace::CellWords {
+                cell,
+                tag,
+                header,
+                got,
+            })
         }
         CellPlace::CellWords {
             cell,
             tag,
             header,
-            mut got,
-        } => {
-            got.push(found);
-            if got.len() == place.width as usize {
-                Now::At(CellPlace::CellAgain {
-                    cell,
-                    tag,
-                    header,
-                    value: got,
-                })
-            } else {
-                Now::At(CellPlace::CellWords {
-                    cell,
-                    tag,
-                    header,
-                    got,
-                })
-            }
-        }
+            got,
+        } => Now::At(one_more(place.width, cell, tag, header, got, found)),
         CellPlace::CellAgain {
             cell,
             tag,
@@ -137,12 +163,9 @@ pub fn cell_after(
             value,
         } => {
             if found != tag {
-                next_cell(cells, cell)
-            } else if is_deleted(place.form, header) {
-                Now::Over(SearchEnd::Found(None))
-            } else {
-                Now::Over(SearchEnd::Found(Some(value)))
+                return next_cell(cells, cell);
             }
+            Now::Over(value_of(place.form, header, value))
         }
     }
 }

@@ -1,10 +1,12 @@
 //! The search of a record's ring.
 
-ghost use Rattle.std.specs.Prelude.{◌≡◌, ◌<◌, ◌*◌, ◌+◌};
+ghost use Rattle.std.specs.Prelude.{◌≡◌, ◌<◌, ◌≤◌, ◌*◌, ◌+◌, [], ◌∷◌, ◌++◌, length};
 ghost use Rattle.nam_verbs.specs.Verb.{address_of};
 ghost use Rattle.nam_verbs.specs.Running.{verbs_left};
 ghost use Rattle.nam_layout.specs.PlaceFits.{FitsPlace};
 ghost use Rattle.nam_calls.specs.Fits.{RingFits};
+ghost use Rattle.nam_calls.specs.Words.{until};
+ghost use Rattle.nam_calls.specs.declared.ring.RingPlace.TheVariants.{SlotWords, SlotAgain};
 ghost use Rattle.nam_calls.specs.Ring.{ring_begin as begin, ring_verb as verb_at, ring_after as after_word, ring_left as left_at};
 ghost use Rattle.nam_calls.specs.Ring.{next_slot as slot_after, slots_left as left_after};
 ghost use Rattle.nam_words.specs.Ends.{place_end};
@@ -52,6 +54,25 @@ fn next_slot(place: &Place, slot: u32) -> Now<RingPlace, SearchEnd>
     }
 }
 
+// With one more of the slot's words, the next one follows, or the header again.
+fn one_more(width: u32, slot: u32, header: u64, got: Value, found: u64) -> RingPlace
+    requires most { width ≤ 8 }
+    requires got { length got < width }
+    ensures { result ≡ until width (got ++ found ∷ []) (SlotWords slot header) (SlotAgain slot header) }
+{
+    let mut got = got;
+    got.push(found);
+    if got.len() == width as usize {
+        RingPlace::SlotAgain {
+            slot,
+            header,
+            value: got,
+        }
+    } else {
+        RingPlace::SlotWords { slot, header, got }
+    }
+}
+
 /// What follows the word that the verb of a place found.
 pub fn ring_after(
     place: &Place,
@@ -85,21 +106,8 @@ pub fn ring_after(
                 })
             }
         }
-        RingPlace::SlotWords {
-            slot,
-            header,
-            mut got,
-        } => {
-            got.push(found);
-            if got.len() == place.width as usize {
-                Now::At(RingPlace::SlotAgain {
-                    slot,
-                    header,
-                    value: got,
-                })
-            } else {
-                Now::At(RingPlace::SlotWords { slot, header, got })
-            }
+        RingPlace::SlotWords { slot, header, got } => {
+            Now::At(one_more(place.width, slot, header, got, found))
         }
         RingPlace::SlotAgain {
             slot,

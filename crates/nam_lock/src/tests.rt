@@ -2,7 +2,7 @@ use crate::{LockAll, LockEnd, UnlockAll};
 use lists::ShortList;
 use nam_catalog::Form;
 use nam_trial::{PlainStore, exchange, pair, plain_shape, read, takes, write};
-use nam_verbs::Machine;
+use nam_verbs::{Machine, Verb};
 use std::alloc::{AllocError, Global};
 
 // The header of the first commit of worker 1, not locked.
@@ -44,18 +44,22 @@ fn locks_are_taken_and_written_back_in_order(rt: HostRuntime) -> Result<(), Allo
     Ok(())
 }
 
+// The verbs by which the first lock is taken and given back, since the second is missed.
+fn given_back() -> [Verb; 4] {
+    [read(5), exchange(5, 0, 1), read(12), write(5, 0)]
+}
+
 #[test]
-fn the_first_lock_is_given_back_where_the_second_is_missed(
+fn the_first_lock_is_given_back_where_the_second_is_newer(
     rt: HostRuntime,
 ) -> Result<(), AllocError> {
     let mut store = opened(Form::Narrow, rt.alloc())?.expect(&rt, "a store");
     let first = store.place(0, 0).expect(&rt, "a row");
     let second = store.place(0, 1).expect(&rt, "a blank position");
-    let expected = [read(5), exchange(5, 0, 1), read(12), write(5, 0)];
-    store.set(12, NEWER);
     let mut lock = LockAll::new(1, pair(first, second), pair(0, 0));
+    store.set(12, NEWER);
     let verbs = store.run(rt.alloc(), &mut lock)?;
-    assert!(rt; verbs.as_slice() == expected.as_slice());
+    assert!(rt; verbs.as_slice() == given_back().as_slice());
     let newer = LockEnd::Newer {
         nth: 1,
         found: NEWER,
@@ -63,11 +67,18 @@ fn the_first_lock_is_given_back_where_the_second_is_missed(
     assert_eq!(rt; lock.end(), Some(newer));
     assert_eq!(rt; lock.taken(), 1);
     assert_eq!(rt; store.word(5), 0);
-    // Locked goes before newer.
-    store.set(12, NEWER + 1);
+    Ok(())
+}
+
+#[test]
+fn locked_goes_before_newer(rt: HostRuntime) -> Result<(), AllocError> {
+    let mut store = opened(Form::Narrow, rt.alloc())?.expect(&rt, "a store");
+    let first = store.place(0, 0).expect(&rt, "a row");
+    let second = store.place(0, 1).expect(&rt, "a blank position");
     let mut lock = LockAll::new(1, pair(first, second), pair(0, 0));
+    store.set(12, NEWER + 1);
     let verbs = store.run(rt.alloc(), &mut lock)?;
-    assert!(rt; verbs.as_slice() == expected.as_slice());
+    assert!(rt; verbs.as_slice() == given_back().as_slice());
     let locked = LockEnd::Locked {
         nth: 1,
         found: NEWER + 1,

@@ -1,13 +1,12 @@
 -- How the look at a slot ends.
-use Rattle.std.proofs.Common.{◌≡◌, ℕ, List, [], ◌∷◌, refl, sym, ◌∙◌, ap, subst, Bool, true, false}
-use Rattle.std.specs.Prelude.{if◌then◌else◌}
+use Rattle.std.proofs.Common.{◌≡◌, ℕ, List, [], ◌∷◌, refl, sym, ◌∙◌, ap, subst, true, false}
 use Rattle.nam_verbs.specs.declared.now.Now.{Now}
 use Rattle.nam_verbs.specs.declared.now.Now.TheVariants.{At, Over}
 use Rattle.nam_verbs.specs.Steps.{Step, Ends, saw}
 use Rattle.nam_verbs.proofs.TestLemmas.{by_test}
 use Rattle.nam_layout.specs.declared.field.Place.{Place}
 use Rattle.nam_calls.specs.declared.ring.SlotPlace.{SlotPlace}
-use Rattle.nam_calls.specs.declared.ring.SlotPlace.TheVariants.{CheckCount, CheckHead}
+use Rattle.nam_calls.specs.declared.ring.SlotPlace.TheVariants.{CheckCount}
 use Rattle.nam_calls.specs.declared.ring.SlotEnd.{SlotEnd}
 use Rattle.nam_calls.specs.declared.ring.SlotEnd.TheVariants.{Free, NotMoved}
 use Rattle.nam_calls.specs.Stamps.{is_moved}

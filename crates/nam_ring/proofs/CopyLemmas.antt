@@ -1,11 +1,10 @@
 -- What a copy writes.
-use Rattle.std.proofs.Common.{◌≡◌, ℕ, List, [], ◌∷◌, length, refl, arith}
+use Rattle.std.proofs.Common.{[], ◌∷◌, refl, arith}
 use Rattle.nam_verbs.specs.declared.now.Now.TheVariants.{At}
 use Rattle.nam_verbs.specs.declared.verb.Verb.TheVariants.{Write}
 use Rattle.nam_calls.specs.declared.ring.CopyPlace.TheVariants.{CopyWord, CopyHead}
 use Rattle.nam_calls.specs.Words.{slot_at, slot_word_at, slot_of}
 use Rattle.nam_calls.specs.Ring.{copy_verb, copy_after}
-use Rattle.nam_calls.proofs.Programs.{if_in}
 use Rattle.nam_words.proofs.WritingLemmas.{writes_words}
 use Rattle.nam_ring.specs.CopyLaw.{CopyLaw}
 

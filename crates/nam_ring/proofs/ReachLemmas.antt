@@ -1,5 +1,5 @@
 -- Each verb reaches a field of its row, whatever words are found.
-use Rattle.std.proofs.Common.{ℕ, List, arith}
+use Rattle.std.proofs.Common.{arith}
 use Rattle.nam_layout.proofs.LimitLemmas.{place_within_limits}
 use Rattle.nam_calls.specs.Fits.{Any, SlotEnds, CopyFits, RingFits, SearchEnds}
 use Rattle.nam_calls.specs.VerbFields.{Reaches, row_place, slot_field, copy_field, ring_field}

@@ -1,7 +1,10 @@
 //! Plain stores.
 
-ghost use Rattle.std.specs.Prelude.{◌≡◌, ◌≤◌, ◌<◌, ◌+◌, ◌^◌, length, IfSome, IfOk};
+ghost use Rattle.std.specs.Prelude.{◌≡◌, ◌≤◌, ◌<◌, ◌+◌, ◌^◌, ◌↔◌, [], ◌∷◌, length, slice_index, slice_set, None, IfSome, IsSome, IfOk};
 ghost use Rattle.nam_verbs.specs.Verb.{address_of};
+ghost use Rattle.nam_catalog.specs.declared.form.Form.TheVariants.{Narrow};
+ghost use Rattle.nam_catalog.specs.Tables.{widths_of, capacities_of, rings_of};
+ghost use Rattle.nam_catalog.specs.Limits.{fault_of};
 ghost use Rattle.nam_catalog.specs.Fits.{FitsLimits};
 ghost use Rattle.nam_layout.specs.PlaceFits.{FitsPlace, FitsCells};
 
@@ -25,7 +28,16 @@ const BLANK: u64 = 2;
 const MARK: u64 = 5;
 
 /// A shape of two workers and one table, whose headers are narrow.
-pub fn plain_shape(width: u32, capacity: u32, ring: u32, cells: u32) -> Shape {
+pub fn plain_shape(width: u32, capacity: u32, ring: u32, cells: u32) -> Shape
+    ensures form { result.form ≡ Narrow }
+    ensures workers { result.workers ≡ 2 }
+    ensures widths { widths_of result.tables ≡ width ∷ [] }
+    ensures capacities { capacities_of result.tables ≡ capacity ∷ [] }
+    ensures rings { rings_of result.tables ≡ ring ∷ [] }
+    ensures buckets { result.buckets ≡ 1 }
+    ensures cells { result.cells ≡ cells }
+    ensures start { result.start ≡ 0 }
+{
     let mut tables = ShortList::new();
     tables.push(Table {
         name: TableName::from_text("t"),
@@ -70,7 +82,9 @@ impl Model for PlainStore {
 impl PlainStore {
     /// The store of a shape, without rows: blank positions, empty slots and free cells. There is none where the shape has a
     /// fault.
-    pub fn new(alloc: Global, shape: Shape) -> Result<Option<PlainStore>, AllocError> {
+    pub fn new(alloc: Global, shape: Shape) -> Result<Option<PlainStore>, AllocError>
+        ensures { IfOk result (λ store. IsSome store ↔ (fault_of shape ≡ None)) }
+    {
         if check(&shape).is_err() {
             return Ok(None);
         }
@@ -150,7 +164,10 @@ impl PlainStore {
     }
 
     /// The word at an address, and 0 where there is none.
-    pub fn word(&mut self, at: u64) -> u64 {
+    pub fn word(&mut self, at: u64) -> u64
+        ensures value { at < 4194304 → result ≡ slice_index self.old at }
+        ensures unchanged { self.new ≡ self.old }
+    {
         if at < MOST_WORDS as u64 {
             self.region.verb(Verb::Read { at })
         } else {
@@ -159,7 +176,10 @@ impl PlainStore {
     }
 
     /// Puts a word at an address, where there is one.
-    pub fn set(&mut self, at: u64, word: u64) {
+    pub fn set(&mut self, at: u64, word: u64)
+        ensures there { at < 4194304 → self.new ≡ slice_set self.old at word }
+        ensures beyond { 4194304 ≤ at → self.new ≡ self.old }
+    {
         if at < MOST_WORDS as u64 {
             self.region.verb(Verb::Write { at, word });
         }
@@ -179,6 +199,7 @@ impl PlainStore {
         machine: &mut M,
     ) -> Result<Vec<Verb>, AllocError>
         requires { M.reach machine.old ≤ 4194304 }
+        ensures { IfOk result (λ verbs. IsSome (M.ended machine.new)) }
     {
         let mut verbs = Vec::new(alloc);
         while let Some(verb) = machine.verb() {

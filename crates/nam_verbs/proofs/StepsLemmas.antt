@@ -1,47 +1,41 @@
 -- steps of a call, and where it stands after words
-use Rattle.std.proofs.Common.{◌≡◌, ℕ, List, [], ◌∷◌, Some, IsSome, refl, ◌∙◌, ap}
-use Rattle.nam_verbs.specs.declared.verb.Verb.{Verb}
+use Rattle.std.proofs.Common.{◌≡◌, ℕ, List, [], ◌∷◌, Some, refl, ap}
 use Rattle.nam_verbs.specs.declared.now.Now.{Now}
 use Rattle.nam_verbs.specs.declared.now.Now.TheVariants.{At, Over}
+use Rattle.nam_verbs.specs.VerbAt.{VerbAt}
 use Rattle.nam_verbs.specs.Now.{FitsNow, after_now}
-use Rattle.nam_verbs.specs.Machine.{EndsBy}
-use Rattle.nam_verbs.specs.Running.{Running, next_verb, after_found, end_of, Always}
+use Rattle.nam_verbs.specs.Running.{Running, after_found}
+use Rattle.nam_verbs.specs.Machine.{EndsBy, Always}
 use Rattle.nam_verbs.specs.Steps.{Step, Ends, Does, StepsLaw, VerbsLaw, verbs_of, words_of}
 
-module _ {P E : Type 0} (verb : P → Verb) (after : P → ℕ → Now P E) where
+module _ {W P E : Type 0} (verb : P → VerbAt W) (after : P → ℕ → Now P E) where
   -- 1. Ends by words, and ends with steps
 
-  module _ (left : P → ℕ) (reach : ℕ) {M : Type 0} (running : M → Running P E) (takes : M → ℕ → M)
-      (as_call : (m : M) (found : ℕ) → running (takes m found) ≡ after_found (running m) found) where
-    abbrev call : Now P E → Running P E
-    call now = record { verb = verb; after = after; left = left; reach = reach; state = now }
+  module _ (address : W → ℕ) (reach : ℕ) (left : P → ℕ) where
+    abbrev call : Now P E → Running W P E
+    call now = record { address = address; reach = reach; verb = verb; after = after; left = left; state = now }
 
-    abbrev EndsIn : M → List ℕ → E → Type 0
-    EndsIn m words end = EndsBy (λ m. next_verb (running m)) takes (λ m. end_of (running m)) m words end
-
-    pub steps_by : (now : Now P E) (m : M) (words : List ℕ) (end : E) → running m ≡ call now → EndsIn m words end
-        → (steps : List Step) × (words_of steps ≡ words) × Ends verb after now steps end
-    steps_by (Over over) m [] end is ends = let none : end_of (call (Over over)) ≡ Some end = rw is at ends.1 in ([], refl, cc)
-    steps_by (Over over) m (word ∷ words) end is ends = let none : IsSome (next_verb (call (Over over))) = rw is at ends.0.0 in absurd (cc)
-    steps_by (At place) m [] end is ends = let none : end_of (call (At place)) ≡ Some end = rw is at ends.1 in absurd (cc)
-    steps_by (At place) m (word ∷ words) end is ends =
-        let goes = as_call m word ∙ ap (λ c. after_found c word) is in
-        let later = steps_by (after place word) (takes m word) words end goes (ends.0.1, ends.1) in
+    pub steps_by : (now : Now P E) (words : List ℕ) (end : E) → EndsBy (call now) words end
+        → (steps : List (Step W)) × (words_of steps ≡ words) × Ends verb after now steps end
+    steps_by (Over over) [] end ends = let same = ends.1 in ([], refl, cc)
+    steps_by (Over over) (word ∷ words) end ends = let none = ends.0.0 in absurd (cc)
+    steps_by (At place) [] end ends = let none = ends.1 in absurd (cc)
+    steps_by (At place) (word ∷ words) end ends =
+        let later = steps_by (after place word) words end (ends.0.1, ends.1) in
         (record { verb = verb place; found = word } ∷ later.0, ap (λ ws. word ∷ ws) later.1, (refl, later.2))
 
-    pub words_by : (now : Now P E) (m : M) (steps : List Step) (end : E) → running m ≡ call now → Ends verb after now steps end
-        → EndsIn m (words_of steps) end
-    words_by (Over over) m [] end is ends = (tt, rw is (ap Some ends))
-    words_by (Over over) m (step ∷ steps) end is ends = absurd ends
-    words_by (At place) m [] end is ends = absurd ends
-    words_by (At place) m (step ∷ steps) end is ends =
-        let goes = as_call m step.found ∙ ap (λ c. after_found c step.found) is in
-        let later = words_by (after place step.found) (takes m step.found) steps end goes ends.1 in ((rw is refl, later.0), later.1)
+    pub words_by : (now : Now P E) (steps : List (Step W)) (end : E) → Ends verb after now steps end
+        → EndsBy (call now) (words_of steps) end
+    words_by (Over over) [] end ends = (tt, ap Some ends)
+    words_by (Over over) (step ∷ steps) end ends = absurd ends
+    words_by (At place) [] end ends = absurd ends
+    words_by (At place) (step ∷ steps) end ends =
+        let later = words_by (after place step.found) steps end ends.1 in ((refl, later.0), later.1)
 
   -- 2. Verbs that are done whatever is found
 
-  pub verbs_are : (now : Now P E) (verbs : List Verb) (end : E) → Does verb after now verbs end
-      → (steps : List Step) (other : E) → Ends verb after now steps other → (verbs_of steps ≡ verbs) × (other ≡ end)
+  pub verbs_are : (now : Now P E) (verbs : List (VerbAt W)) (end : E) → Does verb after now verbs end
+      → (steps : List (Step W)) (other : E) → Ends verb after now steps other → (verbs_of steps ≡ verbs) × (other ≡ end)
   verbs_are (Over over) [] end does [] other ends = (refl, cc)
   verbs_are (Over over) [] end does (step ∷ steps) other ends = absurd ends
   verbs_are (Over over) (next ∷ verbs) end does steps other ends = absurd does
@@ -51,8 +45,8 @@ module _ {P E : Type 0} (verb : P → Verb) (after : P → ℕ → Now P E) wher
       let later = verbs_are (after place step.found) verbs end (does.1 step.found) steps other ends.1 in
       let here = does.0 in let done = ends.0 in let rest = later.0 in (cc, later.1)
 
-  pub does_verbs : (now : Now P E) (verbs : List Verb) (end : E) → Does verb after now verbs end
-      → (steps : List Step) (other : E) → verbs_of steps ≡ verbs → other ≡ end → Ends verb after now steps other
+  pub does_verbs : (now : Now P E) (verbs : List (VerbAt W)) (end : E) → Does verb after now verbs end
+      → (steps : List (Step W)) (other : E) → verbs_of steps ≡ verbs → other ≡ end → Ends verb after now steps other
   does_verbs (Over over) [] end does [] other is same = cc
   does_verbs (Over over) [] end does (step ∷ steps) other is same = absurd (cc)
   does_verbs (Over over) (next ∷ verbs) end does steps other is same = absurd does
@@ -72,7 +66,7 @@ module _ {P E : Type 0} (Holds : P → Type 0) where
   fits_after after keeps (At place) fits found = keeps place fits found
   fits_after after keeps (Over end) fits found = tt
 
-  pub always : (call : Running P E) → ((place : P) → Holds place → (found : ℕ) → FitsNow Holds (call.after place found))
+  pub always : {W : Type 0} (call : Running W P E) → ((place : P) → Holds place → (found : ℕ) → FitsNow Holds (call.after place found))
       → FitsNow Holds call.state → Always Holds call
   always call keeps fits [] = fits
   always call keeps fits (word ∷ words) = always (after_found call word) keeps (fits_after call.after keeps call.state fits word) words
@@ -82,20 +76,20 @@ module _ {P E : Type 0} (Holds : P → Type 0) where
   also_fits Also follows (At place) fits = follows place fits
   also_fits Also follows (Over end) fits = tt
 
-  pub always_also : (Also : P → Type 0) → ((place : P) → Holds place → Also place) → (call : Running P E) → Always Holds call → Always Also call
+  pub always_also : (Also : P → Type 0) → ((place : P) → Holds place → Also place) → {W : Type 0} (call : Running W P E) → Always Holds call
+      → Always Also call
   always_also Also follows call holds words = also_fits Also follows _ (holds words)
 
 -- 4. The laws
 
-pub law_of_steps : (M P E : Type 0) → StepsLaw M P E
-law_of_steps M P E running takes as_call m words end =
-    let call = running m in (
-      steps_by call.verb call.after call.left call.reach running takes as_call call.state m words end refl,
-      λ steps. rw (← steps.1) (words_by call.verb call.after call.left call.reach running takes as_call call.state m steps.0 end refl steps.2),
-    )
+pub law_of_steps : (W P E : Type 0) → StepsLaw W P E
+law_of_steps W P E call words end = (
+  steps_by call.verb call.after call.address call.reach call.left call.state words end,
+  λ steps. rw (← steps.1) (words_by call.verb call.after call.address call.reach call.left call.state steps.0 end steps.2),
+)
 
-pub law_of_verbs : (P E : Type 0) → VerbsLaw P E
-law_of_verbs P E call verbs end does steps other = (
+pub law_of_verbs : (W P E : Type 0) → VerbsLaw W P E
+law_of_verbs W P E call verbs end does steps other = (
   verbs_are call.verb call.after call.state verbs end does steps other,
   λ both. does_verbs call.verb call.after call.state verbs end does steps other both.0 both.1,
 )

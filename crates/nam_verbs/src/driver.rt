@@ -1,6 +1,7 @@
 //! Machines on words that nobody else changes.
 
 ghost use Rattle.std.specs.Prelude.{◌≡◌, ◌≤◌, length, IsSome};
+ghost use Rattle.nam_verbs.specs.Running.{end_of, verbs_left};
 ghost use Rattle.nam_verbs.specs.Machine.{LeadsTo, driven};
 
 use crate::machine::Machine;
@@ -8,11 +9,11 @@ use crate::region::Region;
 
 /// Does the verbs of a call one after another, until it has ended.
 pub fn drive<R: Region, M: Machine>(region: &mut R, machine: &mut M)
-    requires { M.reach machine.old ≤ length (R.words region.old) }
-    ensures ended { IsSome (M.ended machine.new) }
-    ensures taken { LeadsTo M.next M.after machine.old machine.new }
-    ensures machine { machine.new ≡ (driven M.next M.after (M.rest machine.old) machine.old (R.words region.old)).0 }
-    ensures words { R.words region.new ≡ (driven M.next M.after (M.rest machine.old) machine.old (R.words region.old)).1 }
+    requires { (M.running machine.old).reach ≤ length (R.words region.old) }
+    ensures ended { IsSome (end_of (M.running machine.new)) }
+    ensures taken { LeadsTo (M.running machine.old) (M.running machine.new) }
+    ensures machine { M.running machine.new ≡ (driven (verbs_left (M.running machine.old)) (M.running machine.old) (R.words region.old)).0 }
+    ensures words { R.words region.new ≡ (driven (verbs_left (M.running machine.old)) (M.running machine.old) (R.words region.old)).1 }
 {
     while let Some(verb) = machine.verb() {
         let found = region.verb(verb);

@@ -2,12 +2,12 @@
 
 ghost use Rattle.nam_verbs.specs.Steps.{StepsLaw, VerbsLaw};
 
-/// A machine whose state is a running call ends by found words exactly where the call ends with steps that found them.
-pub fn steps_law<M, P, E>()
-    ensures { StepsLaw M P E }
+/// A call ends by found words exactly where it ends with steps that found them.
+pub fn steps_law<W, P, E>()
+    ensures { StepsLaw W P E }
 {}
 
 /// A call that does the same verbs whatever it finds ends with the steps of these verbs, and with no others.
-pub fn verbs_law<P, E>()
-    ensures { VerbsLaw P E }
+pub fn verbs_law<W, P, E>()
+    ensures { VerbsLaw W P E }
 {}

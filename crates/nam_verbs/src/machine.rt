@@ -1,54 +1,76 @@
 //! Calls that are cut into verbs.
 
-ghost use Rattle.std.specs.Prelude.{◌≡◌, ◌<◌, ◌≤◌, IsSome, IfSome};
+ghost use Rattle.std.specs.Prelude.{◌≡◌, ◌<◌, IsSome, IfSome};
+ghost use Rattle.nam_verbs.specs.declared.now.Now.TheVariants.{At};
 ghost use Rattle.nam_verbs.specs.Verb.{address_of};
+ghost use Rattle.nam_verbs.specs.Running.{verb_from, next_verb, after_found, end_of, verbs_left};
 
+use crate::now::Now;
 use crate::verb::Verb;
 
 /// One call, cut into verbs. It is asked for the verb that stands and given the word that this verb found, until it
 /// has ended. It takes no memory.
+///
+/// A contract sees what the call does as one value, the running call: a verb stands exactly until it has ended
+/// (`stands_until_end` of the definitions), and each word that it takes lowers the number of verbs to come.
 pub trait Machine {
-    ghost use Rattle.std.specs.Prelude.{Option, ℕ, IsNone, ◌↔◌};
-    ghost use Rattle.nam_verbs.specs.declared.verb.Verb.{Verb};
+    ghost use Rattle.nam_verbs.specs.Running.{Running};
 
-    /// How a call may end.
+    /// What names the words that the call reaches.
+    type Word;
+
+    /// Where the call can stand.
+    type Place;
+
+    /// How it may end.
     type End;
 
-    /// The verb that stands, and none where the call has ended.
-    ghost next: { Self → Option Verb };
+    /// The call as a value: the verb of each place, what follows each word found there, and where it stands.
+    ghost running: { Self → Running Self.Word Self.Place Self.End };
 
-    /// The machine after the word that its verb found.
-    ghost after: { Self → ℕ → Self };
+    /// Where the call stands.
+    fn state(&self) -> &Now<Self::Place, Self::End>
+        ensures { result.now ≡ (running self.now).state };
 
-    /// How the call ended, and none where a verb stands.
-    ghost ended: { Self → Option Self.End };
+    /// The verb of the place where it stands.
+    fn verb_from(&self, place: &Self::Place) -> Verb
+        requires { (running self.now).state ≡ At place.now }
+        ensures verb { result ≡ verb_from (running self.now) place.now }
+        ensures within { address_of result < (running self.now).reach };
 
-    /// No more verbs than this are to come.
-    ghost rest: { Self → ℕ };
-
-    /// The addresses of all verbs to come are below this.
-    ghost reach: { Self → ℕ };
-
-    /// The verb that stands, and none exactly where the call has ended.
-    fn verb(&self) -> Option<Verb>
-        ensures verb { result ≡ next self.now }
-        ensures within { IfSome result (λ verb. address_of verb < reach self.now) };
+    /// A number of verbs that are to come at the most from the place where it stands.
+    fn left_from(&self, place: &Self::Place) -> u64
+        requires { (running self.now).state ≡ At place.now }
+        ensures { result ≡ (running self.now).left place.now };
 
     /// Goes on with the word that the verb found.
     fn take(&mut self, found: u64)
-        requires { IsSome (next self.old) }
-        ensures after { self.new ≡ after self.old found }
-        ensures falls { rest self.new < rest self.old }
-        ensures within { reach self.new ≤ reach self.old };
-
-    /// A number of verbs that are to come at the most. Each word that is taken lowers it.
-    fn left(&self) -> u64
-        ensures { result ≡ rest self.now };
+        requires { IsSome (next_verb (running self.old)) }
+        ensures after { running self.new ≡ after_found (running self.old) found }
+        ensures falls { verbs_left (running self.new) < verbs_left (running self.old) };
 
     /// How the call ended, and none exactly where a verb stands.
     fn end(&self) -> Option<Self::End>
-        ensures { result ≡ ended self.now };
+        ensures { result ≡ end_of (running self.now) };
 
-    /// A verb stands exactly until the call has ended.
-    ghost stands_until_end: { (m : Self) → IsNone (next m) ↔ IsSome (ended m) };
+    /// The verb that stands, and none exactly where the call has ended.
+    final fn verb(&self) -> Option<Verb>
+        ensures verb { result ≡ next_verb (running self.now) }
+        ensures within { IfSome result (λ verb. address_of verb < (running self.now).reach) }
+    {
+        match self.state() {
+            Now::At(place) => Some(self.verb_from(place)),
+            Now::Over(_) => None,
+        }
+    }
+
+    /// A number of verbs that are to come at the most. Each word that is taken lowers it.
+    final fn left(&self) -> u64
+        ensures { result ≡ verbs_left (running self.now) }
+    {
+        match self.state() {
+            Now::At(place) => self.left_from(place),
+            Now::Over(_) => 0,
+        }
+    }
 }

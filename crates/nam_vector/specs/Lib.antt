@@ -1,4 +1,3 @@
-pub mod SnapPlace
 pub mod Snap
 pub mod SnapLaw
 pub mod Publish

@@ -1,8 +1,8 @@
--- when a number is published
-use Rattle.std.specs.Prelude.{◌≡◌, ℕ, ◌↔◌, List, length}
-use Rattle.nam_verbs.specs.Machine.{EndsBy}
-use Rattle.nam_vector.specs.Publish.{publishing, next_verb, after_found, end_of}
+-- what a publication does
+use Rattle.std.specs.Prelude.{ℕ, [], ◌∷◌}
+use Rattle.nam_verbs.specs.Steps.{EndsAfter}
+use Rattle.nam_vector.specs.Publish.{publishing, publish_verb, running}
 
--- published exactly where one word was found
+-- whatever is found, it writes the worker's entry, and does nothing else
 abbrev pub PublishLaw : Type 0
-PublishLaw = (worker number : ℕ) (words : List ℕ) → EndsBy next_verb after_found end_of (publishing worker number) words tt ↔ (length words ≡ 1)
+PublishLaw = (worker number : ℕ) → EndsAfter (running (publishing worker number)) (publish_verb worker number ∷ []) tt

@@ -22,7 +22,7 @@ pub fn again_law()
     ensures rises { RiseLaw }
 {}
 
-/// A number is published exactly where one word was found, by its one write.
+/// A publication is one write, of the worker's own entry.
 pub fn publish_law()
     ensures { PublishLaw }
 {}

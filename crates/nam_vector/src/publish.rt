@@ -1,15 +1,19 @@
 //! Publishing a commit number.
 
 ghost use Rattle.std.specs.Prelude.{◌≡◌, ◌≤◌};
-ghost use Rattle.nam_vector.specs.Publish.{publishing, write_of};
+ghost use Rattle.nam_verbs.specs.VerbAt.{verb_by};
+ghost use Rattle.nam_verbs.specs.Running.{verbs_left};
+ghost use Rattle.nam_layout.specs.Place.{worker_address};
+ghost use Rattle.nam_vector.specs.Publish.{publishing, publish_verb, running};
 
+use nam_layout::Field;
 use nam_verbs::{Machine, Now, Verb};
 use std::marker::Model;
 
 /// The write of a worker's own entry. Workers count from 1.
 pub fn publish_verb(worker: u32, number: u64) -> Verb
     requires { 1 ≤ worker }
-    ensures { result ≡ write_of worker number }
+    ensures { result ≡ verb_by (worker_address worker) (publish_verb worker number) }
 {
     Verb::Write {
         at: worker as u64 - 1,
@@ -41,7 +45,8 @@ impl Publish {
     pub fn new(worker: u32, number: u64) -> Publish
         requires least { 1 ≤ worker }
         requires most { worker ≤ 16 }
-        ensures { result ≡ publishing worker number }
+        ensures begins { result ≡ publishing worker number }
+        ensures left { verbs_left (running result) ≡ 1 }
     {
         Publish {
             worker,
@@ -52,45 +57,33 @@ impl Publish {
 }
 
 impl Machine for Publish {
-    ghost use Rattle.nam_verbs.specs.Running.{verbs_left, stands_until_end};
-    ghost use Rattle.nam_vector.specs.Publish.{running, next_verb, after_found, end_of};
+    ghost use Rattle.nam_vector.specs.Publish.{running};
+
+    type Word = Field;
+
+    type Place = ();
 
     type End = ();
 
-    ghost next = { next_verb };
+    ghost running = { running };
 
-    ghost after = { after_found };
+    fn state(&self) -> &Now<(), ()> {
+        &self.state
+    }
 
-    ghost ended = { end_of };
+    fn verb_from(&self, _place: &()) -> Verb {
+        publish_verb(self.worker, self.number)
+    }
 
-    ghost rest = { λ a. verbs_left (running a) };
-
-    ghost reach = { λ a. (running a).reach };
-
-    ghost stands_until_end = { λ a. stands_until_end (running a) };
-
-    fn verb(&self) -> Option<Verb> {
-        match &self.state {
-            Now::At(()) => Some(publish_verb(self.worker, self.number)),
-            Now::Over(()) => None,
-        }
+    fn left_from(&self, _place: &()) -> u64 {
+        1
     }
 
     fn take(&mut self, _found: u64) {
         self.state = Now::Over(());
     }
 
-    fn left(&self) -> u64 {
-        match &self.state {
-            Now::At(()) => 1,
-            Now::Over(()) => 0,
-        }
-    }
-
     fn end(&self) -> Option<()> {
-        match &self.state {
-            Now::At(()) => None,
-            Now::Over(()) => Some(()),
-        }
+        self.state.end()
     }
 }

@@ -1,11 +1,14 @@
 //! Snapshots of the vector.
 
 ghost use Rattle.std.specs.Prelude.{◌≡◌, ◌<◌, ◌≤◌, ◌*◌};
+ghost use Rattle.nam_verbs.specs.Verb.{address_of};
+ghost use Rattle.nam_verbs.specs.VerbAt.{verb_by};
 ghost use Rattle.nam_verbs.specs.Now.{FitsNow, left_now};
-ghost use Rattle.nam_vector.specs.SnapPlace.{SnapFits, begin, verb_at, after_word, left_at};
 ghost use Rattle.nam_verbs.specs.Running.{verbs_left};
-ghost use Rattle.nam_vector.specs.Snap.{snapping, running};
+ghost use Rattle.nam_layout.specs.Place.{worker_address};
+ghost use Rattle.nam_vector.specs.Snap.{SnapFits, snap_begin, snap_verb, snap_after, snap_left, snapping, running};
 
+use nam_layout::Field;
 use nam_verbs::{Machine, Now, Verb};
 use si_model::Snapshot;
 use std::marker::Model;
@@ -33,34 +36,55 @@ pub enum SnapEnd {
     },
 }
 
+impl SnapEnd {
+    /// An equal end, made without memory.
+    pub fn copy(&self) -> SnapEnd
+        ensures { result ≡ self.now }
+    {
+        match self {
+            SnapEnd::Done(seen) => SnapEnd::Done(seen.copy()),
+            SnapEnd::Again {
+                worker,
+                first,
+                second,
+            } => SnapEnd::Again {
+                worker: *worker,
+                first: *first,
+                second: *second,
+            },
+        }
+    }
+}
+
 /// Where a snapshot begins.
 pub fn snap_begin() -> SnapPlace
-    ensures { result ≡ begin }
+    ensures { result ≡ snap_begin }
 {
     SnapPlace::First {
         got: Snapshot::new(),
     }
 }
 
-/// The verb that stands at a place.
-pub fn snap_verb(place: &SnapPlace) -> Verb
-    ensures { result ≡ verb_at place.now }
+/// The verb that stands at a place, in a store of so many workers.
+pub fn snap_verb(workers: u32, place: &SnapPlace) -> Verb
+    requires { SnapFits workers place.now }
+    ensures value { result ≡ verb_by (worker_address workers) (snap_verb place.now) }
+    ensures within { address_of result < workers }
 {
-    match place {
-        SnapPlace::First { got } => Verb::Read {
-            at: got.len() as u64,
-        },
-        SnapPlace::Second { at, .. } => Verb::Read { at: *at as u64 },
-    }
+    let at = match place {
+        SnapPlace::First { got } => got.len() as u64,
+        SnapPlace::Second { at, .. } => *at as u64,
+    };
+    Verb::Read { at }
 }
 
 /// The snapshot of so many workers' entries after the word that its verb found.
 pub fn snap_after(workers: u32, place: SnapPlace, found: u64) -> Now<SnapPlace, SnapEnd>
     requires most { workers ≤ 16 }
     requires place { SnapFits workers place }
-    ensures value { result ≡ after_word workers place found }
+    ensures value { result ≡ snap_after workers place found }
     ensures place { FitsNow (SnapFits workers) result }
-    ensures falls { left_now (left_at workers) result < left_at workers place }
+    ensures falls { left_now (snap_left workers) result < snap_left workers place }
 {
     match place {
         SnapPlace::First { mut got } => {
@@ -92,7 +116,7 @@ pub fn snap_after(workers: u32, place: SnapPlace, found: u64) -> Now<SnapPlace, 
 /// A number of verbs that are to come from a place at the most: all that a snapshot would take that is done.
 pub fn snap_left(workers: u32, place: &SnapPlace) -> u64
     requires { SnapFits workers place.now }
-    ensures { result ≡ left_at workers place.now }
+    ensures { result ≡ snap_left workers place.now }
 {
     let workers = workers as u64;
     match place {
@@ -113,8 +137,7 @@ pub struct Snap {
 impl Model for Snap {
     ghost use Rattle.std.specs.Prelude.{◌≤◌};
     ghost use Rattle.nam_verbs.specs.Now.{FitsNow};
-    ghost use Rattle.nam_vector.specs.SnapPlace.{SnapFits};
-    ghost use Rattle.nam_vector.specs.Snap.{Snapping};
+    ghost use Rattle.nam_vector.specs.Snap.{SnapFits, Snapping};
 
     ghost Value = { Snapping };
 
@@ -139,60 +162,39 @@ impl Snap {
 }
 
 impl Machine for Snap {
-    ghost use Rattle.nam_verbs.specs.Running.{verbs_left, stands_until_end};
-    ghost use Rattle.nam_vector.specs.Snap.{running, next_verb, after_found, end_of};
+    ghost use Rattle.nam_vector.specs.Snap.{running};
+
+    type Word = Field;
+
+    type Place = SnapPlace;
 
     type End = SnapEnd;
 
-    ghost next = { next_verb };
+    ghost running = { running };
 
-    ghost after = { after_found };
+    fn state(&self) -> &Now<SnapPlace, SnapEnd> {
+        &self.state
+    }
 
-    ghost ended = { end_of };
+    fn verb_from(&self, place: &SnapPlace) -> Verb {
+        snap_verb(self.workers, place)
+    }
 
-    ghost rest = { λ a. verbs_left (running a) };
-
-    ghost reach = { λ a. (running a).reach };
-
-    ghost stands_until_end = { λ a. stands_until_end (running a) };
-
-    fn verb(&self) -> Option<Verb> {
-        match &self.state {
-            Now::At(place) => Some(snap_verb(place)),
-            Now::Over(_) => None,
-        }
+    fn left_from(&self, place: &SnapPlace) -> u64 {
+        snap_left(self.workers, place)
     }
 
     fn take(&mut self, found: u64) {
-        let before = replace(&mut self.state, Now::At(snap_begin()));
-        self.state = match before {
+        self.state = match replace(&mut self.state, Now::At(snap_begin())) {
             Now::At(place) => snap_after(self.workers, place, found),
             Now::Over(end) => Now::Over(end),
         };
     }
 
-    fn left(&self) -> u64 {
-        match &self.state {
-            Now::At(place) => snap_left(self.workers, place),
-            Now::Over(_) => 0,
-        }
-    }
-
     fn end(&self) -> Option<SnapEnd> {
         match &self.state {
             Now::At(_) => None,
-            Now::Over(SnapEnd::Done(seen)) => Some(SnapEnd::Done(seen.copy())),
-            Now::Over(
-                SnapEnd::Again {
-                    worker,
-                    first,
-                    second,
-                },
-            ) => Some(SnapEnd::Again {
-                worker: *worker,
-                first: *first,
-                second: *second,
-            }),
+            Now::Over(end) => Some(end.copy()),
         }
     }
 }

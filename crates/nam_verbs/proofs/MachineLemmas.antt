@@ -5,7 +5,7 @@ use Rattle.nam_verbs.specs.declared.verb.Verb.{Verb}
 use Rattle.nam_verbs.specs.declared.verb.Verb.TheVariants.{Read, Write, Exchange}
 use Rattle.nam_verbs.specs.Verb.{found_by, after_verb}
 use Rattle.nam_verbs.specs.Running.{Running, next_verb, after_found}
-use Rattle.nam_verbs.specs.Machine.{LeadsTo, driven}
+use Rattle.nam_verbs.specs.Machine.{after_words, LeadsTo, driven}
 
 -- a verb keeps the number of words
 pub length-after_verb : (words : List ℕ) (verb : Verb) → length (after_verb words verb) ≡ length words
@@ -14,6 +14,12 @@ length-after_verb words (Write at word) = grind (arith, common_steps)
 length-after_verb words (Exchange at expect word) = grind (arith, common_steps)
 
 module _ {W P E : Type 0} where
+  -- words change nothing but where a call stands
+  pub only_state : (call : Running W P E) (words : List ℕ)
+      → after_words call words ≡ record call { state = (after_words call words).state }
+  only_state call [] = refl
+  only_state call (word ∷ words) = only_state (after_found call word) words
+
   -- a call that has ended does nothing more
   pub driven-none : (n : ℕ) (call : Running W P E) (words : List ℕ) → next_verb call ≡ None
       → driven n call words ≡ (call, words)

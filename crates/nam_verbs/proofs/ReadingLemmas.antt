@@ -1,5 +1,5 @@
 -- words that a call reads one after another, as steps
-use Rattle.std.proofs.Common.{◌≡◌, ℕ, zero, suc, ◌+◌, ◌<◌, List, [], ◌∷◌, ◌++◌, length, refl, sym, ◌∙◌, subst, arith, true, false}
+use Rattle.std.proofs.Common.{◌≡◌, ℕ, zero, suc, ◌+◌, ◌<◌, List, [], ◌∷◌, ◌++◌, length, refl, sym, ◌∙◌, ap, subst, arith, true, false}
 use Rattle.std.specs.Prelude.{◌==◌}
 use Rattle.std.proofs.lemmas.List.{append_assoc, append-nil, length-append}
 use Rattle.std.proofs.lemmas.Bool.Decides.{nat_tests}
@@ -7,12 +7,22 @@ use Rattle.nam_verbs.specs.declared.now.Now.{Now}
 use Rattle.nam_verbs.specs.declared.now.Now.TheVariants.{At}
 use Rattle.nam_verbs.specs.VerbAt.{VerbAt, ReadAt}
 use Rattle.nam_verbs.specs.Until.{until}
-use Rattle.nam_verbs.specs.Steps.{Step, Ends, saw, saw_from, saw_words}
+use Rattle.nam_verbs.specs.Steps.{Step, Ends, saw, saw_from, saw_words, words_of}
 
 -- a step of a verb
 pub step_of : {W : Type 0} (verb : VerbAt W) (step : Step W) → verb ≡ step.verb
     → step ≡ record { verb = verb; found = step.found }
 step_of verb step same = rw same refl
+
+-- how many words were read, and which
+pub length_saw : {W : Type 0} (at : ℕ → W) (nth : ℕ) (words : List ℕ) → length (saw_from at nth words) ≡ length words
+length_saw at nth [] = refl
+length_saw at nth (word ∷ words) = ap (λ n. suc n) (length_saw at (nth + 1) words)
+
+pub words_of_saw : {W : Type 0} (at : ℕ → W) (nth : ℕ) (words : List ℕ) (rest : List (Step W))
+    → words_of (saw_from at nth words ++ rest) ≡ words ++ words_of rest
+words_of_saw at nth [] rest = refl
+words_of_saw at nth (word ∷ words) rest = ap (λ ws. word ∷ ws) (words_of_saw at (nth + 1) words rest)
 
 -- places for the words got so far, and what follows the last
 module _ {W P E : Type 0} (verb : P → VerbAt W) (after : P → ℕ → Now P E) (at : ℕ → W) (width : ℕ) (more : List ℕ → P)

@@ -4,19 +4,17 @@ ghost use Rattle.std.specs.Prelude.{◌≡◌, ◌≤◌, length, All};
 ghost use Rattle.nam_catalog.specs.Words.{table_words, tables_words, intent_words, words_of};
 ghost use Rattle.nam_catalog.specs.Fits.{FitsTable};
 
+use crate::bounds::{CELL_WORDS, INTENT_WORDS, MOST_BUCKETS, MOST_CELLS, MOST_WORKERS};
 use crate::form::Form;
 use crate::shape::{Shape, Table};
 
-/// An overflow cell: tag, owner, begin, end, and room for the widest value.
-const CELL_WORDS: u64 = 12;
-
 /// The words of a shape whose numbers are within their limits.
 pub(crate) fn words(shape: &Shape) -> u64
-    requires workers { shape.now.workers ≤ 16 }
+    requires workers { shape.now.workers ≤ MOST_WORKERS }
     requires count { length shape.now.tables ≤ 8 }
     requires tables { All FitsTable shape.now.tables }
-    requires buckets { shape.now.buckets ≤ 256 }
-    requires cells { shape.now.cells ≤ 64 }
+    requires buckets { shape.now.buckets ≤ MOST_BUCKETS }
+    requires cells { shape.now.cells ≤ MOST_CELLS }
     ensures { result ≡ words_of shape.now }
 {
     let workers = shape.workers as u64;
@@ -51,14 +49,13 @@ fn table_words(table: &Table) -> u64
     table.capacity as u64 * (3 + width + slots)
 }
 
-/// The words of a worker's intent, which only form Held has: its state, a commit number, and 11 words for each of 16
-/// records.
-fn intent_words(form: Form) -> u64
+/// How many words a worker's intent has, which only form Held has.
+pub fn intent_words(form: Form) -> u64
     ensures value { result ≡ intent_words form }
-    ensures bound { result ≤ 178 }
+    ensures bound { result ≤ INTENT_WORDS }
 {
     match form {
         Form::Narrow | Form::Wide => 0,
-        Form::Held => 178,
+        Form::Held => INTENT_WORDS,
     }
 }

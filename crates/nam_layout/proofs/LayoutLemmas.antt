@@ -8,8 +8,7 @@ use Rattle.nam_catalog.proofs.FitsLemmas.{fits_limits}
 use Rattle.nam_layout.specs.declared.extent.Extent.{Extent}
 use Rattle.nam_layout.specs.Rows.{row_of, width_at, ring_at}
 use Rattle.nam_layout.specs.RowLaw.{IsPosition}
-use Rattle.nam_layout.specs.declared.field.Field.TheVariants.{Word, SlotHeader}
-use Rattle.nam_layout.specs.Address.{tables_at, cells_at, position_at, address}
+use Rattle.nam_layout.specs.Address.{tables_at, cells_at, position_at, slots_at}
 use Rattle.nam_layout.specs.FieldAt.{row_in, rest_in, field_in_position, field_at}
 use Rattle.nam_layout.specs.Place.{place_of}
 use Rattle.nam_layout.specs.Extent.{extents_of, IsIn, field_in_extents, place_in}
@@ -56,8 +55,8 @@ module _ (shape : Shape) (extents : List Extent) where
         let key_same : e.at + position * e.words ≡ position_at shape r = at.at_is position (subst (λ n. position < n) (sym at.capacity_is) is.1) in
         let width_same : e.width ≡ width_at shape.tables r = at.width_is ∙ sym row.width_is in
         let ring_same : e.ring ≡ ring_at shape.tables r = at.ring_is ∙ sym row.ring_is in
-        let words_same : e.at + position * e.words + 3 ≡ address shape (Word r 0) = omega arith in
-        let slots_same : e.at + position * e.words + 3 + e.width ≡ address shape (SlotHeader r 0) = omega arith in
+        let words_same : e.at + position * e.words + 3 ≡ position_at shape r + 3 = omega arith in
+        let slots_same : e.at + position * e.words + 3 + e.width ≡ slots_at shape r = omega arith in
         cc
 
     -- the sums of an extent's numbers with those of a position are small

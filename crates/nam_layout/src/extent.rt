@@ -8,6 +8,7 @@ ghost use Rattle.nam_layout.specs.Extent.{extents_of, IsIn, field_in_extents, pl
 use crate::field::{Field, Place};
 use crate::within::field_in_position;
 use lists::ShortList;
+use nam_catalog::bounds::MOST_WORDS;
 use nam_catalog::{Form, Table};
 
 /// Where a table stands: its first row, the address of its first position, and the words of each of its positions.
@@ -32,7 +33,7 @@ pub struct Extents {
 pub fn lay_out(tables: &[Table], begin: u64) -> Extents
     requires count { length tables.now ≤ 8 }
     requires tables { All FitsTable tables.now }
-    requires words { begin + tables_words tables.now ≤ 4194304 }
+    requires words { begin + tables_words tables.now ≤ MOST_WORDS }
     ensures extents { result.extents ≡ extents_of begin 0 tables.now }
     ensures after { result.after ≡ begin + tables_words tables.now }
 {

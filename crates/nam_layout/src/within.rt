@@ -4,9 +4,7 @@ ghost use Rattle.std.specs.Prelude.{◌≡◌, ◌≤◌, ◌<◌, ◌^◌, ◌*
 ghost use Rattle.nam_layout.specs.FieldAt.{field_in_slot, field_in_position, field_in_cell, field_in_cells, field_in_intents};
 
 use crate::field::Field;
-
-/// The words of an overflow cell.
-pub const CELL_WORDS: u64 = 12;
+use nam_catalog::bounds::CELL_WORDS;
 
 /// A word of a position, counted from its first.
 pub fn field_in_position(width: u32, row: u32, rest: u64) -> Field

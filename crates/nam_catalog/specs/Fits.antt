@@ -1,6 +1,7 @@
 -- The limits of a shape: what has no fault.
 use Rattle.std.specs.Prelude.{◌≡◌, ◌≤◌, ◌↔◌, length, All, EachIndex, Some, None}
-use Rattle.nam_catalog.specs.declared.bounds.TheConstants.{MOST_WORKERS, MOST_WIDTH, MOST_CAPACITY, MOST_RING, MOST_BUCKETS, MOST_CELLS, MOST_WORDS}
+use Rattle.nam_catalog.specs.declared.bounds.TheConstants.{MOST_WORKERS, MOST_WIDTH, MOST_CAPACITY, MOST_RING}
+use Rattle.nam_catalog.specs.declared.bounds.TheConstants.{MOST_BUCKETS, MOST_CELLS, MOST_WORDS}
 use Rattle.nam_catalog.specs.declared.shape.Table.{Table}
 use Rattle.nam_catalog.specs.declared.shape.Shape.{Shape}
 use Rattle.nam_catalog.specs.Greatest.{greatest_number}
@@ -18,7 +19,7 @@ pub record FitsTable (table : Table) : Type 0 where
   pub most_ring : table.ring ≤ MOST_RING
 
 -- Each number and each table is within its limits, and no two tables bear one name, so that each is found by its name.
--- That there are at most 8 tables is in the type of the shape, and `check` says it.
+-- That there are at most `MOST_TABLES` tables is in the type of the shape, and `check` says it.
 pub record FitsLimits (shape : Shape) : Type 0 where
   pub least_workers : 1 ≤ shape.workers
   pub most_workers : shape.workers ≤ MOST_WORKERS

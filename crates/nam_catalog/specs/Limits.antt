@@ -2,7 +2,8 @@
 use Rattle.std.specs.Prelude.{ℕ, ◌+◌, ◌==◌, ◌||◌, nat_lt, Bool, List, [], ◌∷◌, ◌++◌, length, Option, Some, None, is_some, option_map, if◌then◌else◌}
 use Rattle.std.specs.Option.{option_or}
 use Rattle.std.specs.List.{position_from}
-use Rattle.nam_catalog.specs.declared.bounds.TheConstants.{MOST_WORKERS, MOST_WIDTH, MOST_CAPACITY, MOST_RING, MOST_BUCKETS, MOST_CELLS, MOST_WORDS}
+use Rattle.nam_catalog.specs.declared.bounds.TheConstants.{MOST_WORKERS, MOST_WIDTH, MOST_CAPACITY, MOST_RING}
+use Rattle.nam_catalog.specs.declared.bounds.TheConstants.{MOST_BUCKETS, MOST_CELLS, MOST_WORDS}
 use Rattle.nam_catalog.specs.declared.fault.ShapeFault.{ShapeFault}
 use Rattle.nam_catalog.specs.declared.fault.ShapeFault.TheVariants.{NoWorkers, TooManyWorkers, NoTables, BadWidth, BadCapacity, BadRing, BadBuckets, BadCells, BadStart, TwiceNamed, TooManyWords}
 use Rattle.nam_catalog.specs.declared.shape.Table.{Table}

@@ -25,4 +25,4 @@ pub use limits::check;
 pub use name::TableName;
 pub use names::table_named;
 pub use shape::{Shape, Table, name_at};
-pub use words::intent_words;
+pub use words::{intent_words, position_words, slot_words};

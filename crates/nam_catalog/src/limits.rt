@@ -7,7 +7,8 @@ ghost use Rattle.nam_catalog.specs.Words.{words_of};
 ghost use Rattle.nam_catalog.specs.Fits.{FitsLimits};
 
 use crate::bounds::{
-    MOST_BUCKETS, MOST_CAPACITY, MOST_CELLS, MOST_RING, MOST_WIDTH, MOST_WORDS, MOST_WORKERS,
+    MOST_BUCKETS, MOST_CAPACITY, MOST_CELLS, MOST_RING, MOST_TABLES, MOST_WIDTH, MOST_WORDS,
+    MOST_WORKERS,
 };
 use crate::fault::ShapeFault;
 use crate::form::greatest;
@@ -68,7 +69,7 @@ fn is_outside(greatest: u32, number: u32) -> bool
 }
 
 fn width_fault(tables: &[Table]) -> Option<ShapeFault>
-    requires { length tables.now ≤ 8 }
+    requires { length tables.now ≤ MOST_TABLES }
     ensures { result ≡ option_map BadWidth (first_table (λ t. is_outside MOST_WIDTH t.width) tables.now) }
 {
     let table = first_bad_width(tables)?;
@@ -87,7 +88,7 @@ fn first_bad_width(tables: &[Table]) -> Option<usize>
 }
 
 fn capacity_fault(tables: &[Table]) -> Option<ShapeFault>
-    requires { length tables.now ≤ 8 }
+    requires { length tables.now ≤ MOST_TABLES }
     ensures { result ≡ option_map BadCapacity (first_table (λ t. is_outside MOST_CAPACITY t.capacity) tables.now) }
 {
     let table = first_bad_capacity(tables)?;
@@ -106,7 +107,7 @@ fn first_bad_capacity(tables: &[Table]) -> Option<usize>
 }
 
 fn ring_fault(tables: &[Table]) -> Option<ShapeFault>
-    requires { length tables.now ≤ 8 }
+    requires { length tables.now ≤ MOST_TABLES }
     ensures { result ≡ option_map BadRing (first_table (λ t. is_outside MOST_RING t.ring) tables.now) }
 {
     let table = first_bad_ring(tables)?;
@@ -125,7 +126,7 @@ fn first_bad_ring(tables: &[Table]) -> Option<usize>
 }
 
 fn name_fault(tables: &[Table]) -> Option<ShapeFault>
-    requires { length tables.now ≤ 8 }
+    requires { length tables.now ≤ MOST_TABLES }
     ensures { result ≡ option_map TwiceNamed (first_twice_named [] 0 tables.now) }
 {
     let table = first_twice_named(tables)?;

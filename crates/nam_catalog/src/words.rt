@@ -1,10 +1,12 @@
 //! How many words a shape takes.
 
 ghost use Rattle.std.specs.Prelude.{◌≡◌, ◌≤◌, length, All};
-ghost use Rattle.nam_catalog.specs.Words.{table_words, tables_words, intent_words, words_of};
+ghost use Rattle.nam_catalog.specs.Words.{slot_words, position_words, table_words, tables_words, intent_words, words_of};
 ghost use Rattle.nam_catalog.specs.Fits.{FitsTable};
 
-use crate::bounds::{CELL_WORDS, INTENT_WORDS, MOST_BUCKETS, MOST_CELLS, MOST_WORKERS};
+use crate::bounds::{
+    CELL_WORDS, INTENT_WORDS, MOST_BUCKETS, MOST_CELLS, MOST_TABLES, MOST_WORKERS,
+};
 use crate::form::Form;
 use crate::shape::{Shape, Table};
 
@@ -26,7 +28,7 @@ pub(crate) fn words(shape: &Shape) -> u64
 }
 
 fn tables_words(tables: &[Table]) -> u64
-    requires count { length tables.now ≤ 8 }
+    requires count { length tables.now ≤ MOST_TABLES }
     requires fit { All FitsTable tables.now }
     ensures value { result ≡ tables_words tables.now }
     ensures bound { result ≤ 5603328 }
@@ -38,15 +40,27 @@ fn tables_words(tables: &[Table]) -> u64
     words
 }
 
-/// A position has a key, a header, a count, the current value, and a slot for each old version, which is a header, an
-/// end and a value.
 fn table_words(table: &Table) -> u64
     requires { FitsTable table.now }
     ensures { result ≡ table_words table.now }
 {
-    let width = table.width as u64;
-    let slots = table.ring as u64 * (2 + width);
-    table.capacity as u64 * (3 + width + slots)
+    table.capacity as u64 * position_words(table)
+}
+
+/// The words of a table's position: a key, a header, a count, the current value, and a slot for each old version.
+pub fn position_words(table: &Table) -> u64
+    requires { FitsTable table.now }
+    ensures { result ≡ position_words table.now.width table.now.ring }
+{
+    3 + table.width as u64 + table.ring as u64 * slot_words(table.width)
+}
+
+/// The words of a slot of this width: a header, an end and a value.
+#[inline]
+pub fn slot_words(width: u32) -> u64
+    ensures { result ≡ slot_words width }
+{
+    2 + width as u64
 }
 
 /// How many words a worker's intent has, which only form Held has.

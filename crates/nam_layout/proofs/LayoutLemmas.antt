@@ -3,7 +3,7 @@ use Rattle.std.proofs.Common.{◌≡◌, ℕ, ◌+◌, ◌-◌, ◌*◌, ◌^◌
 use Rattle.nam_catalog.specs.declared.shape.Table.{Table}
 use Rattle.nam_catalog.specs.declared.shape.Shape.{Shape}
 use Rattle.nam_catalog.specs.Limits.{fault_of}
-use Rattle.nam_catalog.specs.Words.{intent_words}
+use Rattle.nam_catalog.specs.Words.{cell_words, intent_words}
 use Rattle.nam_catalog.proofs.FitsLemmas.{fits_limits}
 use Rattle.nam_layout.specs.declared.extent.Extent.{Extent}
 use Rattle.nam_layout.specs.Rows.{row_of, width_at, ring_at}
@@ -22,9 +22,10 @@ module _ (shape : Shape) (extents : List Extent) where
   pub laid_out : (tables : List Table) (cells words : ℕ) → tables ≡ shape.tables → fault_of shape ≡ None
       → extents ≡ extents_of (tables_at shape) 0 shape.tables → cells ≡ cells_at shape → words ≡ intent_words shape.form
       → IsLaidOut (record shape { tables = tables }) extents cells
-      (cells + shape.buckets * shape.cells * 12) (cells + shape.buckets * shape.cells * 12 + shape.workers * words)
+      (cells + shape.buckets * shape.cells * cell_words)
+      (cells + shape.buckets * shape.cells * cell_words + shape.workers * words)
   laid_out tables cells words same none are cells_are words_are =
-      let intents = cells + shape.buckets * shape.cells * 12 in
+      let intents = cells + shape.buckets * shape.cells * cell_words in
       subst (λ ts. IsLaidOut (record shape { tables = ts }) extents cells intents (intents + shape.workers * words)) (sym same) (record {
         fits = fits_limits shape none;
         extents_are = are;

@@ -27,7 +27,8 @@ module _ (shape : Shape) where
   place_stands row (Key r) is = subst (λ n. PlaceStands row (Key n)) (sym is) (refl, λ within. within)
   place_stands row (Header r) is = subst (λ n. PlaceStands row (Header n)) (sym is) (refl, λ within. within)
   place_stands row (Count r) is = subst (λ n. PlaceStands row (Count n)) (sym is) (refl, λ within. within)
-  place_stands row (Word r nth) is = subst (λ n. PlaceStands row (Word n nth)) (sym is.0) (refl, λ within. (within, is.1))
+  place_stands row (Word r nth) is =
+      subst (λ n. PlaceStands row (Word n nth)) (sym is.0) (refl, λ within. (within, is.1))
   place_stands row (SlotHeader r slot) is =
       subst (λ n. PlaceStands row (SlotHeader n slot)) (sym is.0) (refl, λ within. (within, is.1))
   place_stands row (SlotEnd r slot) is =
@@ -106,7 +107,8 @@ slot_within : (place : Place) (slot rest : ℕ) → slot < place.ring → rest <
 slot_within place slot rest less small =
     let within = word_within slot (slot_words place.width) rest place.ring less small in omega arith
 
-pub place_within : (place : Place) (f : Field) → FitsPlace place → IsOfPlace place f → position_address place f < place_end place
+pub place_within : (place : Place) (f : Field) → FitsPlace place → IsOfPlace place f
+    → position_address place f < place_end place
 place_within place (Key r) fits is = omega arith
 place_within place (Header r) fits is = omega arith
 place_within place (Count r) fits is = omega arith
@@ -119,7 +121,8 @@ place_within place (SlotWord r slot nth) fits is =
     let within = slot_within place slot (2 + nth) is.0.1 (omega arith) in omega arith
 place_within place _ fits is = absurd is
 
-pub cells_within : (cells : Cells) (f : Field) → FitsCells cells → IsOfCells cells f → cell_address cells f < cells_end cells
+pub cells_within : (cells : Cells) (f : Field) → FitsCells cells → IsOfCells cells f
+    → cell_address cells f < cells_end cells
 cells_within cells (Tag b cell) fits is = omega arith
 cells_within cells (Owner b cell) fits is = omega arith
 cells_within cells (Begin b cell) fits is = omega arith

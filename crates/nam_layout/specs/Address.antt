@@ -1,5 +1,6 @@
 -- The fields of a shape, and where each of them stands.
 use Rattle.std.specs.Prelude.{ℕ, ◌+◌, ◌-◌, ◌*◌, ◌<◌, ◌≤◌}
+use Rattle.nam_catalog.specs.declared.bounds.TheConstants.{MOST_WIDTH}
 use Rattle.nam_catalog.specs.declared.shape.Shape.{Shape}
 use Rattle.nam_catalog.specs.Words.{slot_words, tables_words, cell_words, intent_words}
 use Rattle.nam_layout.specs.declared.field.Field.{Field}
@@ -35,7 +36,7 @@ IsField shape (Tag bucket cell) = IsCell shape bucket cell
 IsField shape (Owner bucket cell) = IsCell shape bucket cell
 IsField shape (Begin bucket cell) = IsCell shape bucket cell
 IsField shape (End bucket cell) = IsCell shape bucket cell
-IsField shape (CellWord bucket cell nth) = IsCell shape bucket cell × (nth < 8)
+IsField shape (CellWord bucket cell nth) = IsCell shape bucket cell × (nth < MOST_WIDTH)
 IsField shape (Intent worker nth) = IsWorker shape worker × (nth < intent_words shape.form)
 
 -- where the tables begin, after the vector and the horizon

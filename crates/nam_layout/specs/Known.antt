@@ -1,5 +1,6 @@
 -- Fields of a position, of a bucket and of workers.
 use Rattle.std.specs.Prelude.{◌≡◌, ℕ, ◌<◌, ◌≤◌}
+use Rattle.nam_catalog.specs.declared.bounds.TheConstants.{MOST_WIDTH}
 use Rattle.nam_layout.specs.declared.field.Field.{Field}
 use Rattle.nam_layout.specs.declared.field.Field.TheVariants.{Entry, Horizon, Key, Header, Count, Word}
 use Rattle.nam_layout.specs.declared.field.Field.TheVariants.{SlotHeader, SlotEnd, SlotWord}
@@ -32,7 +33,7 @@ IsOfCells cells (Tag bucket cell) = IsCellOf cells bucket cell
 IsOfCells cells (Owner bucket cell) = IsCellOf cells bucket cell
 IsOfCells cells (Begin bucket cell) = IsCellOf cells bucket cell
 IsOfCells cells (End bucket cell) = IsCellOf cells bucket cell
-IsOfCells cells (CellWord bucket cell nth) = IsCellOf cells bucket cell × (nth < 8)
+IsOfCells cells (CellWord bucket cell nth) = IsCellOf cells bucket cell × (nth < MOST_WIDTH)
 IsOfCells cells _ = ⊥
 
 -- an entry of one of so many workers

@@ -19,7 +19,8 @@ PlaceLaw = (shape : Shape) (row : ℕ) (field : Field) → IsOfPlace (place_at s
 
 abbrev pub CellsLaw : Type 0
 CellsLaw = (shape : Shape) (bucket : ℕ) (field : Field) → IsOfCells (cells_of shape bucket) field
-    → (address shape field ≡ cell_address (cells_of shape bucket) field) × (bucket < shape.buckets → IsField shape field)
+    → (address shape field ≡ cell_address (cells_of shape bucket) field)
+    × (bucket < shape.buckets → IsField shape field)
 
 abbrev pub WorkersLaw : Type 0
 WorkersLaw = (shape : Shape) (field : Field) → IsOfWorkers shape.workers field
@@ -47,4 +48,5 @@ CellsWithinLaw = (cells : Cells) (field : Field) → FitsCells cells → IsOfCel
     → cell_address cells field < cells_end cells
 
 abbrev pub WorkersWithinLaw : Type 0
-WorkersWithinLaw = (workers : ℕ) (field : Field) → IsOfWorkers workers field → worker_address workers field < 2 * workers
+WorkersWithinLaw = (workers : ℕ) (field : Field) → IsOfWorkers workers field
+    → worker_address workers field < 2 * workers

@@ -1,12 +1,15 @@
 //! Addresses of the words of a position, of a bucket's cells and of the horizon.
 
 ghost use Rattle.std.specs.Prelude.{◌≡◌, ◌<◌, ◌≤◌, ◌*◌};
-ghost use Rattle.nam_layout.specs.declared.field.Field.TheVariants.{Horizon, Word, SlotHeader, SlotEnd, SlotWord, Tag, Owner, Begin, End, CellWord};
-ghost use Rattle.nam_layout.specs.Place.{position_address, cell_address, worker_address, place_end, cells_end, slot_of};
+ghost use Rattle.nam_layout.specs.declared.field.Field.TheVariants.{Horizon, Word, SlotHeader, SlotEnd, SlotWord};
+ghost use Rattle.nam_layout.specs.declared.field.Field.TheVariants.{Tag, Owner, Begin, End, CellWord};
+ghost use Rattle.nam_layout.specs.Place.{position_address, cell_address, worker_address};
+ghost use Rattle.nam_layout.specs.Place.{place_end, cells_end, slot_of};
 ghost use Rattle.nam_layout.specs.PlaceFits.{FitsPlace, FitsCells};
 
 use crate::field::{Cells, Place};
-use nam_catalog::bounds::CELL_WORDS;
+use nam_catalog::bounds::{CELL_WORDS, MOST_WIDTH};
+use nam_catalog::slot_words;
 
 impl Place {
     /// The slot of the version with this number.
@@ -38,7 +41,7 @@ impl Place {
         ensures value { result ≡ position_address self.now (SlotHeader self.now.row slot) }
         ensures within { result < place_end self.now }
     {
-        self.ring_at + slot as u64 * (2 + self.width as u64)
+        self.ring_at + slot as u64 * slot_words(self.width)
     }
 
     /// The address of a slot's end.
@@ -115,7 +118,7 @@ impl Cells {
     pub fn word(&self, cell: u32, nth: u32) -> u64
         requires fits { FitsCells self.now }
         requires cell { cell < self.now.cells }
-        requires nth { nth < 8 }
+        requires nth { nth < MOST_WIDTH }
         ensures value { result ≡ cell_address self.now (CellWord self.now.bucket cell nth) }
         ensures within { result < cells_end self.now }
     {

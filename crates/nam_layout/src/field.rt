@@ -75,7 +75,7 @@ impl Default for Place {
     }
 }
 
-/// The cells of a bucket, of 12 words each from the address `first` on.
+/// The cells of a bucket, of `CELL_WORDS` words each from the address `first` on.
 #[derive(Clone, Copy, Debug, PartialEq, Eq)]
 pub struct Cells {
     pub bucket: u32,

@@ -20,8 +20,8 @@ pub fn row_law()
     ensures row { RowLaw }
 {}
 
-/// The fields of a row's place, of a bucket's cells and of workers are fields of the shape, and stand where its addresses
-/// say. The words of an intent follow its first.
+/// The fields of a row's place, of a bucket's cells and of workers are fields of the shape, and stand where its
+/// addresses say. The words of an intent follow its first.
 pub fn place_law()
     ensures place { PlaceLaw }
     ensures cells { CellsLaw }

@@ -18,7 +18,7 @@ use crate::extent::{Extent, Extents, field_in, lay_out, place_in};
 use crate::field::{Cells, Field, Place};
 use crate::within::{field_in_cells, field_in_intents};
 use lists::ShortList;
-use nam_catalog::bounds::{CELL_WORDS, INTENT_WORDS, MOST_WORDS};
+use nam_catalog::bounds::{CELL_WORDS, INTENT_WORDS, MOST_TABLES, MOST_WORDS};
 use nam_catalog::{Form, Shape, Table, intent_words};
 use std::marker::Model;
 
@@ -26,7 +26,7 @@ use std::marker::Model;
 #[derive(Debug, Drop)]
 pub struct Layout {
     shape: Shape,
-    extents: ShortList<Extent, 8>,
+    extents: ShortList<Extent, MOST_TABLES>,
     cells_at: u64,
     intents_at: u64,
     total: u64,
@@ -44,8 +44,8 @@ impl Model for Layout {
 }
 
 /// An equal list, made without memory.
-fn copied(tables: &[Table]) -> ShortList<Table, 8>
-    requires { length tables.now ≤ 8 }
+fn copied(tables: &[Table]) -> ShortList<Table, MOST_TABLES>
+    requires { length tables.now ≤ MOST_TABLES }
     ensures { result ≡ tables.now }
 {
     let mut copied = ShortList::new();

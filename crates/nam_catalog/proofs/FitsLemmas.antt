@@ -6,6 +6,8 @@ use Rattle.std.proofs.lemmas.Bool.{eqb-false, ltb-false, ne_eqb, le-ltb}
 use Rattle.std.proofs.lemmas.Bool.Decides.{nat_tests}
 use Rattle.std.proofs.lemmas.List.Elements.{All-nil, All-cons, All-head, All-tail, All-weaker}
 use Rattle.std.proofs.lemmas.Option.{none-some}
+use Rattle.nam_catalog.specs.declared.bounds.TheConstants.{MOST_WORKERS, MOST_WIDTH, MOST_CAPACITY, MOST_RING}
+use Rattle.nam_catalog.specs.declared.bounds.TheConstants.{MOST_BUCKETS, MOST_CELLS, MOST_WORDS}
 use Rattle.nam_catalog.specs.declared.fault.ShapeFault.{ShapeFault}
 use Rattle.nam_catalog.specs.declared.fault.ShapeFault.TheVariants.{NoWorkers, TooManyWorkers, NoTables, BadWidth, BadCapacity, BadRing, BadBuckets, BadCells, BadStart, TwiceNamed, TooManyWords}
 use Rattle.nam_catalog.specs.declared.shape.Table.{Table}
@@ -64,21 +66,21 @@ all_pass fails (t ∷ ts) i good =
 
 -- the tests of a table's numbers
 abbrev width_fails : Table → Bool
-width_fails t = is_outside 8 t.width
+width_fails t = is_outside MOST_WIDTH t.width
 
 abbrev capacity_fails : Table → Bool
-capacity_fails t = is_outside 4096 t.capacity
+capacity_fails t = is_outside MOST_CAPACITY t.capacity
 
 abbrev ring_fails : Table → Bool
-ring_fails t = is_outside 16 t.ring
+ring_fails t = is_outside MOST_RING t.ring
 
 -- a table whose three numbers are within their limits fits
 table_fits : (ts : List Table) → All (λ t. width_fails t ≡ false) ts → All (λ t. capacity_fails t ≡ false) ts
     → All (λ t. ring_fails t ≡ false) ts → All FitsTable ts
 table_fits ts widths capacities rings = λ k d here.
-    let width = within 8 _ (widths k d here) in
-    let capacity = within 4096 _ (capacities k d here) in
-    let ring = within 16 _ (rings k d here) in
+    let width = within MOST_WIDTH _ (widths k d here) in
+    let capacity = within MOST_CAPACITY _ (capacities k d here) in
+    let ring = within MOST_RING _ (rings k d here) in
     record {
       least_width = width.0;
       most_width = width.1;
@@ -90,30 +92,30 @@ table_fits ts widths capacities rings = λ k d here.
 
 -- what holds of a shape that has no fault but for the words of the whole
 pub record IsWithin (shape : Shape) : Type 0 where
-  pub workers : shape.workers ≤ 16
+  pub workers : shape.workers ≤ MOST_WORKERS
   pub tables : All FitsTable shape.tables
-  pub buckets : shape.buckets ≤ 256
-  pub cells : shape.cells ≤ 64
-  pub fits : words_of shape ≤ 4194304 → FitsLimits shape
+  pub buckets : shape.buckets ≤ MOST_BUCKETS
+  pub cells : shape.cells ≤ MOST_CELLS
+  pub fits : words_of shape ≤ MOST_WORDS → FitsLimits shape
 
 pub is_within : (shape : Shape) → limit_fault_of shape ≡ None → IsWithin shape
 is_within shape none =
     let ts = shape.tables in
     let names = none_before_table _ TwiceNamed (first_twice_named [] 0 ts) none in
     let start = none_before _ (nat_lt (greatest_number shape.form) shape.start) BadStart names.0 in
-    let cells = none_before _ (is_outside 64 shape.cells) BadCells start.0 in
-    let buckets = none_before _ (is_outside 256 shape.buckets) BadBuckets cells.0 in
+    let cells = none_before _ (is_outside MOST_CELLS shape.cells) BadCells start.0 in
+    let buckets = none_before _ (is_outside MOST_BUCKETS shape.buckets) BadBuckets cells.0 in
     let rings = none_before_table _ BadRing (first_table ring_fails ts) buckets.0 in
     let capacities = none_before_table _ BadCapacity (first_table capacity_fails ts) rings.0 in
     let widths = none_before_table _ BadWidth (first_table width_fails ts) capacities.0 in
     let some_table = none_before _ (length ts == 0) NoTables widths.0 in
-    let workers = none_before (fault_if (shape.workers == 0) NoWorkers) (nat_lt 16 shape.workers) TooManyWorkers some_table.0 in
+    let workers = none_before (fault_if (shape.workers == 0) NoWorkers) (nat_lt MOST_WORKERS shape.workers) TooManyWorkers some_table.0 in
     let some_worker = none_before None (shape.workers == 0) NoWorkers workers.0 in
-    let most_workers = ltb-false 16 shape.workers workers.1 in
+    let most_workers = ltb-false MOST_WORKERS shape.workers workers.1 in
     let tables = table_fits ts (none_fails width_fails ts 0 widths.1)
     (none_fails capacity_fails ts 0 capacities.1) (none_fails ring_fails ts 0 rings.1) in
-    let bucket = within 256 shape.buckets buckets.1 in
-    let cell = within 64 shape.cells cells.1 in
+    let bucket = within MOST_BUCKETS shape.buckets buckets.1 in
+    let cell = within MOST_CELLS shape.cells cells.1 in
     let found = found_from [] 0 ts refl names.1 in
     record {
       workers = most_workers;
@@ -137,9 +139,9 @@ is_within shape none =
 
 pub fits_limits : (shape : Shape) → fault_of shape ≡ None → FitsLimits shape
 fits_limits shape none =
-    let words = none_before (limit_fault_of shape) (nat_lt 4194304 (words_of shape)) TooManyWords none in
+    let words = none_before (limit_fault_of shape) (nat_lt MOST_WORDS (words_of shape)) TooManyWords none in
     let is = is_within shape words.0 in
-    is.fits (ltb-false 4194304 (words_of shape) words.1)
+    is.fits (ltb-false MOST_WORDS (words_of shape) words.1)
 
 pub has_no_fault : (shape : Shape) → FitsLimits shape → fault_of shape ≡ None
 has_no_fault shape fits =
@@ -147,17 +149,17 @@ has_no_fault shape fits =
     let passes : (fails : Table → Bool) → ((t : Table) → FitsTable t → fails t ≡ false) → first_table fails ts ≡ None =
     λ fails good. all_pass fails ts 0 (All-weaker FitsTable (λ t. fails t ≡ false) good ts fits.tables) in
     let some_worker = still_none None (shape.workers == 0) NoWorkers refl (ne_eqb shape.workers 0 (λ e. omega (arith, fits.least_workers))) in
-    let workers = still_none _ (nat_lt 16 shape.workers) TooManyWorkers some_worker (le-ltb 16 shape.workers fits.most_workers) in
+    let workers = still_none _ (nat_lt MOST_WORKERS shape.workers) TooManyWorkers some_worker (le-ltb MOST_WORKERS shape.workers fits.most_workers) in
     let some_table = still_none _ (length ts == 0) NoTables workers (ne_eqb (length ts) 0 (λ e. omega (arith, fits.least_tables))) in
     let widths = still_none_at_table _ BadWidth (first_table width_fails ts) some_table
-    (passes width_fails (λ t is. inside 8 t.width is.least_width is.most_width)) in
+    (passes width_fails (λ t is. inside MOST_WIDTH t.width is.least_width is.most_width)) in
     let capacities = still_none_at_table _ BadCapacity (first_table capacity_fails ts) widths
-    (passes capacity_fails (λ t is. inside 4096 t.capacity is.least_capacity is.most_capacity)) in
+    (passes capacity_fails (λ t is. inside MOST_CAPACITY t.capacity is.least_capacity is.most_capacity)) in
     let rings = still_none_at_table _ BadRing (first_table ring_fails ts) capacities
-    (passes ring_fails (λ t is. inside 16 t.ring is.least_ring is.most_ring)) in
-    let buckets = still_none _ (is_outside 256 shape.buckets) BadBuckets rings (inside 256 shape.buckets fits.least_buckets fits.most_buckets) in
-    let cells = still_none _ (is_outside 64 shape.cells) BadCells buckets (inside 64 shape.cells fits.least_cells fits.most_cells) in
+    (passes ring_fails (λ t is. inside MOST_RING t.ring is.least_ring is.most_ring)) in
+    let buckets = still_none _ (is_outside MOST_BUCKETS shape.buckets) BadBuckets rings (inside MOST_BUCKETS shape.buckets fits.least_buckets fits.most_buckets) in
+    let cells = still_none _ (is_outside MOST_CELLS shape.cells) BadCells buckets (inside MOST_CELLS shape.cells fits.least_cells fits.most_cells) in
     let start = still_none _ (nat_lt (greatest_number shape.form) shape.start) BadStart cells
     (le-ltb (greatest_number shape.form) shape.start fits.start) in
     let names = still_none_at_table _ TwiceNamed (first_twice_named [] 0 ts) start (none_twice [] 0 ts refl (λ k from here. fits.names k here)) in
-    still_none _ (nat_lt 4194304 (words_of shape)) TooManyWords names (le-ltb 4194304 (words_of shape) fits.words)
+    still_none _ (nat_lt MOST_WORDS (words_of shape)) TooManyWords names (le-ltb MOST_WORDS (words_of shape) fits.words)

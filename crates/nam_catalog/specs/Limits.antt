@@ -2,6 +2,8 @@
 use Rattle.std.specs.Prelude.{ℕ, ◌+◌, ◌==◌, ◌||◌, nat_lt, Bool, List, [], ◌∷◌, ◌++◌, length, Option, Some, None, is_some, option_map, if◌then◌else◌}
 use Rattle.std.specs.Option.{option_or}
 use Rattle.std.specs.List.{position_from}
+use Rattle.nam_catalog.specs.declared.bounds.TheConstants.{MOST_WORKERS, MOST_WIDTH, MOST_CAPACITY, MOST_RING}
+use Rattle.nam_catalog.specs.declared.bounds.TheConstants.{MOST_BUCKETS, MOST_CELLS, MOST_WORDS}
 use Rattle.nam_catalog.specs.declared.fault.ShapeFault.{ShapeFault}
 use Rattle.nam_catalog.specs.declared.fault.ShapeFault.TheVariants.{NoWorkers, TooManyWorkers, NoTables, BadWidth, BadCapacity, BadRing, BadBuckets, BadCells, BadStart, TwiceNamed, TooManyWords}
 use Rattle.nam_catalog.specs.declared.shape.Table.{Table}
@@ -37,13 +39,13 @@ first_twice_named before place (t ∷ ts) =
 abbrev pub limit_fault_of : Shape → Option ShapeFault
 limit_fault_of shape =
     fault_if (shape.workers == 0) NoWorkers
-    or_else fault_if (nat_lt 16 shape.workers) TooManyWorkers
+    or_else fault_if (nat_lt MOST_WORKERS shape.workers) TooManyWorkers
     or_else fault_if (length shape.tables == 0) NoTables
-    or_else option_map BadWidth (first_table (λ t. is_outside 8 t.width) shape.tables)
-    or_else option_map BadCapacity (first_table (λ t. is_outside 4096 t.capacity) shape.tables)
-    or_else option_map BadRing (first_table (λ t. is_outside 16 t.ring) shape.tables)
-    or_else fault_if (is_outside 256 shape.buckets) BadBuckets
-    or_else fault_if (is_outside 64 shape.cells) BadCells
+    or_else option_map BadWidth (first_table (λ t. is_outside MOST_WIDTH t.width) shape.tables)
+    or_else option_map BadCapacity (first_table (λ t. is_outside MOST_CAPACITY t.capacity) shape.tables)
+    or_else option_map BadRing (first_table (λ t. is_outside MOST_RING t.ring) shape.tables)
+    or_else fault_if (is_outside MOST_BUCKETS shape.buckets) BadBuckets
+    or_else fault_if (is_outside MOST_CELLS shape.cells) BadCells
     or_else fault_if (nat_lt (greatest_number shape.form) shape.start) BadStart
     or_else option_map TwiceNamed (first_twice_named [] 0 shape.tables)
 
@@ -51,4 +53,4 @@ limit_fault_of shape =
 abbrev pub fault_of : Shape → Option ShapeFault
 fault_of shape =
     limit_fault_of shape
-    or_else fault_if (nat_lt 4194304 (words_of shape)) TooManyWords
+    or_else fault_if (nat_lt MOST_WORDS (words_of shape)) TooManyWords

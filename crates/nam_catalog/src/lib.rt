@@ -3,9 +3,10 @@
 //! `check` gives the number of words that a store of a shape takes, or else the first fault of the shape. A shape has
 //! no fault exactly where it fits its limits, as `fits_law` says: so much follows from an `Ok` of `check`. `table_named`
 //! finds the first table of a name, `name_at` the name of a table, and `greatest` the greatest commit number of a form.
-//! No call takes memory.
+//! `bounds` has the limits of shapes, and of scripts, in one place. No call takes memory.
 #![tactic(auto)]
 
+pub mod bounds;
 mod fault;
 mod form;
 mod laws;
@@ -24,3 +25,4 @@ pub use limits::check;
 pub use name::TableName;
 pub use names::table_named;
 pub use shape::{Shape, Table, name_at};
+pub use words::{intent_words, position_words, slot_words};

@@ -6,25 +6,15 @@ ghost use Rattle.nam_catalog.specs.declared.fault.ShapeFault.TheVariants.{BadWid
 ghost use Rattle.nam_catalog.specs.Words.{words_of};
 ghost use Rattle.nam_catalog.specs.Fits.{FitsLimits};
 
+use crate::bounds::{
+    MOST_BUCKETS, MOST_CAPACITY, MOST_CELLS, MOST_RING, MOST_TABLES, MOST_WIDTH, MOST_WORDS,
+    MOST_WORKERS,
+};
 use crate::fault::ShapeFault;
 use crate::form::greatest;
 use crate::names::first_twice_named;
 use crate::shape::{Shape, Table};
 use crate::words::words;
-
-const MOST_WORKERS: u32 = 16;
-
-const MOST_WIDTH: u32 = 8;
-
-const MOST_CAPACITY: u32 = 4096;
-
-const MOST_RING: u32 = 16;
-
-const MOST_BUCKETS: u32 = 256;
-
-const MOST_CELLS: u32 = 64;
-
-const MOST_WORDS: u64 = 4_194_304;
 
 /// The number of words that a store of the shape takes, or else the first fault of the shape: in the order of
 /// `ShapeFault`, and each fault of a table tried at all tables before the next fault.
@@ -79,8 +69,8 @@ fn is_outside(greatest: u32, number: u32) -> bool
 }
 
 fn width_fault(tables: &[Table]) -> Option<ShapeFault>
-    requires { length tables.now ≤ 8 }
-    ensures { result ≡ option_map BadWidth (first_table (λ t. is_outside 8 t.width) tables.now) }
+    requires { length tables.now ≤ MOST_TABLES }
+    ensures { result ≡ option_map BadWidth (first_table (λ t. is_outside MOST_WIDTH t.width) tables.now) }
 {
     let table = first_bad_width(tables)?;
     Some(ShapeFault::BadWidth {
@@ -89,7 +79,7 @@ fn width_fault(tables: &[Table]) -> Option<ShapeFault>
 }
 
 fn first_bad_width(tables: &[Table]) -> Option<usize>
-    ensures first { result ≡ first_table (λ t. is_outside 8 t.width) tables.now }
+    ensures first { result ≡ first_table (λ t. is_outside MOST_WIDTH t.width) tables.now }
     ensures within { IfSome result (λ table. table < length tables.now) }
 {
     tables
@@ -98,8 +88,8 @@ fn first_bad_width(tables: &[Table]) -> Option<usize>
 }
 
 fn capacity_fault(tables: &[Table]) -> Option<ShapeFault>
-    requires { length tables.now ≤ 8 }
-    ensures { result ≡ option_map BadCapacity (first_table (λ t. is_outside 4096 t.capacity) tables.now) }
+    requires { length tables.now ≤ MOST_TABLES }
+    ensures { result ≡ option_map BadCapacity (first_table (λ t. is_outside MOST_CAPACITY t.capacity) tables.now) }
 {
     let table = first_bad_capacity(tables)?;
     Some(ShapeFault::BadCapacity {
@@ -108,7 +98,7 @@ fn capacity_fault(tables: &[Table]) -> Option<ShapeFault>
 }
 
 fn first_bad_capacity(tables: &[Table]) -> Option<usize>
-    ensures first { result ≡ first_table (λ t. is_outside 4096 t.capacity) tables.now }
+    ensures first { result ≡ first_table (λ t. is_outside MOST_CAPACITY t.capacity) tables.now }
     ensures within { IfSome result (λ table. table < length tables.now) }
 {
     tables
@@ -117,8 +107,8 @@ fn first_bad_capacity(tables: &[Table]) -> Option<usize>
 }
 
 fn ring_fault(tables: &[Table]) -> Option<ShapeFault>
-    requires { length tables.now ≤ 8 }
-    ensures { result ≡ option_map BadRing (first_table (λ t. is_outside 16 t.ring) tables.now) }
+    requires { length tables.now ≤ MOST_TABLES }
+    ensures { result ≡ option_map BadRing (first_table (λ t. is_outside MOST_RING t.ring) tables.now) }
 {
     let table = first_bad_ring(tables)?;
     Some(ShapeFault::BadRing {
@@ -127,7 +117,7 @@ fn ring_fault(tables: &[Table]) -> Option<ShapeFault>
 }
 
 fn first_bad_ring(tables: &[Table]) -> Option<usize>
-    ensures first { result ≡ first_table (λ t. is_outside 16 t.ring) tables.now }
+    ensures first { result ≡ first_table (λ t. is_outside MOST_RING t.ring) tables.now }
     ensures within { IfSome result (λ table. table < length tables.now) }
 {
     tables
@@ -136,7 +126,7 @@ fn first_bad_ring(tables: &[Table]) -> Option<usize>
 }
 
 fn name_fault(tables: &[Table]) -> Option<ShapeFault>
-    requires { length tables.now ≤ 8 }
+    requires { length tables.now ≤ MOST_TABLES }
     ensures { result ≡ option_map TwiceNamed (first_twice_named [] 0 tables.now) }
 {
     let table = first_twice_named(tables)?;

@@ -3,6 +3,7 @@
 ghost use Rattle.std.specs.Prelude.{◌≡◌};
 ghost use Rattle.nam_catalog.specs.Tables.{name_of};
 
+use crate::bounds::MOST_TABLES;
 use crate::form::Form;
 use crate::name::TableName;
 use lists::ShortList;
@@ -21,7 +22,7 @@ pub struct Table {
 pub struct Shape {
     pub form: Form,
     pub workers: u32,
-    pub tables: ShortList<Table, 8>,
+    pub tables: ShortList<Table, MOST_TABLES>,
     pub buckets: u32,
     pub cells: u32,
     pub start: u64,

@@ -1,22 +1,22 @@
 //! How many words a shape takes.
 
 ghost use Rattle.std.specs.Prelude.{◌≡◌, ◌≤◌, length, All};
-ghost use Rattle.nam_catalog.specs.Words.{table_words, tables_words, intent_words, words_of};
+ghost use Rattle.nam_catalog.specs.Words.{slot_words, position_words, table_words, tables_words, intent_words, words_of};
 ghost use Rattle.nam_catalog.specs.Fits.{FitsTable};
 
+use crate::bounds::{
+    CELL_WORDS, INTENT_WORDS, MOST_BUCKETS, MOST_CELLS, MOST_TABLES, MOST_WORKERS,
+};
 use crate::form::Form;
 use crate::shape::{Shape, Table};
 
-/// An overflow cell: tag, owner, begin, end, and room for the widest value.
-const CELL_WORDS: u64 = 12;
-
 /// The words of a shape whose numbers are within their limits.
 pub(crate) fn words(shape: &Shape) -> u64
-    requires workers { shape.now.workers ≤ 16 }
+    requires workers { shape.now.workers ≤ MOST_WORKERS }
     requires count { length shape.now.tables ≤ 8 }
     requires tables { All FitsTable shape.now.tables }
-    requires buckets { shape.now.buckets ≤ 256 }
-    requires cells { shape.now.cells ≤ 64 }
+    requires buckets { shape.now.buckets ≤ MOST_BUCKETS }
+    requires cells { shape.now.cells ≤ MOST_CELLS }
     ensures { result ≡ words_of shape.now }
 {
     let workers = shape.workers as u64;
@@ -28,7 +28,7 @@ pub(crate) fn words(shape: &Shape) -> u64
 }
 
 fn tables_words(tables: &[Table]) -> u64
-    requires count { length tables.now ≤ 8 }
+    requires count { length tables.now ≤ MOST_TABLES }
     requires fit { All FitsTable tables.now }
     ensures value { result ≡ tables_words tables.now }
     ensures bound { result ≤ 5603328 }
@@ -40,25 +40,36 @@ fn tables_words(tables: &[Table]) -> u64
     words
 }
 
-/// A position has a key, a header, a count, the current value, and a slot for each old version, which is a header, an
-/// end and a value.
 fn table_words(table: &Table) -> u64
     requires { FitsTable table.now }
     ensures { result ≡ table_words table.now }
 {
-    let width = table.width as u64;
-    let slots = table.ring as u64 * (2 + width);
-    table.capacity as u64 * (3 + width + slots)
+    table.capacity as u64 * position_words(table)
 }
 
-/// The words of a worker's intent, which only form Held has: its state, a commit number, and 11 words for each of 16
-/// records.
-fn intent_words(form: Form) -> u64
+/// The words of a table's position: a key, a header, a count, the current value, and a slot for each old version.
+pub fn position_words(table: &Table) -> u64
+    requires { FitsTable table.now }
+    ensures { result ≡ position_words table.now.width table.now.ring }
+{
+    3 + table.width as u64 + table.ring as u64 * slot_words(table.width)
+}
+
+/// The words of a slot of this width: a header, an end and a value.
+#[inline]
+pub fn slot_words(width: u32) -> u64
+    ensures { result ≡ slot_words width }
+{
+    2 + width as u64
+}
+
+/// How many words a worker's intent has, which only form Held has.
+pub fn intent_words(form: Form) -> u64
     ensures value { result ≡ intent_words form }
-    ensures bound { result ≤ 178 }
+    ensures bound { result ≤ INTENT_WORDS }
 {
     match form {
         Form::Narrow | Form::Wide => 0,
-        Form::Held => 178,
+        Form::Held => INTENT_WORDS,
     }
 }

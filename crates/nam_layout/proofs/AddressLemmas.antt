@@ -123,7 +123,7 @@ module _ (shape : Shape) where
       let found = position_found at row (3 + width + (slot * slot_words width + rest)) (omega arith) is.0 (omega arith) in
       (found.0, found.1 ∙ old width row slot rest less)
 
-  cell_found : (at bucket cell rest : ℕ) → at ≡ cell_at shape bucket cell + rest → IsCell shape bucket cell → rest < 12
+  cell_found : (at bucket cell rest : ℕ) → at ≡ cell_at shape bucket cell + rest → IsCell shape bucket cell → rest < cell_words
       → Finds at (field_in_cell bucket cell rest)
   cell_found at bucket cell rest there is less =
       let cells = shape.cells in

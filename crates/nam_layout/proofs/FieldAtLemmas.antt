@@ -51,7 +51,8 @@ module _ (shape : Shape) where
       let there : position_at shape row + rest ≡ tables_at shape + offset = let o = stands.offset_is in omega arith in
       subst (λ at. IsAt at (field_in_tables shape.tables offset)) there (in_position row rest stands.row_within stands.rest_within)
 
-  in_cell : (bucket cell rest : ℕ) → IsCell shape bucket cell → rest < 12 → IsAt (cell_at shape bucket cell + rest) (field_in_cell bucket cell rest)
+  in_cell : (bucket cell rest : ℕ) → IsCell shape bucket cell → rest < cell_words
+      → IsAt (cell_at shape bucket cell + rest) (field_in_cell bucket cell rest)
   in_cell bucket cell rest is less =
       let P = λ (f : Field). IsAt (cell_at shape bucket cell + rest) f in
       by_equal P rest 0 _ _ (λ same. record { field = is; address_is = omega arith }) (λ not_tag.

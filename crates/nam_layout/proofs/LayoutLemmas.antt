@@ -3,13 +3,12 @@ use Rattle.std.proofs.Common.{◌≡◌, ℕ, ◌+◌, ◌-◌, ◌*◌, ◌^◌
 use Rattle.nam_catalog.specs.declared.shape.Table.{Table}
 use Rattle.nam_catalog.specs.declared.shape.Shape.{Shape}
 use Rattle.nam_catalog.specs.Limits.{fault_of}
-use Rattle.nam_catalog.specs.Words.{intent_words}
+use Rattle.nam_catalog.specs.Words.{cell_words, intent_words}
 use Rattle.nam_catalog.proofs.FitsLemmas.{fits_limits}
 use Rattle.nam_layout.specs.declared.extent.Extent.{Extent}
 use Rattle.nam_layout.specs.Rows.{row_of, width_at, ring_at}
 use Rattle.nam_layout.specs.RowLaw.{IsPosition}
-use Rattle.nam_layout.specs.declared.field.Field.TheVariants.{Word, SlotHeader}
-use Rattle.nam_layout.specs.Address.{tables_at, cells_at, position_at, address}
+use Rattle.nam_layout.specs.Address.{tables_at, cells_at, position_at, slots_at}
 use Rattle.nam_layout.specs.FieldAt.{row_in, rest_in, field_in_position, field_at}
 use Rattle.nam_layout.specs.Place.{place_of}
 use Rattle.nam_layout.specs.Extent.{extents_of, IsIn, field_in_extents, place_in}
@@ -23,9 +22,10 @@ module _ (shape : Shape) (extents : List Extent) where
   pub laid_out : (tables : List Table) (cells words : ℕ) → tables ≡ shape.tables → fault_of shape ≡ None
       → extents ≡ extents_of (tables_at shape) 0 shape.tables → cells ≡ cells_at shape → words ≡ intent_words shape.form
       → IsLaidOut (record shape { tables = tables }) extents cells
-      (cells + shape.buckets * shape.cells * 12) (cells + shape.buckets * shape.cells * 12 + shape.workers * words)
+      (cells + shape.buckets * shape.cells * cell_words)
+      (cells + shape.buckets * shape.cells * cell_words + shape.workers * words)
   laid_out tables cells words same none are cells_are words_are =
-      let intents = cells + shape.buckets * shape.cells * 12 in
+      let intents = cells + shape.buckets * shape.cells * cell_words in
       subst (λ ts. IsLaidOut (record shape { tables = ts }) extents cells intents (intents + shape.workers * words)) (sym same) (record {
         fits = fits_limits shape none;
         extents_are = are;
@@ -56,8 +56,8 @@ module _ (shape : Shape) (extents : List Extent) where
         let key_same : e.at + position * e.words ≡ position_at shape r = at.at_is position (subst (λ n. position < n) (sym at.capacity_is) is.1) in
         let width_same : e.width ≡ width_at shape.tables r = at.width_is ∙ sym row.width_is in
         let ring_same : e.ring ≡ ring_at shape.tables r = at.ring_is ∙ sym row.ring_is in
-        let words_same : e.at + position * e.words + 3 ≡ address shape (Word r 0) = omega arith in
-        let slots_same : e.at + position * e.words + 3 + e.width ≡ address shape (SlotHeader r 0) = omega arith in
+        let words_same : e.at + position * e.words + 3 ≡ position_at shape r + 3 = omega arith in
+        let slots_same : e.at + position * e.words + 3 + e.width ≡ slots_at shape r = omega arith in
         cc
 
     -- the sums of an extent's numbers with those of a position are small

@@ -5,5 +5,6 @@ pub mod PositionLemmas
 pub mod FieldAtLemmas
 pub mod AddressLemmas
 pub mod LimitLemmas
+pub mod PlaceLemmas
 pub mod ExtentLemmas
 pub mod LayoutLemmas

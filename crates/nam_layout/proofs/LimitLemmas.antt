@@ -4,6 +4,7 @@ use Rattle.std.specs.Prelude.{All}
 use Rattle.std.proofs.lemmas.Bool.{cases_lt}
 use Rattle.std.proofs.lemmas.Nat.{row_fits}
 use Rattle.std.proofs.lemmas.List.Elements.{All-head, All-tail}
+use Rattle.nam_catalog.specs.declared.bounds.TheConstants.{MOST_WIDTH, MOST_RING}
 use Rattle.nam_catalog.specs.declared.shape.Table.{Table}
 use Rattle.nam_catalog.specs.declared.shape.Shape.{Shape}
 use Rattle.nam_catalog.specs.Fits.{FitsTable, FitsLimits}
@@ -18,9 +19,9 @@ use Rattle.nam_layout.proofs.RowLemmas.{row_stands}
 -- a row has as many words as a table's row can have
 pub record FitsRow (width ring : ℕ) : Type 0 where
   pub least_width : 1 ≤ width
-  pub most_width : width ≤ 8
+  pub most_width : width ≤ MOST_WIDTH
   pub least_ring : 1 ≤ ring
-  pub most_ring : ring ≤ 16
+  pub most_ring : ring ≤ MOST_RING
 
 row_within : (tables : List Table) (row : ℕ) → All FitsTable tables → row < rows_in tables → FitsRow (width_at tables row) (ring_at tables row)
 row_within [] row fit within = absurd (omega arith)

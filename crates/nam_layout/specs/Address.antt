@@ -1,9 +1,12 @@
 -- The fields of a shape, and where each of them stands.
 use Rattle.std.specs.Prelude.{ℕ, ◌+◌, ◌-◌, ◌*◌, ◌<◌, ◌≤◌}
+use Rattle.nam_catalog.specs.declared.bounds.TheConstants.{MOST_WIDTH}
 use Rattle.nam_catalog.specs.declared.shape.Shape.{Shape}
 use Rattle.nam_catalog.specs.Words.{slot_words, tables_words, cell_words, intent_words}
 use Rattle.nam_layout.specs.declared.field.Field.{Field}
-use Rattle.nam_layout.specs.declared.field.Field.TheVariants.{Entry, Horizon, Key, Header, Count, Word, SlotHeader, SlotEnd, SlotWord, Tag, Owner, Begin, End, CellWord, Intent}
+use Rattle.nam_layout.specs.declared.field.Field.TheVariants.{Entry, Horizon, Key, Header, Count, Word}
+use Rattle.nam_layout.specs.declared.field.Field.TheVariants.{SlotHeader, SlotEnd, SlotWord}
+use Rattle.nam_layout.specs.declared.field.Field.TheVariants.{Tag, Owner, Begin, End, CellWord, Intent}
 use Rattle.nam_layout.specs.Rows.{rows_in, width_at, ring_at, row_at}
 
 abbrev pub IsWorker : Shape → ℕ → Type 0
@@ -33,7 +36,7 @@ IsField shape (Tag bucket cell) = IsCell shape bucket cell
 IsField shape (Owner bucket cell) = IsCell shape bucket cell
 IsField shape (Begin bucket cell) = IsCell shape bucket cell
 IsField shape (End bucket cell) = IsCell shape bucket cell
-IsField shape (CellWord bucket cell nth) = IsCell shape bucket cell × (nth < 8)
+IsField shape (CellWord bucket cell nth) = IsCell shape bucket cell × (nth < MOST_WIDTH)
 IsField shape (Intent worker nth) = IsWorker shape worker × (nth < intent_words shape.form)
 
 -- where the tables begin, after the vector and the horizon
@@ -51,11 +54,27 @@ intents_at shape = cells_at shape + shape.buckets * shape.cells * cell_words
 abbrev pub position_at : Shape → ℕ → ℕ
 position_at shape row = tables_at shape + row_at shape.tables row
 
+-- where a position's slots begin
+abbrev pub slots_at : Shape → ℕ → ℕ
+slots_at shape row = position_at shape row + 3 + width_at shape.tables row
+
+-- where a bucket's cells begin
+abbrev pub bucket_at : Shape → ℕ → ℕ
+bucket_at shape bucket = cells_at shape + bucket * shape.cells * cell_words
+
+-- a slot of a position of this width whose slots begin there
+abbrev pub slot_from : ℕ → ℕ → ℕ → ℕ
+slot_from ring_at width slot = ring_at + slot * slot_words width
+
+-- a cell of the bucket whose cells begin there
+abbrev pub cell_from : ℕ → ℕ → ℕ
+cell_from first cell = first + cell * cell_words
+
 abbrev pub slot_at : Shape → ℕ → ℕ → ℕ
-slot_at shape row slot = position_at shape row + 3 + width_at shape.tables row + slot * slot_words (width_at shape.tables row)
+slot_at shape row slot = slot_from (slots_at shape row) (width_at shape.tables row) slot
 
 abbrev pub cell_at : Shape → ℕ → ℕ → ℕ
-cell_at shape bucket cell = cells_at shape + (bucket * shape.cells + cell) * cell_words
+cell_at shape bucket cell = cell_from (bucket_at shape bucket) cell
 
 -- where a field stands
 abbrev pub address : Shape → Field → ℕ

@@ -1,5 +1,6 @@
 -- Where tables stand.
 use Rattle.std.specs.Prelude.{ℕ, ◌+◌, ◌-◌, ◌*◌, ◌/◌, ◌%◌, ◌^◌, ◌<◌, ◌≤◌, nat_lt, List, [], ◌∷◌, if◌then◌else◌}
+use Rattle.nam_catalog.specs.declared.bounds.TheConstants.{MOST_WIDTH}
 use Rattle.nam_catalog.specs.declared.form.Form.{Form}
 use Rattle.nam_catalog.specs.declared.shape.Table.{Table}
 use Rattle.nam_catalog.specs.Words.{position_words, table_words}
@@ -11,7 +12,14 @@ use Rattle.nam_layout.specs.FieldAt.{field_in_position}
 
 -- a table whose first position begins at `at` and is this row
 abbrev pub extent_of : ℕ → ℕ → Table → Extent
-extent_of at row t = record { row = row; at = at; words = position_words t.width t.ring; width = t.width; capacity = t.capacity; ring = t.ring }
+extent_of at row t = record {
+  row = row;
+  at = at;
+  words = position_words t.width t.ring;
+  width = t.width;
+  capacity = t.capacity;
+  ring = t.ring;
+}
 
 -- tables of which the first position begins at `at` and is this row
 abbrev pub extents_of : ℕ → ℕ → List Table → List Extent
@@ -20,7 +28,7 @@ extents_of at row (t ∷ ts) = extent_of at row t ∷ extents_of (at + table_wor
 
 -- the numbers of an extent are small enough to be added
 pub record FitsExtent (e : Extent) : Type 0 where
-  pub width : e.width ≤ 8
+  pub width : e.width ≤ MOST_WIDTH
   pub least_words : 1 ≤ e.words
   pub rows : e.row + e.capacity < 2 ^ 32
   pub words : e.at + e.capacity * e.words < 2 ^ 32

@@ -4,7 +4,8 @@ pub mod Address
 pub mod FieldAt
 pub mod AddressLaw
 pub mod Place
-pub mod PlaceLaw
 pub mod PlaceFits
+pub mod Known
+pub mod PlaceLaw
 pub mod Extent
 pub mod Laid

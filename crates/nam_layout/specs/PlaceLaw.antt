@@ -1,36 +1,52 @@
--- What stands at a place, in a bucket's cells and in an intent, counted from the addresses that a layout gives.
-use Rattle.std.specs.Prelude.{◌≡◌, ℕ, ◌+◌, ◌*◌}
+-- The fields of places, of cells and of workers are those of the shape, and stand where its addresses say.
+use Rattle.std.specs.Prelude.{◌≡◌, ℕ, ◌+◌, ◌*◌, ◌<◌}
 use Rattle.nam_catalog.specs.declared.shape.Shape.{Shape}
-use Rattle.nam_layout.specs.declared.field.Field.TheVariants.{Key, Header, Count, Word, SlotHeader, SlotEnd, SlotWord, Tag, Owner, Begin, End, CellWord, Intent}
+use Rattle.nam_layout.specs.declared.field.Field.{Field}
+use Rattle.nam_layout.specs.declared.field.Field.TheVariants.{Intent}
 use Rattle.nam_layout.specs.declared.field.Place.{Place}
 use Rattle.nam_layout.specs.declared.field.Cells.{Cells}
-use Rattle.nam_layout.specs.Address.{address}
-use Rattle.nam_layout.specs.Place.{place_at, cells_of}
+use Rattle.nam_layout.specs.Address.{IsRow, IsField, address}
+use Rattle.nam_layout.specs.Place.{place_at, cells_of, position_address, cell_address, worker_address, known_address}
+use Rattle.nam_layout.specs.Place.{place_end, cells_end}
+use Rattle.nam_layout.specs.PlaceFits.{FitsPlace, FitsCells}
+use Rattle.nam_layout.specs.Known.{IsOfPlace, IsOfCells, IsOfWorkers, IsKnown}
 
--- the words of a row stand at its place
-pub record StandAt (shape : Shape) (place : Place) : Type 0 where
-  pub key : place.key_at ≡ address shape (Key place.row)
-  pub header : place.header_at ≡ address shape (Header place.row)
-  pub count : place.count_at ≡ address shape (Count place.row)
-  pub word : (nth : ℕ) → place.words_at + nth ≡ address shape (Word place.row nth)
-  pub slot_header : (slot : ℕ) → place.ring_at + slot * (2 + place.width) ≡ address shape (SlotHeader place.row slot)
-  pub slot_end : (slot : ℕ) → place.ring_at + slot * (2 + place.width) + 1 ≡ address shape (SlotEnd place.row slot)
-  pub slot_word : (slot nth : ℕ) → place.ring_at + slot * (2 + place.width) + 2 + nth ≡ address shape (SlotWord place.row slot nth)
-
--- the words of a bucket stand in its cells
-pub record StandIn (shape : Shape) (cells : Cells) : Type 0 where
-  pub tag : (cell : ℕ) → cells.first + cell * 12 ≡ address shape (Tag cells.bucket cell)
-  pub owner : (cell : ℕ) → cells.first + cell * 12 + 1 ≡ address shape (Owner cells.bucket cell)
-  pub begin : (cell : ℕ) → cells.first + cell * 12 + 2 ≡ address shape (Begin cells.bucket cell)
-  pub «end» : (cell : ℕ) → cells.first + cell * 12 + 3 ≡ address shape (End cells.bucket cell)
-  pub word : (cell nth : ℕ) → cells.first + cell * 12 + 4 + nth ≡ address shape (CellWord cells.bucket cell nth)
+-- 1. Fields of a shape
 
 abbrev pub PlaceLaw : Type 0
-PlaceLaw = (shape : Shape) (row : ℕ) → StandAt shape (place_at shape row)
+PlaceLaw = (shape : Shape) (row : ℕ) (field : Field) → IsOfPlace (place_at shape row) field
+    → (address shape field ≡ position_address (place_at shape row) field) × (IsRow shape row → IsField shape field)
 
 abbrev pub CellsLaw : Type 0
-CellsLaw = (shape : Shape) (bucket : ℕ) → StandIn shape (cells_of shape bucket)
+CellsLaw = (shape : Shape) (bucket : ℕ) (field : Field) → IsOfCells (cells_of shape bucket) field
+    → (address shape field ≡ cell_address (cells_of shape bucket) field)
+    × (bucket < shape.buckets → IsField shape field)
+
+abbrev pub WorkersLaw : Type 0
+WorkersLaw = (shape : Shape) (field : Field) → IsOfWorkers shape.workers field
+    → (address shape field ≡ worker_address shape.workers field) × IsField shape field
+
+abbrev pub KnownLaw : Type 0
+KnownLaw =
+    (shape : Shape) (row bucket : ℕ) (field : Field)
+    → IsKnown (place_at shape row) (cells_of shape bucket) shape.workers field
+    → (address shape field ≡ known_address (place_at shape row) (cells_of shape bucket) shape.workers field)
+    × (IsRow shape row → bucket < shape.buckets → IsField shape field)
 
 -- the words of an intent follow its first
 abbrev pub IntentLaw : Type 0
 IntentLaw = (shape : Shape) (worker nth : ℕ) → address shape (Intent worker 0) + nth ≡ address shape (Intent worker nth)
+
+-- 2. Words within places, cells and entries
+
+abbrev pub PlaceWithinLaw : Type 0
+PlaceWithinLaw = (place : Place) (field : Field) → FitsPlace place → IsOfPlace place field
+    → position_address place field < place_end place
+
+abbrev pub CellsWithinLaw : Type 0
+CellsWithinLaw = (cells : Cells) (field : Field) → FitsCells cells → IsOfCells cells field
+    → cell_address cells field < cells_end cells
+
+abbrev pub WorkersWithinLaw : Type 0
+WorkersWithinLaw = (workers : ℕ) (field : Field) → IsOfWorkers workers field
+    → worker_address workers field < 2 * workers

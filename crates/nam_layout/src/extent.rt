@@ -1,14 +1,15 @@
 //! Where the tables stand.
 
 ghost use Rattle.std.specs.Prelude.{◌≡◌, ◌+◌, ◌*◌, ◌≤◌, ◌^◌, ◌<◌, length, All};
-ghost use Rattle.nam_catalog.specs.Words.{position_words, tables_words};
+ghost use Rattle.nam_catalog.specs.Words.{tables_words};
 ghost use Rattle.nam_catalog.specs.Fits.{FitsTable};
 ghost use Rattle.nam_layout.specs.Extent.{extents_of, IsIn, field_in_extents, place_in};
 
 use crate::field::{Field, Place};
 use crate::within::field_in_position;
 use lists::ShortList;
-use nam_catalog::{Form, Table};
+use nam_catalog::bounds::{MOST_TABLES, MOST_WORDS};
+use nam_catalog::{Form, Table, position_words};
 
 /// Where a table stands: its first row, the address of its first position, and the words of each of its positions.
 #[derive(Clone, Copy, Debug, Default, PartialEq, Eq)]
@@ -24,15 +25,15 @@ pub struct Extent {
 /// Where tables stand, and the address after them.
 #[derive(Debug, Drop)]
 pub struct Extents {
-    pub extents: ShortList<Extent, 8>,
+    pub extents: ShortList<Extent, MOST_TABLES>,
     pub after: u64,
 }
 
 /// Where the tables stand that begin at an address.
 pub fn lay_out(tables: &[Table], begin: u64) -> Extents
-    requires count { length tables.now ≤ 8 }
+    requires count { length tables.now ≤ MOST_TABLES }
     requires tables { All FitsTable tables.now }
-    requires words { begin + tables_words tables.now ≤ 4194304 }
+    requires words { begin + tables_words tables.now ≤ MOST_WORDS }
     ensures extents { result.extents ≡ extents_of begin 0 tables.now }
     ensures after { result.after ≡ begin + tables_words tables.now }
 {
@@ -40,7 +41,7 @@ pub fn lay_out(tables: &[Table], begin: u64) -> Extents
     let mut row: u32 = 0;
     let mut at = begin;
     for table in tables {
-        let words = words_of_position(table);
+        let words = position_words(table);
         extents.push(Extent {
             row,
             at,
@@ -53,15 +54,6 @@ pub fn lay_out(tables: &[Table], begin: u64) -> Extents
         at += table.capacity as u64 * words;
     }
     Extents { extents, after: at }
-}
-
-fn words_of_position(table: &Table) -> u64
-    requires { FitsTable table.now }
-    ensures { result ≡ position_words table.now.width table.now.ring }
-{
-    let width = table.width as u64;
-    let slots = table.ring as u64 * (2 + width);
-    3 + width + slots
 }
 
 /// The place of a table's position.

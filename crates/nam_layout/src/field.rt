@@ -55,19 +55,9 @@ pub struct Place {
 
 impl Default for Place {
     ghost use Rattle.std.specs.Prelude.{◌≡◌};
-    ghost use Rattle.nam_catalog.specs.declared.form.Form.TheVariants.{Narrow};
+    ghost use Rattle.nam_layout.specs.Place.{no_place};
 
-    ghost is_default = { λ place. place ≡ record {
-      row = 0;
-      key_at = 0;
-      header_at = 0;
-      count_at = 0;
-      words_at = 0;
-      ring_at = 0;
-      width = 0;
-      ring = 0;
-      form = Narrow;
-    } };
+    ghost is_default = { λ place. place ≡ no_place };
 
     /// No position of a store. Lists of places need one to begin with.
     fn default() -> Place {
@@ -85,7 +75,7 @@ impl Default for Place {
     }
 }
 
-/// The cells of a bucket, of 12 words each from the address `first` on.
+/// The cells of a bucket, of `CELL_WORDS` words each from the address `first` on.
 #[derive(Clone, Copy, Debug, PartialEq, Eq)]
 pub struct Cells {
     pub bucket: u32,

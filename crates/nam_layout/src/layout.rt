@@ -3,7 +3,7 @@
 ghost use Rattle.std.specs.Prelude.{◌≡◌, ◌+◌, ◌≤◌, ◌<◌, length, slice_index, None};
 ghost use Rattle.nam_catalog.specs.declared.form.Form.TheVariants.{Held};
 ghost use Rattle.nam_catalog.specs.Tables.{capacities_of};
-ghost use Rattle.nam_catalog.specs.Words.{words_of, intent_words};
+ghost use Rattle.nam_catalog.specs.Words.{words_of};
 ghost use Rattle.nam_catalog.specs.Limits.{fault_of};
 ghost use Rattle.nam_catalog.specs.Fits.{FitsLimits};
 ghost use Rattle.nam_layout.specs.declared.field.Field.TheVariants.{Entry, Horizon, Intent};
@@ -13,18 +13,20 @@ ghost use Rattle.nam_layout.specs.FieldAt.{field_at};
 ghost use Rattle.nam_layout.specs.Place.{place_of, cells_of, bucket_of};
 ghost use Rattle.nam_layout.specs.PlaceFits.{FitsPlace, FitsCells};
 
+use crate::address::horizon_at;
 use crate::extent::{Extent, Extents, field_in, lay_out, place_in};
 use crate::field::{Cells, Field, Place};
-use crate::within::{CELL_WORDS, field_in_cells, field_in_intents};
+use crate::within::{field_in_cells, field_in_intents};
 use lists::ShortList;
-use nam_catalog::{Form, Shape, Table};
+use nam_catalog::bounds::{CELL_WORDS, INTENT_WORDS, MOST_TABLES, MOST_WORDS};
+use nam_catalog::{Form, Shape, Table, intent_words};
 use std::marker::Model;
 
 /// Where the words of a shape stand. A contract sees it as the shape.
 #[derive(Debug, Drop)]
 pub struct Layout {
     shape: Shape,
-    extents: ShortList<Extent, 8>,
+    extents: ShortList<Extent, MOST_TABLES>,
     cells_at: u64,
     intents_at: u64,
     total: u64,
@@ -42,8 +44,8 @@ impl Model for Layout {
 }
 
 /// An equal list, made without memory.
-fn copied(tables: &[Table]) -> ShortList<Table, 8>
-    requires { length tables.now ≤ 8 }
+fn copied(tables: &[Table]) -> ShortList<Table, MOST_TABLES>
+    requires { length tables.now ≤ MOST_TABLES }
     ensures { result ≡ tables.now }
 {
     let mut copied = ShortList::new();
@@ -56,16 +58,6 @@ fn copied(tables: &[Table]) -> ShortList<Table, 8>
         });
     }
     copied
-}
-
-/// How many words a worker's intent has.
-fn intent_words(form: Form) -> u64
-    ensures { result ≡ intent_words form }
-{
-    match form {
-        Form::Narrow | Form::Wide => 0,
-        Form::Held => 178,
-    }
 }
 
 impl Layout {
@@ -129,7 +121,7 @@ impl Layout {
         requires { IsWorker self.now worker }
         ensures { result ≡ address self.now (Horizon worker) }
     {
-        self.shape.workers as u64 + (worker as u64 - 1)
+        horizon_at(self.shape.workers, worker)
     }
 
     /// The place of a table's position, which is within the limits of places.
@@ -169,7 +161,7 @@ impl Layout {
         requires form { self.now.form ≡ Held }
         requires worker { IsWorker self.now worker }
         ensures value { result ≡ address self.now (Intent worker 0) }
-        ensures fits { result + 178 ≤ 4194304 }
+        ensures fits { result + INTENT_WORDS ≤ MOST_WORDS }
     {
         self.intents_at + (worker as u64 - 1) * intent_words(self.shape.form)
     }

@@ -4,13 +4,12 @@ ghost use Rattle.std.specs.Prelude.{◌≡◌, ◌≤◌, ◌<◌, ◌^◌, ◌*
 ghost use Rattle.nam_layout.specs.FieldAt.{field_in_slot, field_in_position, field_in_cell, field_in_cells, field_in_intents};
 
 use crate::field::Field;
-
-/// The words of an overflow cell.
-pub const CELL_WORDS: u64 = 12;
+use nam_catalog::bounds::{CELL_WORDS, MOST_WIDTH};
+use nam_catalog::slot_words;
 
 /// A word of a position, counted from its first.
 pub fn field_in_position(width: u32, row: u32, rest: u64) -> Field
-    requires width { width ≤ 8 }
+    requires width { width ≤ MOST_WIDTH }
     requires rest { rest < 2 ^ 32 }
     ensures { result ≡ field_in_position width row rest }
 {
@@ -24,7 +23,7 @@ pub fn field_in_position(width: u32, row: u32, rest: u64) -> Field
             nth: (rest - 3) as u32,
         },
         rest => {
-            let words = 2 + width as u64;
+            let words = slot_words(width);
             let slot = (rest - slots) / words;
             field_in_slot(row, slot as u32, (rest - slots) % words)
         }

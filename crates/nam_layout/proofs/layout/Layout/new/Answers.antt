@@ -21,4 +21,4 @@ invariant_of-result c =
     let begin = ap (extents_of (tables_at shape) 0) c.as_slice.ensures.value in
     let words = ap (λ ts. tables_at shape + tables_words ts) c.as_slice.ensures.value in
     laid_out shape laid.result.extents c.copied.result laid.result.after c.intent_words.result
-    tables c.requires (laid.ensures.extents ∙ begin) (laid.ensures.after ∙ words) c.intent_words.ensures
+    tables c.requires (laid.ensures.extents ∙ begin) (laid.ensures.after ∙ words) c.intent_words.ensures.value

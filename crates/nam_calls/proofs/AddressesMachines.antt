@@ -21,19 +21,22 @@ use Rattle.nam_calls.specs.declared.ring.CopyPlace.TheVariants.{CopyMark, CopyEn
 use Rattle.nam_calls.specs.declared.ring.RingPlace.{RingPlace}
 use Rattle.nam_calls.specs.declared.ring.RingPlace.TheVariants.{SlotHead, SlotEnding, SlotWords, SlotAgain}
 use Rattle.nam_calls.specs.declared.overflow.CellPlace.{CellPlace}
-use Rattle.nam_calls.specs.declared.overflow.CellPlace.TheVariants.{CellTag, CellOwner, CellBegin, CellEnding, CellWords, CellAgain}
+use Rattle.nam_calls.specs.declared.overflow.CellPlace.TheVariants.{CellTag, CellOwner, CellBegin, CellEnding}
+use Rattle.nam_calls.specs.declared.overflow.CellPlace.TheVariants.{CellWords, CellAgain}
 use Rattle.nam_calls.specs.declared.overflow.ClaimPlace.{ClaimPlace}
 use Rattle.nam_calls.specs.declared.overflow.ClaimPlace.TheVariants.{ClaimLook, ClaimTake}
 use Rattle.nam_calls.specs.declared.overflow.Version.{Version}
 use Rattle.nam_calls.specs.declared.overflow.FillPlace.{FillPlace}
 use Rattle.nam_calls.specs.declared.overflow.FillPlace.TheVariants.{FillOwner, FillBegin, FillEnding, FillWord}
 use Rattle.nam_calls.specs.declared.mover.MovePlace.{MovePlace}
-use Rattle.nam_calls.specs.declared.mover.MovePlace.TheVariants.{MoveCount, MoveHead, MoveEnding, MoveClaim, MoveWords, MoveFill, MoveAgain}
-use Rattle.nam_calls.specs.declared.mover.MovePlace.TheVariants.{MoveFull, MoveFlag, MoveBack}
+use Rattle.nam_calls.specs.declared.mover.MovePlace.TheVariants.{MoveCount, MoveHead, MoveEnding, MoveClaim, MoveWords}
+use Rattle.nam_calls.specs.declared.mover.MovePlace.TheVariants.{MoveFill, MoveAgain, MoveFull, MoveFlag, MoveBack}
 use Rattle.nam_calls.specs.declared.horizon.CollectPlace.{CollectPlace}
-use Rattle.nam_calls.specs.declared.horizon.CollectPlace.TheVariants.{HorizonLook, HorizonRaise, CollectTag, CollectEnding, CollectFree}
+use Rattle.nam_calls.specs.declared.horizon.CollectPlace.TheVariants.{HorizonLook, HorizonRaise, CollectTag}
+use Rattle.nam_calls.specs.declared.horizon.CollectPlace.TheVariants.{CollectEnding, CollectFree}
 use Rattle.nam_calls.specs.declared.reading.ReadPlace.{ReadPlace}
-use Rattle.nam_calls.specs.declared.reading.ReadPlace.TheVariants.{ReadCurrent, ReadUnsure, ReadRecheck, ReadRing, ReadCells, ReadHorizon}
+use Rattle.nam_calls.specs.declared.reading.ReadPlace.TheVariants.{ReadCurrent, ReadUnsure, ReadRecheck, ReadRing}
+use Rattle.nam_calls.specs.declared.reading.ReadPlace.TheVariants.{ReadCells, ReadHorizon}
 use Rattle.nam_calls.specs.Words.{slot_of}
 use Rattle.nam_calls.specs.Record.{current_verb, words_verb, install_verb}
 use Rattle.nam_calls.specs.Ring.{slot_verb, copy_verb, ring_verb}
@@ -41,11 +44,11 @@ use Rattle.nam_calls.specs.Overflow.{cell_verb, claim_verb, fill_verb}
 use Rattle.nam_calls.specs.Mover.{move_verb}
 use Rattle.nam_calls.specs.Horizon.{collect_verb, old_verb}
 use Rattle.nam_calls.specs.Reading.{read_verb}
-use Rattle.nam_calls.specs.Fits.{IsOf, CurrentFits, WordsFit, InstallFits, CopyFits, RingFits, CellFits, ClaimFits, FillFits, MoveFits}
-use Rattle.nam_calls.specs.Fits.{CollectFits, ReadFits}
-use Rattle.nam_calls.specs.VerbFields.{current_field, words_field, install_field, slot_field, copy_field, ring_field, cell_field}
-use Rattle.nam_calls.specs.VerbFields.{claim_field, fill_field, move_field, snap_field, collect_field, read_field, Reaches, row_place}
-use Rattle.nam_calls.specs.VerbFields.{row_sight}
+use Rattle.nam_calls.specs.Fits.{IsOf, CurrentFits, WordsFit, InstallFits, CopyFits, RingFits, CellFits, ClaimFits}
+use Rattle.nam_calls.specs.Fits.{FillFits, MoveFits, CollectFits, ReadFits}
+use Rattle.nam_calls.specs.VerbFields.{current_field, words_field, install_field, slot_field, copy_field, ring_field}
+use Rattle.nam_calls.specs.VerbFields.{cell_field, claim_field, fill_field, move_field, snap_field, collect_field}
+use Rattle.nam_calls.specs.VerbFields.{read_field, Reaches, row_place, row_sight}
 use Rattle.nam_layout.specs.declared.field.Field.TheVariants.{Horizon}
 
 -- 1. Words of a position

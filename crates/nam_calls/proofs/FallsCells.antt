@@ -9,7 +9,8 @@ use Rattle.nam_layout.specs.PlaceFits.{FitsPlace, FitsCells}
 use Rattle.nam_calls.specs.declared.ring.SearchEnd.{SearchEnd}
 use Rattle.nam_calls.specs.declared.ring.SearchEnd.TheVariants.{Found, NotThere}
 use Rattle.nam_calls.specs.declared.overflow.CellPlace.{CellPlace}
-use Rattle.nam_calls.specs.declared.overflow.CellPlace.TheVariants.{CellTag, CellOwner, CellBegin, CellEnding, CellWords, CellAgain}
+use Rattle.nam_calls.specs.declared.overflow.CellPlace.TheVariants.{CellTag, CellOwner, CellBegin, CellEnding}
+use Rattle.nam_calls.specs.declared.overflow.CellPlace.TheVariants.{CellWords, CellAgain}
 use Rattle.nam_calls.specs.declared.overflow.ClaimPlace.{ClaimPlace}
 use Rattle.nam_calls.specs.declared.overflow.ClaimPlace.TheVariants.{ClaimLook, ClaimTake}
 use Rattle.nam_calls.specs.declared.overflow.ClaimEnd.{ClaimEnd}
@@ -18,11 +19,13 @@ use Rattle.nam_calls.specs.declared.overflow.Version.{Version}
 use Rattle.nam_calls.specs.declared.overflow.FillPlace.{FillPlace}
 use Rattle.nam_calls.specs.declared.overflow.FillPlace.TheVariants.{FillOwner, FillBegin, FillEnding, FillWord}
 use Rattle.nam_calls.specs.declared.mover.MovePlace.{MovePlace}
-use Rattle.nam_calls.specs.declared.mover.MovePlace.TheVariants.{MoveCount, MoveHead, MoveEnding, MoveClaim, MoveWords, MoveFill, MoveAgain, MoveFull, MoveFlag, MoveBack}
+use Rattle.nam_calls.specs.declared.mover.MovePlace.TheVariants.{MoveCount, MoveHead, MoveEnding, MoveClaim, MoveWords}
+use Rattle.nam_calls.specs.declared.mover.MovePlace.TheVariants.{MoveFill, MoveAgain, MoveFull, MoveFlag, MoveBack}
 use Rattle.nam_calls.specs.declared.mover.MoveAnswer.{MoveAnswer}
 use Rattle.nam_calls.specs.declared.mover.MoveAnswer.TheVariants as answer
 use Rattle.nam_calls.specs.Stamps.{is_deleted, without_moved, written}
-use Rattle.nam_calls.specs.Overflow.{cell_after, cell_left, cells_left, next_cell, claim_next, claim_after, claim_left, fill_begin, fill_after, fill_left}
+use Rattle.nam_calls.specs.Overflow.{cell_after, cell_left, cells_left, next_cell, claim_next, claim_after, claim_left}
+use Rattle.nam_calls.specs.Overflow.{fill_begin, fill_after, fill_left}
 use Rattle.nam_calls.specs.Mover.{on_claim, on_fill, move_after, move_left}
 use Rattle.nam_calls.specs.Fits.{Falls, Any, SearchEnds, CellFits, ClaimFits, ClaimEnds, FillFits, MoveFits}
 use Rattle.nam_calls.proofs.FallsTests.{either, or_last, one_more, later_row, wide_or_none}

@@ -11,7 +11,8 @@ use Rattle.nam_calls.specs.declared.lock.LockPlace.TheVariants.{Peek, Seize, Giv
 use Rattle.nam_calls.specs.declared.lock.LockEnd.{LockEnd}
 use Rattle.nam_calls.specs.declared.lock.LockEnd.TheVariants.{Held, Locked, Newer}
 use Rattle.nam_calls.specs.Stamps.{sees, is_locked}
-use Rattle.nam_calls.specs.Lock.{nth_place, loss_of, give_back, lock_next, lock_after, lock_left, unlock_after, unlock_left}
+use Rattle.nam_calls.specs.Lock.{nth_place, loss_of, give_back, lock_next, lock_after, lock_left, unlock_after}
+use Rattle.nam_calls.specs.Lock.{unlock_left}
 use Rattle.nam_calls.specs.Fits.{FallsTo, Falls, Any, LockFits, LockEnds, after_locks}
 use Rattle.nam_calls.proofs.FallsTests.{either, by_test, or_last}
 

@@ -33,8 +33,10 @@ use Rattle.nam_calls.specs.Stamps.{is_deleted, is_locked}
 use Rattle.nam_calls.specs.Words.{capacity_of, on_path, key_word, slot_of}
 use Rattle.nam_calls.specs.Index.{find_after, find_left, claim_key_after, claim_key_next, claim_key_left}
 use Rattle.nam_calls.specs.Record.{current_after, current_left, words_after, words_left, install_after, install_left}
-use Rattle.nam_calls.specs.Ring.{slot_after, slot_left, copy_after, copy_left, next_slot, ring_after, slots_left, ring_left}
-use Rattle.nam_calls.specs.Fits.{Falls, Any, FindFits, FindEnds, ClaimKeyFits, ClaimKeyEnds, CurrentFits, CurrentEnds, WordsFit, WordsEnd, InstallFits, SlotEnds, CopyFits, RingFits, SearchEnds}
+use Rattle.nam_calls.specs.Ring.{slot_after, slot_left, copy_after, copy_left, next_slot, ring_after, slots_left}
+use Rattle.nam_calls.specs.Ring.{ring_left}
+use Rattle.nam_calls.specs.Fits.{Falls, Any, FindFits, FindEnds, ClaimKeyFits, ClaimKeyEnds, CurrentFits, CurrentEnds}
+use Rattle.nam_calls.specs.Fits.{WordsFit, WordsEnd, InstallFits, SlotEnds, CopyFits, RingFits, SearchEnds}
 use Rattle.nam_calls.proofs.FallsTests.{either, by_test, or_last, one_more, later_row, wide_or_none}
 
 -- 1. Finding and claiming a key

@@ -14,18 +14,21 @@ use Rattle.nam_calls.specs.declared.ring.SearchEnd.{SearchEnd}
 use Rattle.nam_calls.specs.declared.ring.SearchEnd.TheVariants.{Found, NotThere}
 use Rattle.nam_calls.specs.declared.overflow.CellPlace.{CellPlace}
 use Rattle.nam_calls.specs.declared.horizon.CollectPlace.{CollectPlace}
-use Rattle.nam_calls.specs.declared.horizon.CollectPlace.TheVariants.{HorizonLook, HorizonRaise, CollectTag, CollectEnding, CollectFree}
+use Rattle.nam_calls.specs.declared.horizon.CollectPlace.TheVariants.{HorizonLook, HorizonRaise, CollectTag}
+use Rattle.nam_calls.specs.declared.horizon.CollectPlace.TheVariants.{CollectEnding, CollectFree}
 use Rattle.nam_calls.specs.declared.horizon.OldEnd.{OldEnd}
 use Rattle.nam_calls.specs.declared.horizon.OldEnd.TheVariants.{TooOld, NotPassed}
 use Rattle.nam_calls.specs.declared.reading.Sight.{Sight}
 use Rattle.nam_calls.specs.declared.reading.ReadPlace.{ReadPlace}
-use Rattle.nam_calls.specs.declared.reading.ReadPlace.TheVariants.{ReadCurrent, ReadUnsure, ReadRecheck, ReadRing, ReadCells, ReadHorizon}
+use Rattle.nam_calls.specs.declared.reading.ReadPlace.TheVariants.{ReadCurrent, ReadUnsure, ReadRecheck, ReadRing}
+use Rattle.nam_calls.specs.declared.reading.ReadPlace.TheVariants.{ReadCells, ReadHorizon}
 use Rattle.nam_calls.specs.declared.reading.ReadingEnd.{ReadingEnd}
 use Rattle.nam_calls.specs.declared.reading.ReadingEnd.TheVariants.{Got}
 use Rattle.nam_calls.specs.Record.{current_begin}
 use Rattle.nam_calls.specs.Ring.{ring_begin}
 use Rattle.nam_calls.specs.Horizon.{collect_after, collect_next, collect_left, entry_known, old_after, old_left}
-use Rattle.nam_calls.specs.Reading.{on_current, on_unsure, on_ring, on_cells, on_horizon, read_after, ring_whole, cells_whole, old_versions_left, read_left}
+use Rattle.nam_calls.specs.Reading.{on_current, on_unsure, on_ring, on_cells, on_horizon, read_after, ring_whole}
+use Rattle.nam_calls.specs.Reading.{cells_whole, old_versions_left, read_left}
 use Rattle.nam_calls.specs.Fits.{Falls, IsOf, CollectFits, CollectEnds, OldEnds, SightFits, ReadFits, ReadEnds}
 use Rattle.nam_calls.proofs.FallsTests.{either, by_test, or_last, one_more, all_rows}
 use Rattle.nam_calls.proofs.FallsMachines.{CurrentFalls, current_falls, RingFalls, ring_falls}

@@ -1,5 +1,6 @@
 -- The snapshot and the collection are their straight programs.
-use Rattle.std.proofs.Common.{◌≡◌, ℕ, zero, suc, ◌+◌, ◌<◌, false, ◌&&◌, List, [], ◌∷◌, ◌++◌, length, refl, sym, ap, arith, length-append, subst}
+use Rattle.std.proofs.Common.{◌≡◌, ℕ, zero, suc, ◌+◌, ◌<◌, false, ◌&&◌, List, [], ◌∷◌, ◌++◌, length, refl, sym, ap}
+use Rattle.std.proofs.Common.{arith, length-append, subst}
 use Rattle.std.specs.Prelude.{◌==◌, nat_lt, if◌then◌else◌, slice_index}
 use Rattle.std.proofs.lemmas.Bool.Decides.{nat_tests}
 use Rattle.nam_verbs.specs.declared.now.Now.{Now}
@@ -15,8 +16,10 @@ use Rattle.nam_calls.specs.declared.horizon.CollectPlace.TheVariants.{HorizonLoo
 use Rattle.nam_calls.specs.Stamps.{stamp_in, is_within, is_full, has_next}
 use Rattle.nam_calls.specs.Horizon.{collect_begin, collect_verb, collect_after, collect_next, entry_known}
 use Rattle.nam_calls.specs.Program.{Prog, ◌>>=◌, IsProgram, standing, taking}
-use Rattle.nam_calls.specs.ProgramCollect.{second_pass, snap_program, raised, raise_entries, free_cells, collect_program, CollectIsProgram}
-use Rattle.nam_calls.proofs.Programs.{both, both_not, is_last, is_more, at_last, before_last, word_then, words_is, the_program}
+use Rattle.nam_calls.specs.ProgramCollect.{second_pass, snap_program, raised, raise_entries, free_cells}
+use Rattle.nam_calls.specs.ProgramCollect.{collect_program, CollectIsProgram}
+use Rattle.nam_calls.proofs.Programs.{both, both_not, is_last, is_more, at_last, before_last, word_then, words_is}
+use Rattle.nam_calls.proofs.Programs.{the_program}
 
 -- 1. The snapshot
 

@@ -1,5 +1,6 @@
 -- The read is its straight program.
-use Rattle.std.proofs.Common.{◌≡◌, ℕ, zero, suc, ◌+◌, ◌-◌, ◌<◌, not, ◌&&◌, ◌||◌, List, [], ◌∷◌, ◌++◌, length, Some, refl, arith}
+use Rattle.std.proofs.Common.{◌≡◌, ℕ, zero, suc, ◌+◌, ◌-◌, ◌<◌, not, ◌&&◌, ◌||◌, List, [], ◌∷◌, ◌++◌, length, Some}
+use Rattle.std.proofs.Common.{refl, arith}
 use Rattle.std.specs.Prelude.{◌==◌, nat_lt, slice_index, if◌then◌else◌}
 use Rattle.nam_verbs.specs.declared.verb.Verb.TheVariants.{Read}
 use Rattle.nam_verbs.specs.declared.now.Now.{Now}
@@ -27,10 +28,13 @@ use Rattle.nam_calls.specs.Words.{word_at, slot_word_at, cell_word_at}
 use Rattle.nam_calls.specs.Ring.{ring_begin, ring_verb, ring_after, next_slot}
 use Rattle.nam_calls.specs.Overflow.{cell_begin, cell_verb, cell_after, next_cell}
 use Rattle.nam_calls.specs.Horizon.{old_begin, old_verb, old_after}
-use Rattle.nam_calls.specs.Reading.{read_begin, read_verb, read_after, on_current, on_unsure, on_ring, on_cells, on_horizon}
+use Rattle.nam_calls.specs.Reading.{read_begin, read_verb, read_after, on_current, on_unsure, on_ring, on_cells}
+use Rattle.nam_calls.specs.Reading.{on_horizon}
 use Rattle.nam_calls.specs.Program.{Prog, Ret, Do, ◌>>=◌, IsProgram, standing, taking}
-use Rattle.nam_calls.specs.ProgramRead.{search_ring, search_cells, show_old, found_or, reading_end, old_versions, read_program, SightHasAll, ReadIsProgram}
-use Rattle.nam_calls.proofs.Programs.{both, both_not, is_last, is_more, at_last, before_last, if_in, word_then, words_is, part_is, the_program}
+use Rattle.nam_calls.specs.ProgramRead.{search_ring, search_cells, show_old, found_or, reading_end, old_versions}
+use Rattle.nam_calls.specs.ProgramRead.{read_program, SightHasAll, ReadIsProgram}
+use Rattle.nam_calls.proofs.Programs.{both, both_not, is_last, is_more, at_last, before_last, if_in, word_then}
+use Rattle.nam_calls.proofs.Programs.{words_is, part_is, the_program}
 
 module _ (place : Place) (seen : List ℕ) (wide : 0 < place.width) where
   -- 1. The search of the ring

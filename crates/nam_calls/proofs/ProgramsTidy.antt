@@ -20,7 +20,8 @@ use Rattle.nam_calls.specs.Overflow.{claim_begin, claim_verb, claim_after, claim
 use Rattle.nam_calls.specs.Mover.{move_begin, move_verb, move_after, on_claim, on_fill}
 use Rattle.nam_calls.specs.Program.{Prog, IsProgram, standing, taking}
 use Rattle.nam_calls.specs.ProgramTidy.{claim_cell, after_claim, move_program, MoveIsProgram}
-use Rattle.nam_calls.proofs.Programs.{both, both_not, is_last, is_more, if_in, word_then, words_is, writes_is, part_is, the_program}
+use Rattle.nam_calls.proofs.Programs.{both, both_not, is_last, is_more, if_in, word_then, words_is, writes_is, part_is}
+use Rattle.nam_calls.proofs.Programs.{the_program}
 
 -- 1. The claim of a cell
 

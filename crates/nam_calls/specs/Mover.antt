@@ -13,12 +13,14 @@ use Rattle.nam_calls.specs.declared.overflow.ClaimEnd.TheVariants.{Claimed, NoRo
 use Rattle.nam_calls.specs.declared.overflow.Version.{Version}
 use Rattle.nam_calls.specs.declared.overflow.FillPlace.{FillPlace}
 use Rattle.nam_calls.specs.declared.mover.MovePlace.{MovePlace}
-use Rattle.nam_calls.specs.declared.mover.MovePlace.TheVariants.{MoveCount, MoveHead, MoveEnding, MoveClaim, MoveWords, MoveFill, MoveAgain, MoveFull, MoveFlag, MoveBack}
+use Rattle.nam_calls.specs.declared.mover.MovePlace.TheVariants.{MoveCount, MoveHead, MoveEnding, MoveClaim, MoveWords}
+use Rattle.nam_calls.specs.declared.mover.MovePlace.TheVariants.{MoveFill, MoveAgain, MoveFull, MoveFlag, MoveBack}
 use Rattle.nam_calls.specs.declared.mover.MoveAnswer.{MoveAnswer}
 use Rattle.nam_calls.specs.declared.mover.MoveAnswer.TheVariants as answer
 use Rattle.nam_calls.specs.Stamps.{stamp_in, is_moved, with_moved, without_moved, freed, full}
 use Rattle.nam_calls.specs.Words.{slot_at, slot_end_at, slot_word_at, slot_of, tag_at, until}
-use Rattle.nam_calls.specs.Overflow.{claim_begin, claim_verb, claim_after, claim_left, fill_begin, fill_verb, fill_after, fill_left}
+use Rattle.nam_calls.specs.Overflow.{claim_begin, claim_verb, claim_after, claim_left, fill_begin, fill_verb}
+use Rattle.nam_calls.specs.Overflow.{fill_after, fill_left}
 
 abbrev pub move_begin : MovePlace
 move_begin = MoveCount

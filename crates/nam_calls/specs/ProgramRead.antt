@@ -1,5 +1,6 @@
 -- The read at a position as a straight program, to be compared with the order of verbs.
-use Rattle.std.specs.Prelude.{ℕ, zero, suc, ◌+◌, ◌-◌, ◌<◌, ◌==◌, ◌&&◌, ◌||◌, not, nat_lt, if◌then◌else◌, List, [], Some, None, slice_index}
+use Rattle.std.specs.Prelude.{ℕ, zero, suc, ◌+◌, ◌-◌, ◌<◌, ◌==◌, ◌&&◌, ◌||◌, not, nat_lt, if◌then◌else◌, List, [], Some}
+use Rattle.std.specs.Prelude.{None, slice_index}
 use Rattle.nam_verbs.specs.declared.now.Now.TheVariants.{At}
 use Rattle.nam_layout.specs.declared.field.Place.{Place}
 use Rattle.nam_layout.specs.declared.field.Cells.{Cells}
@@ -11,7 +12,8 @@ use Rattle.nam_calls.specs.declared.reading.Sight.{Sight}
 use Rattle.nam_calls.specs.declared.reading.ReadingEnd.{ReadingEnd}
 use Rattle.nam_calls.specs.declared.reading.ReadingEnd.TheVariants.{Got, Passed, Astray}
 use Rattle.nam_calls.specs.Stamps.{sees, is_deleted, is_locked, same_stamp, mark, is_full}
-use Rattle.nam_calls.specs.Words.{word_at, slot_at, slot_end_at, slot_word_at, tag_at, owner_at, begin_at, end_at, cell_word_at, horizon_at}
+use Rattle.nam_calls.specs.Words.{word_at, slot_at, slot_end_at, slot_word_at, tag_at, owner_at, begin_at, end_at}
+use Rattle.nam_calls.specs.Words.{cell_word_at, horizon_at}
 use Rattle.nam_calls.specs.Reading.{read_begin, read_verb, read_after}
 use Rattle.nam_calls.specs.Program.{Prog, Ret, ◌>>=◌, read, words, IsTheProgram, standing, taking}
 

@@ -8,9 +8,11 @@ use Rattle.nam_calls.specs.declared.overflow.ClaimEnd.TheVariants.{Claimed, NoRo
 use Rattle.nam_calls.specs.declared.mover.MoveAnswer.{MoveAnswer}
 use Rattle.nam_calls.specs.declared.mover.MoveAnswer.TheVariants as answer
 use Rattle.nam_calls.specs.Stamps.{stamp_in, is_moved, with_moved, without_moved, is_free, written, full, freed}
-use Rattle.nam_calls.specs.Words.{slot_at, slot_end_at, slot_word_at, slot_of, tag_at, owner_at, begin_at, end_at, cell_word_at}
+use Rattle.nam_calls.specs.Words.{slot_at, slot_end_at, slot_word_at, slot_of, tag_at, owner_at, begin_at, end_at}
+use Rattle.nam_calls.specs.Words.{cell_word_at}
 use Rattle.nam_calls.specs.Mover.{move_begin, move_verb, move_after}
-use Rattle.nam_calls.specs.Program.{Prog, Ret, ◌>>=◌, ◌>>◌, read, exchange, write, words, write_words, IsTheProgram, standing, taking}
+use Rattle.nam_calls.specs.Program.{Prog, Ret, ◌>>=◌, ◌>>◌, read, exchange, write, words, write_words, IsTheProgram}
+use Rattle.nam_calls.specs.Program.{standing, taking}
 
 -- the first cell that is free and whose tag is exchanged, of so many from this one on
 abbrev pub claim_cell : Cells → ℕ → ℕ → Prog ClaimEnd

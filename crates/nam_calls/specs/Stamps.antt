@@ -1,5 +1,6 @@
 -- What the calls read from header words and tags, and write to them.
-use Rattle.std.specs.Prelude.{ℕ, ◌+◌, ◌-◌, ◌*◌, ◌/◌, ◌%◌, ◌^◌, ◌==◌, ◌&&◌, nat_lt, nat_le, Bool, false, not, if◌then◌else◌, List, length, slice_index}
+use Rattle.std.specs.Prelude.{ℕ, ◌+◌, ◌-◌, ◌*◌, ◌/◌, ◌%◌, ◌^◌, ◌==◌, ◌&&◌, nat_lt, nat_le, Bool, false, not}
+use Rattle.std.specs.Prelude.{if◌then◌else◌, List, length, slice_index}
 use Rattle.si_model.specs.declared.log.Stamp.{Stamp}
 use Rattle.nam_catalog.specs.declared.form.Form.{Form}
 use Rattle.nam_header.specs.Header.{word_of, header_of}

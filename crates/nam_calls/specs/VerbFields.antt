@@ -1,15 +1,15 @@
--- The field at which each place's verb stands.
-use Rattle.std.specs.Prelude.{◌≡◌, ℕ, ◌+◌, List, length, slice_index, Option, Some, None}
+-- The field at which each place's verb stands, in the calls of the memory side.
+use Rattle.std.specs.Prelude.{◌≡◌, ℕ, ◌+◌, List, length}
 use Rattle.nam_verbs.specs.declared.verb.Verb.{Verb}
 use Rattle.nam_verbs.specs.Verb.{address_of}
 use Rattle.nam_catalog.specs.declared.shape.Shape.{Shape}
 use Rattle.nam_layout.specs.declared.field.Field.{Field}
-use Rattle.nam_layout.specs.declared.field.Field.TheVariants.{Entry, Horizon, Key, Header, Count, Word, SlotHeader, SlotEnd, SlotWord, Tag}
-use Rattle.nam_layout.specs.declared.field.Field.TheVariants.{Owner, Begin, End, CellWord}
+use Rattle.nam_layout.specs.declared.field.Field.TheVariants.{Entry, Horizon, Key, Header, Count, Word, SlotHeader}
+use Rattle.nam_layout.specs.declared.field.Field.TheVariants.{SlotEnd, SlotWord, Tag, Owner, Begin, End, CellWord}
 use Rattle.nam_layout.specs.declared.field.Place.{Place}
 use Rattle.nam_layout.specs.declared.field.Cells.{Cells}
 use Rattle.nam_layout.specs.Address.{IsField, address}
-use Rattle.nam_layout.specs.Place.{place_of, cells_of}
+use Rattle.nam_layout.specs.Place.{place_of}
 use Rattle.nam_layout.specs.Place as layout
 use Rattle.nam_vector.specs.declared.snap.SnapPlace.{SnapPlace}
 use Rattle.nam_vector.specs.declared.snap.SnapPlace.TheVariants.{First, Second}
@@ -26,37 +26,26 @@ use Rattle.nam_calls.specs.declared.ring.CopyPlace.TheVariants.{CopyMark, CopyEn
 use Rattle.nam_calls.specs.declared.ring.RingPlace.{RingPlace}
 use Rattle.nam_calls.specs.declared.ring.RingPlace.TheVariants.{SlotHead, SlotEnding, SlotWords, SlotAgain}
 use Rattle.nam_calls.specs.declared.overflow.CellPlace.{CellPlace}
-use Rattle.nam_calls.specs.declared.overflow.CellPlace.TheVariants.{CellTag, CellOwner, CellBegin, CellEnding, CellWords, CellAgain}
+use Rattle.nam_calls.specs.declared.overflow.CellPlace.TheVariants.{CellTag, CellOwner, CellBegin, CellEnding}
+use Rattle.nam_calls.specs.declared.overflow.CellPlace.TheVariants.{CellWords, CellAgain}
 use Rattle.nam_calls.specs.declared.overflow.ClaimPlace.{ClaimPlace}
 use Rattle.nam_calls.specs.declared.overflow.ClaimPlace.TheVariants.{ClaimLook, ClaimTake}
 use Rattle.nam_calls.specs.declared.overflow.FillPlace.{FillPlace}
 use Rattle.nam_calls.specs.declared.overflow.FillPlace.TheVariants.{FillOwner, FillBegin, FillEnding, FillWord}
 use Rattle.nam_calls.specs.declared.mover.MovePlace.{MovePlace}
-use Rattle.nam_calls.specs.declared.mover.MovePlace.TheVariants.{MoveCount, MoveHead, MoveEnding, MoveClaim, MoveWords, MoveFill, MoveAgain}
-use Rattle.nam_calls.specs.declared.mover.MovePlace.TheVariants.{MoveFull, MoveFlag, MoveBack}
+use Rattle.nam_calls.specs.declared.mover.MovePlace.TheVariants.{MoveCount, MoveHead, MoveEnding, MoveClaim, MoveWords}
+use Rattle.nam_calls.specs.declared.mover.MovePlace.TheVariants.{MoveFill, MoveAgain, MoveFull, MoveFlag, MoveBack}
 use Rattle.nam_calls.specs.declared.horizon.CollectPlace.{CollectPlace}
-use Rattle.nam_calls.specs.declared.horizon.CollectPlace.TheVariants.{HorizonLook, HorizonRaise, CollectTag, CollectEnding, CollectFree}
+use Rattle.nam_calls.specs.declared.horizon.CollectPlace.TheVariants.{HorizonLook, HorizonRaise, CollectTag}
+use Rattle.nam_calls.specs.declared.horizon.CollectPlace.TheVariants.{CollectEnding, CollectFree}
 use Rattle.nam_calls.specs.declared.lock.LockPlace.{LockPlace}
 use Rattle.nam_calls.specs.declared.lock.LockPlace.TheVariants.{Peek, Seize, GiveBack}
 use Rattle.nam_calls.specs.declared.reading.Sight.{Sight}
 use Rattle.nam_calls.specs.declared.reading.ReadPlace.{ReadPlace}
-use Rattle.nam_calls.specs.declared.reading.ReadPlace.TheVariants.{ReadCurrent, ReadUnsure, ReadRecheck, ReadRing, ReadCells, ReadHorizon}
-use Rattle.nam_calls.specs.declared.scan.ScanPlace.{ScanPlace}
-use Rattle.nam_calls.specs.declared.scan.ScanPlace.TheVariants.{ScanKey, ScanRead}
-use Rattle.nam_calls.specs.declared.txn.TxnState.{TxnState}
-use Rattle.nam_calls.specs.declared.txn.TxnPlace.{TxnPlace}
-use Rattle.nam_calls.specs.declared.txn.TxnPlace.TheVariants.{Finding, Reading, Claiming, Committing}
-use Rattle.nam_calls.specs.declared.txn.CommitPlace.{CommitPlace}
-use Rattle.nam_calls.specs.declared.txn.CommitPlace.TheVariants.{Locking, Checking, Returning, Saving, Copying, Installing, Publishing, Freeing}
-use Rattle.nam_calls.specs.declared.client.CallPlace.{CallPlace}
-use Rattle.nam_calls.specs.declared.client.CallPlace.TheVariants.{Beginning, InTxn, Scanning, Seeking, Moving, Snapping, Collecting}
-use Rattle.nam_calls.specs.declared.client.Open.{Open}
-use Rattle.nam_calls.specs.declared.client.ClientState.{ClientState}
+use Rattle.nam_calls.specs.declared.reading.ReadPlace.TheVariants.{ReadCurrent, ReadUnsure, ReadRecheck, ReadRing}
+use Rattle.nam_calls.specs.declared.reading.ReadPlace.TheVariants.{ReadCells, ReadHorizon}
 use Rattle.nam_calls.specs.Words.{slot_of, cells_by, capacity_of, on_path}
 use Rattle.nam_calls.specs.Lock.{nth_place}
-use Rattle.nam_calls.specs.Reading.{sight_of}
-use Rattle.nam_calls.specs.Operations.{key_of}
-use Rattle.nam_calls.specs.Commit.{places, place_at}
 
 -- 1. Words of a position
 
@@ -141,7 +130,7 @@ collect_field cells (CollectTag known cell) = Tag cells.bucket cell
 collect_field cells (CollectEnding known cell tag) = End cells.bucket cell
 collect_field cells (CollectFree known cell tag) = Tag cells.bucket cell
 
--- 4. A whole read, and a scan
+-- 4. A whole read
 
 abbrev pub read_field : Sight → ReadPlace → Field
 read_field sight (ReadCurrent at) = current_field sight.place at
@@ -151,51 +140,16 @@ read_field sight (ReadRing at) = ring_field sight.place at
 read_field sight (ReadCells at) = cell_field sight.cells at
 read_field sight (ReadHorizon worker) = Horizon worker
 
-abbrev pub scan_field : Shape → ℕ → ScanPlace → Field
-scan_field shape table (ScanKey position) = Key (place_of shape table position).row
-scan_field shape table (ScanRead position key at) = read_field (sight_of shape table position) at
-
--- 5. A transaction
+-- 5. Locks
 
 abbrev pub lock_field : List Place → LockPlace → Field
 lock_field places (Peek held) = Header (nth_place places (length held)).row
 lock_field places (Seize held header) = Header (nth_place places (length held)).row
 lock_field places (GiveBack held given found) = Header (nth_place places given).row
 
-abbrev pub commit_field : TxnState → CommitPlace → Field
-commit_field state (Locking at) = lock_field (places state) at
-commit_field state (Checking at) = slot_field (place_at state (length state.counts)) at
-commit_field state (Returning given full) = Header (place_at state given).row
-commit_field state (Saving nth got) = words_field (place_at state nth) got
-commit_field state (Copying nth old at) = copy_field (place_at state nth) (slice_index state.counts nth) at
-commit_field state (Installing nth at) = install_field (place_at state nth) at
-commit_field state Publishing = Entry state.worker
-commit_field state (Freeing nth) = Header (place_at state nth).row
+-- 6. The verb reaches the field, which is one of the shape's
 
 module _ (shape : Shape) where
-  abbrev pub txn_field : TxnState → TxnPlace → Field
-  txn_field state (Finding op passed) = path_field shape (key_of op).table (key_of op).key passed
-  txn_field state (Reading op position at) = read_field (sight_of shape (key_of op).table position) at
-  txn_field state (Claiming op at) = claim_key_field shape (key_of op).table (key_of op).key at
-  txn_field state (Committing at) = commit_field state at
-
-  -- 6. A client
-
-  abbrev pub open_field : Option Open → TxnPlace → Field
-  open_field None at = Entry 0
-  open_field (Some attempt) at = txn_field attempt.state at
-
-  abbrev pub call_field : ClientState → CallPlace → Field
-  call_field client (Beginning txn nth at) = snap_field at
-  call_field client (InTxn at) = open_field client.txn at
-  call_field client (Scanning table low high at) = scan_field shape table at
-  call_field client (Seeking table key passed) = path_field shape table key passed
-  call_field client (Moving table key position at) = move_field (place_of shape table position) (cells_by shape (place_of shape table position)) at
-  call_field client (Snapping bucket at) = snap_field at
-  call_field client (Collecting bucket prefix seen at) = collect_field (cells_of shape bucket) at
-
-  -- 7. The verb reaches the field, which is one of the shape's
-
   abbrev pub Reaches : Verb → Field → Type 0
   Reaches verb field = IsField shape field × (address_of verb ≡ address shape field)
 

@@ -17,11 +17,11 @@ use Rattle.nam_calls.specs.Words.{capacity_of, key_word}
 use Rattle.nam_calls.specs.Index.{find_begin, find_verb, find_after, find_left, claim_key_begin, claim_key_verb}
 use Rattle.nam_calls.specs.Index.{claim_key_after, claim_key_left}
 use Rattle.nam_calls.specs.Fits.{Falls, FindFits, FindEnds, ClaimKeyFits, ClaimKeyEnds}
-use Rattle.nam_calls.specs.TxnFits.{IsTableOf}
+use Rattle.nam_calls.specs.Fits.{IsTableOf}
 use Rattle.nam_calls.specs.VerbFields.{Reaches, path_field, claim_key_field}
 use Rattle.nam_calls.proofs.FallsMachines.{find_falls, claim_key_falls}
-use Rattle.nam_calls.proofs.FallsKeys.{has_capacity}
-use Rattle.nam_calls.proofs.AddressesCalls.{path_reaches, claim_key_reaches}
+use Rattle.nam_calls.proofs.FallsTables.{has_capacity}
+use Rattle.nam_calls.proofs.AddressesTables.{path_reaches, claim_key_reaches}
 use Rattle.nam_index.specs.Path.{path_of}
 use Rattle.nam_index.specs.Find as find
 use Rattle.nam_index.specs.Claim as claim

@@ -14,8 +14,8 @@ use Rattle.nam_catalog.specs.Words.{position_words, table_words, tables_words}
 use Rattle.nam_layout.specs.Rows.{row_of, row_at}
 use Rattle.nam_layout.proofs.TestLemmas.{if_less, if_not_less}
 use Rattle.nam_calls.specs.Words.{capacity_of, on_path, path_at}
-use Rattle.nam_calls.specs.TxnFits.{IsTableOf}
-use Rattle.nam_calls.proofs.FallsKeys.{has_capacity}
+use Rattle.nam_calls.specs.Fits.{IsTableOf}
+use Rattle.nam_calls.proofs.FallsTables.{has_capacity}
 use Rattle.nam_index.specs.Path.{path_of, position_at, key_at, FitsPath}
 use Rattle.nam_index.specs.PathLaw.{GoesThrough}
 

@@ -7,7 +7,7 @@ use Rattle.nam_catalog.specs.Fits.{FitsLimits}
 use Rattle.nam_calls.specs.declared.index.FindEnd.TheVariants.{At, Absent}
 use Rattle.nam_calls.specs.Words.{capacity_of, on_path, path_at, key_word}
 use Rattle.nam_calls.specs.Index.{find_verb}
-use Rattle.nam_calls.specs.TxnFits.{IsTableOf}
+use Rattle.nam_calls.specs.Fits.{IsTableOf}
 use Rattle.nam_calls.specs.VerbFields.{Reaches, path_field}
 use Rattle.nam_index.specs.Find.{finding, running}
 

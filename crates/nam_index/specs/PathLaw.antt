@@ -7,7 +7,7 @@ use Rattle.nam_catalog.specs.Words.{words_of}
 use Rattle.nam_calls.specs.Words.{on_path}
 use Rattle.nam_calls.specs.Index.{find_begin, find_verb, find_after, find_left, claim_key_begin, claim_key_verb}
 use Rattle.nam_calls.specs.Index.{claim_key_after, claim_key_left}
-use Rattle.nam_calls.specs.TxnFits.{IsTableOf}
+use Rattle.nam_calls.specs.Fits.{IsTableOf}
 use Rattle.nam_index.specs.Find as find
 use Rattle.nam_index.specs.Claim as claim
 

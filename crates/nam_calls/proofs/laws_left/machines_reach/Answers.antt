@@ -1,6 +1,6 @@
-use Rattle.nam_calls.proofs.AddressesMachines.{current_reaches, words_reach, install_reaches, slot_reaches, copy_reaches, ring_reaches}
-use Rattle.nam_calls.proofs.AddressesMachines.{cell_reaches, claim_reaches, fill_reaches, move_reaches, snap_reaches, old_reaches}
-use Rattle.nam_calls.proofs.AddressesMachines.{collect_reaches}
+use Rattle.nam_calls.proofs.AddressesMachines.{current_reaches, words_reach, install_reaches, slot_reaches}
+use Rattle.nam_calls.proofs.AddressesMachines.{copy_reaches, ring_reaches, cell_reaches, claim_reaches, fill_reaches}
+use Rattle.nam_calls.proofs.AddressesMachines.{move_reaches, snap_reaches, old_reaches, collect_reaches}
 use Rattle.nam_calls.proofs.laws_left.machines_reach.Goals as goal
 
 pub returns-clause-row : goal.returns-clause-row

@@ -1,4 +1,5 @@
-use Rattle.nam_calls.proofs.FallsMachines.{find_falls, claim_key_falls, current_falls, words_fall, install_falls, slot_falls, copy_falls, ring_falls}
+use Rattle.nam_calls.proofs.FallsMachines.{find_falls, claim_key_falls, current_falls, words_fall, install_falls}
+use Rattle.nam_calls.proofs.FallsMachines.{slot_falls, copy_falls, ring_falls}
 use Rattle.nam_calls.proofs.laws_left.position_falls.Goals as goal
 
 pub returns-clause-find : goal.returns-clause-find

@@ -1,6 +1,5 @@
 use Rattle.nam_calls.proofs.FallsRead.{read_falls}
-use Rattle.nam_calls.proofs.FallsKeys.{sight_fits}
-use Rattle.nam_calls.proofs.FallsTxn.{read_figure}
+use Rattle.nam_calls.proofs.FallsTables.{sight_fits, read_figure}
 use Rattle.nam_calls.proofs.laws_left.read_falls.Goals as goal
 
 pub returns-clause-falls : goal.returns-clause-falls

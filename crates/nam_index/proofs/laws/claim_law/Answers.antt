@@ -4,7 +4,7 @@ use Rattle.nam_verbs.specs.Steps.{EndsWith}
 use Rattle.nam_calls.specs.declared.index.ClaimKeyPlace.{ClaimKeyPlace}
 use Rattle.nam_calls.specs.declared.index.ClaimKeyEnd.{ClaimKeyEnd}
 use Rattle.nam_calls.specs.declared.index.ClaimKeyEnd.TheVariants.{At, NoSpace}
-use Rattle.nam_calls.proofs.FallsKeys.{has_capacity}
+use Rattle.nam_calls.proofs.FallsTables.{has_capacity}
 use Rattle.nam_index.proofs.MachineLemmas.{claim_is}
 use Rattle.nam_index.proofs.ClaimLemmas.{claimed_by, claims_by, missed_by, misses_by}
 use Rattle.nam_index.proofs.laws.claim_law.Goals as goal

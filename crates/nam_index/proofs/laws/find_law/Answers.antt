@@ -3,7 +3,7 @@ use Rattle.nam_verbs.specs.Running.{Running}
 use Rattle.nam_verbs.specs.Steps.{EndsWith}
 use Rattle.nam_calls.specs.declared.index.FindEnd.{FindEnd}
 use Rattle.nam_calls.specs.declared.index.FindEnd.TheVariants.{At, Absent}
-use Rattle.nam_calls.proofs.FallsKeys.{has_capacity}
+use Rattle.nam_calls.proofs.FallsTables.{has_capacity}
 use Rattle.nam_index.proofs.MachineLemmas.{find_is}
 use Rattle.nam_index.proofs.FindLemmas.{found_by, finds_by, absent_by, misses_by}
 use Rattle.nam_index.proofs.laws.find_law.Goals as goal

@@ -1,6 +1,6 @@
 use Rattle.std.proofs.Common.{sym, ◌∙◌, ap, subst}
 use Rattle.nam_layout.specs.declared.field.Place.{Place}
-use Rattle.nam_calls.proofs.FallsKeys.{has_capacity, width_is, ring_is}
+use Rattle.nam_calls.proofs.FallsTables.{has_capacity, width_is, ring_is}
 use Rattle.nam_index.specs.Path.{key_at, FitsPath}
 use Rattle.nam_index.proofs.PathLemmas.{addresses_are, path_fits}
 use Rattle.nam_index.proofs.path.path_of.Goals as goal

@@ -1,5 +1,0 @@
-use Rattle.nam_calls.proofs.ProgramsCommit.{commits_are_programs}
-use Rattle.nam_calls.proofs.laws_growth.commit_program_law.Goals as goal
-
-pub returns : goal.returns
-returns c = commits_are_programs

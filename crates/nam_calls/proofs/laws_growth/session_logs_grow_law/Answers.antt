@@ -1,5 +1,0 @@
-use Rattle.nam_calls.proofs.GrowsSession.{session_logs_grow}
-use Rattle.nam_calls.proofs.laws_growth.session_logs_grow_law.Goals as goal
-
-pub returns : goal.returns
-returns c = session_logs_grow

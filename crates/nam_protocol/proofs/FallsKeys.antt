@@ -1,0 +1,231 @@
+-- The tables of operations, the keys that a transaction claims, and the records of its commit.
+use Rattle.std.proofs.Common.{◌≡◌, ℕ, zero, suc, ◌+◌, ◌-◌, ◌<◌, ◌≤◌, List, [], ◌∷◌, length, refl, sym, ◌∙◌, ap, subst}
+use Rattle.std.proofs.Common.{arith, inl, inr, Bool, true, false, not, Option, Some, None}
+use Rattle.std.specs.Prelude.{if◌then◌else◌, map, filter, replicate, slice_index_or}
+use Rattle.std.specs.List.{AllByRecursion}
+use Rattle.std.proofs.lemmas.Bool.{cases_Bool, false≢true}
+use Rattle.std.proofs.lemmas.List.{length-set, length-replicate, length-map, length-append}
+use Rattle.si_model.specs.declared.row.Key.{Key}
+use Rattle.si_model.specs.declared.row.Item.{Item}
+use Rattle.si_model.specs.declared.op.Op.{Op}
+use Rattle.si_model.specs.declared.op.Op.TheVariants.{Get, Put, Add, Del, Need, Guard, Scan}
+use Rattle.si_model.specs.Rows.{key_at, same_key, item_key, item_at, writes_key}
+use Rattle.si_model.specs.Evaluation.{field_of, with_field, changed, wrote, guarded, writes_after, guards_after}
+use Rattle.si_model.specs.Evaluation.{unwritten}
+use Rattle.si_model.specs.EvaluationLaws.{IsWide}
+use Rattle.si_model.proofs.EvaluationLemmas.{same_key-refl, same_key_says}
+use Rattle.si_model.proofs.ListLemmas.{All-append, All-map}
+use Rattle.nam_catalog.specs.declared.shape.Table.{Table}
+use Rattle.nam_catalog.specs.declared.shape.Shape.{Shape}
+use Rattle.nam_catalog.specs.Fits.{FitsLimits}
+use Rattle.nam_catalog.specs.Tables.{widths_of}
+use Rattle.nam_layout.specs.PlaceFits.{FitsPlace}
+use Rattle.nam_protocol.specs.declared.txn.Record.{Record}
+use Rattle.nam_protocol.specs.declared.txn.TxnState.{TxnState}
+use Rattle.nam_calls.specs.Words.{no_place, width_of}
+use Rattle.nam_protocol.specs.Operations.{key_of, holding, own_value}
+use Rattle.nam_protocol.specs.Txn.{with_claim}
+use Rattle.nam_protocol.specs.Commit.{record_in, commit_keys, records_of, places, place_at, no_record, record_at}
+use Rattle.nam_calls.specs.Fits.{HasWidth, IsTableOf}
+use Rattle.nam_protocol.specs.TxnFits.{is_claimed, IsPlaced, KeysFit, StateFits, OpStands}
+use Rattle.nam_calls.proofs.FallsTests.{by_test, either}
+use Rattle.nam_calls.proofs.FallsTables.{place_fits}
+
+-- 1. Lists
+
+module _ {A : Type 0} (P : A → Type 0) where
+  pub all_at : (d : A) (xs : List A) (nth : ℕ) → AllByRecursion P xs → nth < length xs → P (slice_index_or xs nth d)
+  all_at d [] nth all l = absurd (omega arith)
+  all_at d (x ∷ xs) zero all l = all.0
+  all_at d (x ∷ xs) (suc nth) all l = all_at d xs nth all.1 (omega arith)
+
+  pub all_filter : (f : A → Bool) (xs : List A) → AllByRecursion P xs → AllByRecursion P (filter f xs)
+  all_filter f [] all = tt
+  all_filter f (x ∷ xs) all =
+      by_test (AllByRecursion P) (f x) (x ∷ filter f xs) (filter f xs) (λ e. (all.0, all_filter f xs all.1)) (λ e. all_filter f xs all.1)
+
+pub place_of_nth : (rs : List Record) (nth : ℕ)
+    → slice_index_or (map (λ (r : Record). r.place) rs) nth no_place ≡ (slice_index_or rs nth no_record).place
+place_of_nth [] nth = refl
+place_of_nth (r ∷ rs) zero = refl
+place_of_nth (r ∷ rs) (suc nth) = place_of_nth rs nth
+
+-- 2. Tables of operations
+
+module _ (shape : Shape) (limits : FitsLimits shape) where
+  pub op_table : (op : Op) → OpStands shape op → IsTableOf shape (key_of op).table
+  op_table (Get t k) s = let e = length-map shape.tables (λ (t : Table). t.width) in let l = s.0.0 in omega arith
+  op_table (Put t k v) s = let e = length-map shape.tables (λ (t : Table). t.width) in let l = s.0.0.0 in omega arith
+  op_table (Add t k f up by) s = let e = length-map shape.tables (λ (t : Table). t.width) in let l = s.0.0.0 in omega arith
+  op_table (Del t k) s = let e = length-map shape.tables (λ (t : Table). t.width) in let l = s.0.0 in omega arith
+  op_table (Need t k f least) s = let e = length-map shape.tables (λ (t : Table). t.width) in let l = s.0.0.0 in omega arith
+  op_table (Guard t k) s = let e = length-map shape.tables (λ (t : Table). t.width) in let l = s.0.0 in omega arith
+  op_table (Scan t low high) s = let e = length-map shape.tables (λ (t : Table). t.width) in let l = s.0.0 in omega arith
+
+-- 3. Claimed keys
+
+or_else : (b x y : Bool) → (x ≡ true → y ≡ true) → (if b then true else x) ≡ true → (if b then true else y) ≡ true
+or_else true x y f e = refl
+or_else false x y f e = f e
+
+claimed_more : (cs : List Record) (r : Record) (key : Key) → is_claimed cs key ≡ true → is_claimed (with_claim cs r) key ≡ true
+claimed_more [] r key e = absurd (false≢true e)
+claimed_more (c ∷ cs) r key e =
+    either (λ (all : List Record). is_claimed all key ≡ true) (same_key c.key r.key) (c ∷ cs) (c ∷ with_claim cs r) e
+    (or_else (same_key c.key key) (is_claimed cs key) (is_claimed (with_claim cs r) key) (claimed_more cs r key) e)
+
+if_true : (b y : Bool) → b ≡ true → (if b then true else y) ≡ true
+if_true true y e = refl
+if_true false y e = absurd (false≢true e)
+
+if_later : (b y : Bool) → y ≡ true → (if b then true else y) ≡ true
+if_later true y e = refl
+if_later false y e = e
+
+claimed_now : (cs : List Record) (r : Record) → is_claimed (with_claim cs r) r.key ≡ true
+claimed_now [] r = if_true (same_key r.key r.key) false (same_key-refl r.key)
+claimed_now (c ∷ cs) r =
+    by_test (λ (all : List Record). is_claimed all r.key ≡ true) (same_key c.key r.key) (c ∷ cs) (c ∷ with_claim cs r)
+    (λ e. if_true (same_key c.key r.key) (is_claimed cs r.key) e)
+    (λ e. if_later (same_key c.key r.key) (is_claimed (with_claim cs r) r.key) (claimed_now cs r))
+
+-- a key that the write set writes is claimed where all of its keys are
+written_claimed : (cs : List Record) (ws : List Item) (key : Key) → AllByRecursion (λ item. is_claimed cs (item_key item) ≡ true) ws
+    → writes_key ws key ≡ true
+    → is_claimed cs key ≡ true
+written_claimed cs [] key all e = absurd (false≢true e)
+written_claimed cs (w ∷ ws) key all e = elim (cases_Bool (same_key (item_key w) key)) [
+  | inl same ↦ subst (λ (k : Key). is_claimed cs k ≡ true) (same_key_says (item_key w) key same) all.0
+  | inr other ↦ written_claimed cs ws key all.1 (rw other at e)
+]
+
+all_wrote : (P : Item → Type 0) (ws : List Item) (i : Item) → AllByRecursion P ws → P i → AllByRecursion P (wrote ws i)
+all_wrote P [] i all new = (new, tt)
+all_wrote P (w ∷ ws) i all new =
+    either (AllByRecursion P) (same_key (item_key w) (item_key i)) (i ∷ ws) (w ∷ wrote ws i) (new, all.1) (all.0, all_wrote P ws i all.1 new)
+
+all_guarded : (P : Key → Type 0) (gs : List Key) (key : Key) → AllByRecursion P gs → P key → AllByRecursion P (guarded gs key)
+all_guarded P [] key all new = (new, tt)
+all_guarded P (g ∷ gs) key all new =
+    either (AllByRecursion P) (same_key g key) (g ∷ gs) (g ∷ guarded gs key) all (all.0, all_guarded P gs key all.1 new)
+
+all_claimed : {A : Type 0} (key : A → Key) (cs : List Record) (r : Record) (xs : List A) → AllByRecursion (λ x. is_claimed cs (key x) ≡ true) xs
+    → AllByRecursion (λ x. is_claimed (with_claim cs r) (key x) ≡ true) xs
+all_claimed key cs r [] all = tt
+all_claimed key cs r (x ∷ xs) all = (claimed_more cs r (key x) all.0, all_claimed key cs r xs all.1)
+
+field_width : (width f n : ℕ) (value : Option (List ℕ)) → HasWidth width value → length (with_field width value f n) ≡ width
+field_width width f n None wide = length-set (replicate width 0) (f - 1) n ∙ length-replicate width 0
+field_width width f n (Some v) wide = length-set v (f - 1) n ∙ wide
+
+module _ (shape : Shape) where
+  placed_more : (cs : List Record) (r : Record) → AllByRecursion (IsPlaced shape) cs → IsPlaced shape r
+      → AllByRecursion (IsPlaced shape) (with_claim cs r)
+  placed_more [] r all new = (new, tt)
+  placed_more (c ∷ cs) r all new =
+      either (AllByRecursion (IsPlaced shape)) (same_key c.key r.key) (c ∷ cs) (c ∷ with_claim cs r) all (all.0, placed_more cs r all.1 new)
+
+  -- one more key is claimed
+  pub claim_fits : (worker : ℕ) (cs : List Record) (ws : List Item) (gs : List Key) (r : Record) → KeysFit shape worker cs ws gs → IsPlaced shape r
+      → KeysFit shape worker (with_claim cs r) ws gs × (is_claimed (with_claim cs r) r.key ≡ true)
+  claim_fits worker cs ws gs r fits new = (
+    record {
+      worker_is = fits.worker_is;
+      placed = placed_more cs r fits.placed new;
+      written = all_claimed item_key cs r ws fits.written;
+      guarded = all_claimed (λ (k : Key). k) cs r gs fits.guarded;
+      wide = fits.wide;
+    },
+    claimed_now cs r,
+  )
+
+  module _ (worker : ℕ) (cs : List Record) (ws : List Item) (gs : List Key) (fits : KeysFit shape worker cs ws gs) where
+    write_fits : (key : Key) (value : Option (List ℕ)) → is_claimed cs key ≡ true → HasWidth (width_of shape key.table) value
+        → KeysFit shape worker cs (wrote ws (item_at key value)) gs
+    write_fits key value claimed wide = record {
+      worker_is = fits.worker_is;
+      placed = fits.placed;
+      written = all_wrote (λ item. is_claimed cs (item_key item) ≡ true) ws (item_at key value) fits.written claimed;
+      guarded = fits.guarded;
+      wide = all_wrote (IsWide (widths_of shape.tables)) ws (item_at key value) fits.wide wide;
+    }
+
+    guard_fits : (key : Key) → is_claimed cs key ≡ true → KeysFit shape worker cs ws (guarded gs key)
+    guard_fits key claimed = record {
+      worker_is = fits.worker_is;
+      placed = fits.placed;
+      written = fits.written;
+      guarded = all_guarded (λ k. is_claimed cs k ≡ true) gs key fits.guarded claimed;
+      wide = fits.wide;
+    }
+
+    -- an operation's write and guard, of a claimed key
+    pub op_fits : (op : Op) (value : Option (List ℕ)) → OpStands shape op → is_claimed cs (key_of op) ≡ true
+        → HasWidth (width_of shape (key_of op).table) value
+        → KeysFit shape worker cs (writes_after (widths_of shape.tables) op (holding value) ws) (guards_after op gs)
+    op_fits (Get t k) value stands claimed wide = fits
+    op_fits (Put t k v) value stands claimed wide = write_fits (key_at t k) (Some v) claimed stands.0.1
+    op_fits (Add t k f up by) value stands claimed wide =
+        write_fits (key_at t k) (Some (with_field (width_of shape t) value f (changed up (field_of value f) by))) claimed
+        (field_width (width_of shape t) f (changed up (field_of value f) by) value wide)
+    op_fits (Del t k) value stands claimed wide = write_fits (key_at t k) None claimed tt
+    op_fits (Need t k f least) value stands claimed wide = fits
+    op_fits (Guard t k) value stands claimed wide = guard_fits (key_at t k) claimed
+    op_fits (Scan t low high) value stands claimed wide = fits
+
+    pub own_claimed : (key : Key) → writes_key ws key ≡ true → is_claimed cs key ≡ true
+    own_claimed key e = written_claimed cs ws key fits.written e
+
+  pub own_wide : (ws : List Item) (key : Key) → AllByRecursion (IsWide (widths_of shape.tables)) ws
+      → HasWidth (width_of shape key.table) (own_value ws key)
+  own_wide [] key all = tt
+  own_wide (w ∷ ws) key all =
+      by_test (HasWidth (width_of shape key.table)) (same_key (item_key w) key) w.value (own_value ws key)
+      (λ e. subst (λ (k : Key). HasWidth (width_of shape k.table) w.value) (same_key_says (item_key w) key e) all.0)
+      (λ e. own_wide ws key all.1)
+
+  -- 4. The records of a commit
+
+  -- the record of a claimed key
+  pub record_placed : (cs : List Record) (key : Key) → AllByRecursion (IsPlaced shape) cs → is_claimed cs key ≡ true
+      → IsPlaced shape (record_in cs key)
+  record_placed [] key all e = absurd (false≢true e)
+  record_placed (c ∷ cs) key all e =
+      by_test (IsPlaced shape) (same_key c.key key) c (record_in cs key) (λ f. all.0)
+      (λ f. record_placed cs key all.1 (rw f at e))
+
+  each_placed : (cs : List Record) → AllByRecursion (IsPlaced shape) cs → (keys : List Key) → AllByRecursion (λ key. is_claimed cs key ≡ true) keys
+      → AllByRecursion (λ key. IsPlaced shape (record_in cs key)) keys
+  each_placed cs placed [] all = tt
+  each_placed cs placed (k ∷ ks) all = (record_placed cs k placed all.0, each_placed cs placed ks all.1)
+
+  module _ (state : TxnState) (fits : StateFits shape state) where
+    records_placed : AllByRecursion (IsPlaced shape) (records_of state)
+    records_placed =
+        let P : Key → Type 0 = λ key. is_claimed state.claims key ≡ true in
+        let keys : AllByRecursion P (commit_keys state) =
+        All-append P (map item_key state.writes) (unwritten state.writes state.guards) (All-map item_key P state.writes fits.written)
+        (all_filter P (λ key. not (writes_key state.writes key)) state.guards fits.guarded) in
+        All-map (record_in state.claims) (IsPlaced shape) (commit_keys state) (each_placed state.claims fits.placed (commit_keys state) keys)
+
+    -- how many records there are
+    pub records_length : length (records_of state) ≡ length state.writes + length (unwritten state.writes state.guards)
+    records_length =
+        length-map (commit_keys state) (record_in state.claims) ∙ length-append (map item_key state.writes) (unwritten state.writes state.guards)
+        ∙ ap (λ n. n + length (unwritten state.writes state.guards)) (length-map state.writes item_key)
+
+    module _ (are : state.records ≡ records_of state) where
+      pub places_length : length (places state) ≡ length state.records
+      places_length = length-map state.records (λ (r : Record). r.place)
+
+      pub writes_within : length state.writes ≤ length state.records
+      writes_within = let e = records_length in let f = ap (λ (rs : List Record). length rs) are in omega arith
+
+      pub record_is_placed : (nth : ℕ) → nth < length state.records → IsPlaced shape (record_at state nth)
+      record_is_placed nth l =
+          all_at (IsPlaced shape) no_record state.records nth (subst (AllByRecursion (IsPlaced shape)) (sym are) records_placed) l
+
+      pub nth_fits : FitsLimits shape → (nth : ℕ) → nth < length state.records → FitsPlace (place_at state nth)
+      nth_fits limits nth l =
+          let p = record_is_placed nth l in
+          subst FitsPlace (sym (place_of_nth state.records nth ∙ p.2)) (place_fits shape limits (record_at state nth).key.table p.0 p.1.0 p.1.1)

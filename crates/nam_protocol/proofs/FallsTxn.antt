@@ -1,0 +1,164 @@
+-- The verbs to come fall in each call of a transaction, and how many a call begins with.
+use Rattle.std.proofs.Common.{◌≡◌, ℕ, ◌+◌, ◌*◌, ◌<◌, ◌≤◌, List, refl, sym, subst, arith, Bool, true, false, not, Option}
+use Rattle.std.proofs.Common.{None}
+use Rattle.std.specs.Prelude.{if◌then◌else◌}
+use Rattle.std.proofs.lemmas.Bool.{false≢true}
+use Rattle.nam_verbs.specs.declared.now.Now.{Now}
+use Rattle.nam_verbs.specs.declared.now.Now.TheVariants.{At, Over}
+use Rattle.si_model.specs.declared.op.Op.{Op}
+use Rattle.si_model.specs.declared.op.Op.TheVariants as op
+use Rattle.si_model.specs.Rows.{writes_key}
+use Rattle.si_model.specs.Evaluation.{passes}
+use Rattle.nam_catalog.specs.declared.shape.Shape.{Shape}
+use Rattle.nam_catalog.specs.Fits.{FitsLimits}
+use Rattle.nam_calls.specs.declared.index.FindEnd.{FindEnd}
+use Rattle.nam_calls.specs.declared.index.FindEnd.TheVariants as found_key
+use Rattle.nam_calls.specs.declared.index.ClaimKeyPlace.{ClaimKeyPlace}
+use Rattle.nam_calls.specs.declared.index.ClaimKeyEnd.{ClaimKeyEnd}
+use Rattle.nam_calls.specs.declared.index.ClaimKeyEnd.TheVariants as claimed_key
+use Rattle.nam_calls.specs.declared.reading.ReadPlace.{ReadPlace}
+use Rattle.nam_calls.specs.declared.reading.ReadingEnd.{ReadingEnd}
+use Rattle.nam_calls.specs.declared.reading.ReadingEnd.TheVariants as read_end
+use Rattle.nam_protocol.specs.declared.txn.TxnState.{TxnState}
+use Rattle.nam_protocol.specs.declared.txn.TxnPlace.{TxnPlace}
+use Rattle.nam_protocol.specs.declared.txn.TxnPlace.TheVariants.{Finding, Reading, Claiming, Committing}
+use Rattle.nam_protocol.specs.declared.txn.TxnAnswer.TheVariants.{Declined}
+use Rattle.nam_calls.specs.Words.{width_of, capacity_of}
+use Rattle.nam_calls.specs.Index.{find_begin, claim_key_begin}
+use Rattle.nam_calls.specs.Reading.{sight_of, read_most}
+use Rattle.nam_protocol.specs.Operations.{key_of, reads, claims, holding, own_value, read_of, value_in, answer_of}
+use Rattle.nam_protocol.specs.Txn.{at, answered, with_claim, with_op, with_own, ask_op, valued, on_find, on_read}
+use Rattle.nam_protocol.specs.Txn.{record_of, on_claim}
+use Rattle.nam_protocol.specs.TxnCalls.{txn_after}
+use Rattle.nam_protocol.specs.Bound.{claim_most, txn_left, op_bound}
+use Rattle.nam_calls.specs.Fits.{HasWidth, IsTableOf}
+use Rattle.nam_protocol.specs.TxnFits.{StateFits, OpStands, TxnPlaceFits, TxnFalls, TxnBegins}
+use Rattle.nam_calls.proofs.FallsTests.{by_test, either}
+use Rattle.nam_calls.proofs.FallsMachines.{FindFalls, find_falls, ClaimKeyFalls, claim_key_falls}
+use Rattle.nam_calls.proofs.FallsRead.{ReadFalls, read_falls}
+use Rattle.nam_calls.proofs.FallsTables.{has_capacity, width_is, sight_fits, read_figure}
+use Rattle.nam_protocol.proofs.FallsKeys.{op_table, claim_fits, op_fits, own_claimed, own_wide}
+use Rattle.nam_protocol.proofs.FallsCommit.{commit_falls}
+
+-- what an operation reads has its table's width
+read_wide : (shape : Shape) (op : Op) (value : Option (List ℕ)) → OpStands shape op → HasWidth (width_of shape (key_of op).table) value
+    → HasWidth (width_of shape (key_of op).table) (value_in (read_of op value))
+read_wide shape (op.Get t k) value stands wide = wide
+read_wide shape (op.Put t k v) value stands wide = tt
+read_wide shape (op.Add t k f up by) value stands wide = wide
+read_wide shape (op.Del t k) value stands wide = tt
+read_wide shape (op.Need t k f least) value stands wide = wide
+read_wide shape (op.Guard t k) value stands wide = wide
+read_wide shape (op.Scan t low high) value stands wide = absurd (false≢true (sym stands.1))
+
+claims_take : (shape : Shape) (op : Op) (b : Bool) → b ≡ true
+    → (if b then 2 * capacity_of shape (key_of op).table else 0) ≡ 2 * capacity_of shape (key_of op).table
+claims_take shape op true e = refl
+claims_take shape op false e = absurd (false≢true e)
+
+module _ (shape : Shape) (limits : FitsLimits shape) where
+  module _ (state : TxnState) (fits : StateFits shape state) (op : Op) (stands : OpStands shape op) where
+    abbrev table : ℕ
+    table = (key_of op).table
+
+    is_table : IsTableOf shape table
+    is_table = op_table shape limits op stands
+
+    least : 1 ≤ capacity_of shape table
+    least = has_capacity shape limits table is_table
+
+    valued_falls : (n : ℕ) (value : Option (List ℕ)) → HasWidth (width_of shape table) value → claim_most shape op < n
+        → TxnFalls shape n (valued shape state op value)
+    valued_falls n value wide l =
+        let state' = record state { read = read_of op value } in
+        either (TxnFalls shape n) (not (passes op (holding value))) (answered state' Declined)
+        (if claims op then at state' (Claiming op claim_key_begin) else answered state' (answer_of op value))
+        (fits, (tt, omega arith))
+        (by_test (TxnFalls shape n) (claims op) (at state' (Claiming op claim_key_begin)) (answered state' (answer_of op value))
+        (λ e. let m = claims_take shape op (claims op) e in let c = least in (fits, ((stands, c, read_wide shape op value stands wide), omega arith)))
+        (λ e. (fits, (tt, omega arith))))
+
+    on_find_falls : (n : ℕ) (now : Now ℕ FindEnd) → FindFalls shape table (key_of op).key n now
+        → TxnFalls shape (n + (read_most shape table + claim_most shape op)) (on_find shape state op now)
+    on_find_falls n (At passed) h = (fits, ((stands, h.0), let m = h.1 in omega arith))
+    on_find_falls n (Over (found_key.At position)) h =
+        let f = read_figure shape limits table position is_table h.0 in (fits, ((stands, h.0, tt), let m = h.1 in omega arith))
+    on_find_falls n (Over found_key.Absent) h = valued_falls _ None tt (let m = h.1 in omega arith)
+
+    on_read_falls : (position n : ℕ) (now : Now ReadPlace ReadingEnd) (l : position < capacity_of shape table)
+        → ReadFalls (sight_of shape table position) (sight_fits shape limits table position is_table l) n now
+        → TxnFalls shape (n + claim_most shape op) (on_read shape state op position now)
+    on_read_falls position n (At place) l h = (fits, ((stands, l, h.0), let m = h.1 in omega arith))
+    on_read_falls position n (Over (read_end.Got value)) l h =
+        valued_falls _ value (subst (λ w. HasWidth w value) (width_is shape limits table position is_table l) h.0) (let m = h.1 in omega arith)
+    on_read_falls position n (Over (read_end.Passed worker entry horizon)) l h = (fits, (tt, let m = h.1 in omega arith))
+    on_read_falls position n (Over read_end.Astray) l h = (fits, (tt, let m = h.1 in omega arith))
+
+    on_claim_falls : (n : ℕ) (now : Now ClaimKeyPlace ClaimKeyEnd) → HasWidth (width_of shape table) (value_in state.read)
+        → ClaimKeyFalls shape table (key_of op).key n now → TxnFalls shape n (on_claim shape state op now)
+    on_claim_falls n (At place) wide h = (fits, ((stands, h.0, wide), h.1))
+    on_claim_falls n (Over claimed_key.NoSpace) wide h = (fits, (tt, h.1))
+    on_claim_falls n (Over (claimed_key.At position)) wide h =
+        let r = record_of shape op position in
+        let c = claim_fits shape state.worker state.claims state.writes state.guards r fits (position, (is_table, h.0), refl) in
+        (op_fits shape state.worker (with_claim state.claims r) state.writes state.guards c.0 op (value_in state.read) stands c.1 wide, (tt, h.1))
+
+  -- a word is taken
+  pub txn_falls : (state : TxnState) (place : TxnPlace) (found : ℕ) → StateFits shape state → TxnPlaceFits shape state place
+      → TxnFalls shape (txn_left shape state place) (txn_after shape state place found)
+  txn_falls state (Finding op passed) found fits p =
+      on_find_falls state fits op p.0 _ _ (find_falls shape (key_of op).table (key_of op).key passed found p.1)
+  txn_falls state (Reading op position at) found fits p =
+      on_read_falls state fits op p.0 position _ _ p.1
+      (read_falls (sight_of shape (key_of op).table position)
+      (sight_fits shape limits (key_of op).table position (is_table state fits op p.0) p.1) state.seen at found p.2)
+  txn_falls state (Claiming op at) found fits p =
+      on_claim_falls state fits op p.0 _ _ p.2 (claim_key_falls shape (key_of op).table (key_of op).key at found p.1)
+  txn_falls state (Committing at) found fits p = commit_falls shape limits state fits at found p
+
+  -- an operation is asked
+  op_begins_at : (state : TxnState) (op : Op) → StateFits shape state → OpStands shape op → (e : reads op ≡ true)
+      → TxnBegins shape (op_bound shape op) (at state (Finding op find_begin))
+  op_begins_at state (op.Get t k) fits stands e = let c = least state fits (op.Get t k) stands in (fits, ((stands, c), omega arith))
+  op_begins_at state (op.Put t k v) fits stands e = absurd (false≢true e)
+  op_begins_at state (op.Add t k f up by) fits stands e = let c = least state fits (op.Add t k f up by) stands in (fits, ((stands, c), omega arith))
+  op_begins_at state (op.Del t k) fits stands e = absurd (false≢true e)
+  op_begins_at state (op.Need t k f m) fits stands e = let c = least state fits (op.Need t k f m) stands in (fits, ((stands, c), omega arith))
+  op_begins_at state (op.Guard t k) fits stands e = let c = least state fits (op.Guard t k) stands in (fits, ((stands, c), omega arith))
+  op_begins_at state (op.Scan t low high) fits stands e = absurd (false≢true e)
+
+  op_claims_at : (state : TxnState) (op : Op) → StateFits shape state → OpStands shape op → reads op ≡ false
+      → TxnBegins shape (op_bound shape op) (at (record state { read = None }) (Claiming op claim_key_begin))
+  op_claims_at state (op.Get t k) fits stands e = absurd (false≢true (sym e))
+  op_claims_at state (op.Put t k v) fits stands e = let c = least state fits (op.Put t k v) stands in (fits, ((stands, c, tt), omega arith))
+  op_claims_at state (op.Add t k f up by) fits stands e = absurd (false≢true (sym e))
+  op_claims_at state (op.Del t k) fits stands e = let c = least state fits (op.Del t k) stands in (fits, ((stands, c, tt), omega arith))
+  op_claims_at state (op.Need t k f m) fits stands e = absurd (false≢true (sym e))
+  op_claims_at state (op.Guard t k) fits stands e = absurd (false≢true (sym e))
+  op_claims_at state (op.Scan t low high) fits stands e = absurd (false≢true (sym stands.1))
+
+  own_begins : (n : ℕ) (state : TxnState) (op : Op) (value : Option (List ℕ)) → StateFits shape state → OpStands shape op
+      → writes_key state.writes (key_of op) ≡ true
+      → HasWidth (width_of shape (key_of op).table) value → TxnBegins shape n (with_own shape state op value)
+  own_begins n state op value fits stands e wide =
+      either (TxnBegins shape n) (not (passes op (holding value))) (answered state Declined)
+      (answered (with_op shape state op value) (answer_of op value))
+      (fits, tt) (
+        op_fits shape state.worker state.claims state.writes state.guards fits op value stands
+            (own_claimed shape state.worker state.claims state.writes state.guards fits (key_of op) e) wide,
+        tt,
+      )
+
+  pub op_begins : (state : TxnState) (op : Op) → StateFits shape state → OpStands shape op
+      → TxnBegins shape (op_bound shape op) (ask_op shape state op)
+  op_begins state op fits stands =
+      let own = own_value state.writes (key_of op) in
+      let n = op_bound shape op in
+      let state' = record state { read = None } in
+      let finding = at state' (Finding op find_begin) in
+      let claiming = at state' (Claiming op claim_key_begin) in
+      by_test (TxnBegins shape n) (writes_key state.writes (key_of op)) (with_own shape (record state { read = read_of op own }) op own)
+      (if reads op then finding else claiming)
+      (λ e. own_begins n (record state { read = read_of op own }) op own fits stands e (own_wide shape state.writes (key_of op) fits.wide))
+      (λ e. by_test (TxnBegins shape n) (reads op) finding claiming (λ f. op_begins_at state' op fits stands f)
+      (λ f. op_claims_at state op fits stands f))

@@ -1,0 +1,204 @@
+-- Where a client's call goes on. For any property of clients: if it holds at each place that may follow, and of each
+-- answered client, then it holds after the word.
+use Rattle.std.proofs.Common.{◌≡◌, ℕ, ◌+◌, false, List, [], ◌∷◌, ◌++◌, length, Option, Some, None, refl}
+use Rattle.std.proofs.lemmas.Bool.{cond_both}
+use Rattle.nam_verbs.specs.declared.now.Now.{Now}
+use Rattle.nam_verbs.specs.declared.now.Now.TheVariants.{At, Over}
+use Rattle.si_model.specs.declared.log.Outcome.{Outcome}
+use Rattle.si_model.specs.declared.log.Outcome.TheVariants as outcome
+use Rattle.si_model.specs.declared.log.MoveEnd.TheVariants as moved
+use Rattle.si_model.specs.declared.log.Stamp.{Stamp}
+use Rattle.si_model.specs.declared.log.Event.TheVariants as event
+use Rattle.si_model.specs.Rows.{key_at, writes_key}
+use Rattle.nam_catalog.specs.declared.shape.Shape.{Shape}
+use Rattle.nam_vector.specs.declared.snap.SnapPlace.{SnapPlace}
+use Rattle.nam_vector.specs.declared.snap.SnapEnd.{SnapEnd}
+use Rattle.nam_vector.specs.declared.snap.SnapEnd.TheVariants as snap_end
+use Rattle.nam_calls.specs.declared.index.FindEnd.{FindEnd}
+use Rattle.nam_calls.specs.declared.index.FindEnd.TheVariants as found_key
+use Rattle.nam_calls.specs.declared.horizon.CollectPlace.{CollectPlace}
+use Rattle.nam_calls.specs.declared.mover.MovePlace.{MovePlace}
+use Rattle.nam_calls.specs.declared.mover.MoveAnswer.{MoveAnswer}
+use Rattle.nam_calls.specs.declared.mover.MoveAnswer.TheVariants as move_end
+use Rattle.nam_protocol.specs.declared.txn.TxnPlace.{TxnPlace}
+use Rattle.nam_protocol.specs.declared.txn.TxnAnswer.{TxnAnswer}
+use Rattle.nam_protocol.specs.declared.txn.TxnAnswer.TheVariants as txn_answer
+use Rattle.nam_protocol.specs.declared.scan.ScanPlace.{ScanPlace}
+use Rattle.nam_protocol.specs.declared.scan.ScanAnswer.{ScanAnswer}
+use Rattle.nam_protocol.specs.declared.scan.ScanAnswer.TheVariants as scan_answer
+use Rattle.nam_protocol.specs.declared.client.Answer.TheVariants as client_answer
+use Rattle.nam_protocol.specs.declared.client.CallPlace.TheVariants.{Beginning, InTxn, Scanning, Seeking, Moving}
+use Rattle.nam_protocol.specs.declared.client.CallPlace.TheVariants.{Snapping, Collecting}
+use Rattle.nam_protocol.specs.declared.client.Open.{Open}
+use Rattle.nam_protocol.specs.declared.client.Scanned.{Scanned}
+use Rattle.nam_protocol.specs.declared.client.ClientState.{ClientState}
+use Rattle.nam_calls.specs.Mover.{move_begin}
+use Rattle.nam_calls.specs.Horizon.{collect_begin}
+use Rattle.nam_protocol.specs.Operations.{own_value}
+use Rattle.nam_protocol.specs.Txn.{Stepped}
+use Rattle.nam_protocol.specs.TxnCalls.{taken_now}
+use Rattle.nam_protocol.specs.Scan.{scan_skip, scan_read}
+use Rattle.nam_protocol.specs.Log.{with_locks, with_snap, prefix_of, unbegun}
+use Rattle.nam_protocol.specs.Telling.{go, answered, opened, told, ended, committed, read_listed, items_of, new_locks}
+use Rattle.nam_protocol.specs.Telling.{on_answer, on_call, stepped}
+use Rattle.nam_protocol.specs.ScanCall.{gathered, scan_listed, scan_ended, on_skip, on_scan}
+use Rattle.nam_protocol.specs.Client.{on_begin, on_seek, on_move, on_snap, on_collect}
+
+-- 1. Words for what comes out
+
+-- the client that has begun a transaction on this snapshot
+abbrev pub begun : ClientState → ℕ → ℕ → List ℕ → ClientState
+begun client txn nth seen =
+    record client { log = with_snap client.log seen; txn = Some (opened client txn nth (prefix_of client.start seen) seen) }
+
+-- the client with these rows of a scan
+abbrev pub with_rows : ClientState → List Scanned → ClientState
+with_rows client rows = record client { scanned = rows }
+
+-- a step of the transaction, and how many new locks it lists
+abbrev pub step_lists : ClientState → ℕ → Stepped → ClientState
+step_lists client before step = record client { log = with_locks client.log (new_locks step.state before (taken_now step.state step.call)) }
+
+abbrev pub step_opens : Open → ℕ → Stepped → Open
+step_opens attempt before step = record attempt {
+  locks = attempt.locks + length (new_locks step.state before (taken_now step.state step.call));
+  state = step.state;
+}
+
+module _ (P : ClientState → Type 0) where
+  -- 2. A transaction's call: it goes on, or it was answered
+
+  pub on_call_goes : (client : ClientState) (attempt : Open) (call : Now TxnPlace TxnAnswer)
+      → ((place : TxnPlace) → call ≡ At place → P (go (record client { txn = Some attempt }) (InTxn place)))
+      → ((answer : TxnAnswer) → call ≡ Over answer → P (answered (on_answer client attempt answer) (client_answer.Txn answer)))
+      → P (on_call client attempt call)
+  on_call_goes client attempt (At place) stays over = stays place refl
+  on_call_goes client attempt (Over answer) stays over = over answer refl
+
+  pub stepped_goes : (client : ClientState) (attempt : Open) (before : ℕ) (step : Stepped)
+      → ((place : TxnPlace) → step.call ≡ At place
+      → P (go (record (step_lists client before step) { txn = Some (step_opens attempt before step) }) (InTxn place)))
+      → ((answer : TxnAnswer) → step.call ≡ Over answer
+      → P (answered (on_answer (step_lists client before step) (step_opens attempt before step) answer) (client_answer.Txn answer)))
+      → P (stepped client attempt before step)
+  stepped_goes client attempt before step stays over =
+      on_call_goes (step_lists client before step) (step_opens attempt before step) step.call stays over
+
+  -- the transaction stays open and lists what was read, or it ends, or it is committed
+  pub on_answer_goes : (client : ClientState) (attempt : Open) (answer : TxnAnswer)
+      → P (read_listed client attempt (items_of attempt.state.read))
+      → ((outcome : Outcome) → P (ended client attempt outcome))
+      → ((outcome : Outcome) → let items = items_of attempt.state.read in
+      P (ended (read_listed client attempt items) (record attempt { reads = attempt.reads + length items }) outcome))
+      → ((number : ℕ) → answer ≡ txn_answer.Committed number → P (committed client attempt number))
+      → P (on_answer client attempt answer)
+  on_answer_goes client attempt (txn_answer.Value value) stays over read_over commits = stays
+  on_answer_goes client attempt txn_answer.Written stays over read_over commits = stays
+  on_answer_goes client attempt (txn_answer.Added n) stays over read_over commits = stays
+  on_answer_goes client attempt txn_answer.Met stays over read_over commits = stays
+  on_answer_goes client attempt (txn_answer.Committed number) stays over read_over commits = commits number refl
+  on_answer_goes client attempt txn_answer.ReadOnly stays over read_over commits = over outcome.ReadOnly
+  on_answer_goes client attempt (txn_answer.TooOld worker entry horizon) stays over read_over commits = over (outcome.TooOld worker entry horizon)
+  on_answer_goes client attempt (txn_answer.NoSpace table) stays over read_over commits = read_over (outcome.NoSpace table)
+  on_answer_goes client attempt txn_answer.Declined stays over read_over commits = read_over (outcome.Declined attempt.ops)
+  on_answer_goes client attempt txn_answer.Spent stays over read_over commits = over outcome.Spent
+  on_answer_goes client attempt (txn_answer.Locked lock) stays over read_over commits = over (outcome.Locked lock)
+  on_answer_goes client attempt (txn_answer.Newer lock) stays over read_over commits = over (outcome.Newer lock)
+  on_answer_goes client attempt (txn_answer.Full lock) stays over read_over commits = over (outcome.Full lock)
+  on_answer_goes client attempt txn_answer.Astray stays over read_over commits = over outcome.Left
+
+  module _ (shape : Shape) where
+    -- 3. The scan: whatever it comes to, it has some rows, and goes on, lists them, or ends the attempt
+
+    on_skip_goes : (client : ClientState) (attempt : Open) (table low high : ℕ) (now : Now ScanPlace ScanAnswer)
+        → ((place : ScanPlace) → P (go client (Scanning table low high place)))
+        → P (scan_listed client attempt table)
+        → P (on_skip client attempt table low high now)
+    on_skip_goes client attempt table low high (At place) stays listed = stays place
+    on_skip_goes client attempt table low high (Over end) stays listed = listed
+
+    gathered_goes : (client : ClientState) (attempt : Open) (table low high position key : ℕ) (value : Option (List ℕ))
+        (now : Now ScanPlace ScanAnswer)
+        → ((rows : List Scanned) (place : ScanPlace) → P (go (with_rows client rows) (Scanning table low high place)))
+        → ((rows : List Scanned) → P (scan_listed (with_rows client rows) attempt table))
+        → P (on_skip (gathered client position key value) attempt table low high now)
+    gathered_goes client attempt table low high position key None now stays listed =
+        on_skip_goes client attempt table low high now (stays client.scanned) (listed client.scanned)
+    gathered_goes client attempt table low high position key (Some value) now stays listed =
+        let rows = client.scanned ++ record { position = position; key = key; value = value } ∷ [] in
+        on_skip_goes (with_rows client rows) attempt table low high now (stays rows) (listed rows)
+
+    pub scan_goes : (client : ClientState) (attempt : Open) (table low high position : ℕ) (now : Now ScanPlace ScanAnswer)
+        → ((rows : List Scanned) (place : ScanPlace) → P (go (with_rows client rows) (Scanning table low high place)))
+        → ((rows : List Scanned) → P (scan_listed (with_rows client rows) attempt table))
+        → ((outcome : Outcome) (end : TxnAnswer) → P (scan_ended client attempt outcome end))
+        → P (on_scan shape client attempt table low high position now)
+    scan_goes client attempt table low high position (At place) stays listed over = stays client.scanned place
+    scan_goes client attempt table low high position (Over (scan_answer.Key key)) stays listed over =
+        let own = key_at table key in
+        cond_both (writes_key attempt.state.writes own) _ _ P
+        (λ e. gathered_goes client attempt table low high position key (own_value attempt.state.writes own)
+        (scan_skip shape table position) stays listed)
+        (λ e. on_skip_goes client attempt table low high (scan_read position key) (stays client.scanned) (listed client.scanned))
+    scan_goes client attempt table low high position (Over (scan_answer.Row item)) stays listed over =
+        gathered_goes client attempt table low high position item.key item.value (scan_skip shape table position) stays listed
+    scan_goes client attempt table low high position (Over scan_answer.Done) stays listed over = listed client.scanned
+    scan_goes client attempt table low high position (Over (scan_answer.TooOld worker entry horizon)) stays listed over =
+        over (outcome.TooOld worker entry horizon) (txn_answer.TooOld worker entry horizon)
+    scan_goes client attempt table low high position (Over scan_answer.Astray) stays listed over = over outcome.Left txn_answer.Astray
+
+    -- 4. Begin, tidy, collect
+
+    pub begin_goes : (client : ClientState) (txn nth : ℕ) (now : Now SnapPlace SnapEnd)
+        → ((place : SnapPlace) → now ≡ At place → P (go client (Beginning txn nth place)))
+        → ((seen : List ℕ) → now ≡ Over (snap_end.Done seen)
+        → P (answered (begun client txn nth seen) (client_answer.Begun (prefix_of client.start seen))))
+        → ((worker first second : ℕ) → now ≡ Over (snap_end.Again worker first second)
+        → P (answered (told client (unbegun txn nth (outcome.Again worker first second))) (client_answer.Again worker first second)))
+        → P (on_begin shape client txn nth now)
+    begin_goes client txn nth (At place) stays done again = stays place refl
+    begin_goes client txn nth (Over (snap_end.Done seen)) stays done again = done seen refl
+    begin_goes client txn nth (Over (snap_end.Again worker first second)) stays done again = again worker first second refl
+
+    pub seek_goes : (client : ClientState) (table key : ℕ) (now : Now ℕ FindEnd)
+        → ((passed : ℕ) → now ≡ At passed → P (go client (Seeking table key passed)))
+        → ((position : ℕ) → now ≡ Over (found_key.At position) → P (go client (Moving table key position move_begin)))
+        → (now ≡ Over found_key.Absent → P (answered client client_answer.Nothing))
+        → P (on_seek shape client table key now)
+    seek_goes client table key (At passed) stays moving absent = stays passed refl
+    seek_goes client table key (Over (found_key.At position)) stays moving absent = moving position refl
+    seek_goes client table key (Over found_key.Absent) stays moving absent = absent refl
+
+    pub move_goes : (client : ClientState) (table key position bucket : ℕ) (now : Now MovePlace MoveAnswer)
+        → ((place : MovePlace) → now ≡ At place → P (go client (Moving table key position place)))
+        → ((stamp : Stamp) → now ≡ Over (move_end.Moved stamp)
+        → P (answered (told client (event.Moved bucket table key stamp moved.Done)) client_answer.Moved))
+        → ((stamp : Stamp) → now ≡ Over (move_end.Back stamp)
+        → P (answered (told client (event.Moved bucket table key stamp moved.Back)) client_answer.Back))
+        → (now ≡ Over move_end.Nothing → P (answered client client_answer.Nothing))
+        → ((full : ℕ) → now ≡ Over (move_end.NoRoom full) → P (answered (told client (event.NoRoom full)) (client_answer.NoRoom full)))
+        → P (on_move shape client table key position bucket now)
+    move_goes client table key position bucket (At place) stays done back nothing full = stays place refl
+    move_goes client table key position bucket (Over (move_end.Moved stamp)) stays done back nothing full = done stamp refl
+    move_goes client table key position bucket (Over (move_end.Back stamp)) stays done back nothing full = back stamp refl
+    move_goes client table key position bucket (Over move_end.Nothing) stays done back nothing full = nothing refl
+    move_goes client table key position bucket (Over (move_end.NoRoom none)) stays done back nothing full = full none refl
+
+    pub snap_goes : (client : ClientState) (bucket : ℕ) (now : Now SnapPlace SnapEnd)
+        → ((place : SnapPlace) → now ≡ At place → P (go client (Snapping bucket place)))
+        → ((seen : List ℕ) → now ≡ Over (snap_end.Done seen)
+        → P (go (record client { log = with_snap client.log seen }) (Collecting bucket (prefix_of client.start seen) seen collect_begin)))
+        → ((worker first second : ℕ) → now ≡ Over (snap_end.Again worker first second)
+        → P (answered (told client (event.CollectAgain bucket worker first second)) (client_answer.Again worker first second)))
+        → P (on_snap shape client bucket now)
+    snap_goes client bucket (At place) stays done again = stays place refl
+    snap_goes client bucket (Over (snap_end.Done seen)) stays done again = done seen refl
+    snap_goes client bucket (Over (snap_end.Again worker first second)) stays done again = again worker first second refl
+
+    pub collect_goes : (client : ClientState) (bucket prefix : ℕ) (seen : List ℕ) (now : Now CollectPlace (List ℕ))
+        → ((place : CollectPlace) → now ≡ At place → P (go client (Collecting bucket prefix seen place)))
+        → ((known : List ℕ) → now ≡ Over known
+        → P (answered (told client (event.Collected bucket prefix seen false)) (client_answer.Collected known)))
+        → P (on_collect shape client bucket prefix seen now)
+    collect_goes client bucket prefix seen (At place) stays done = stays place refl
+    collect_goes client bucket prefix seen (Over known) stays done = done known refl

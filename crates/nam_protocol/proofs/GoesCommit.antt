@@ -1,0 +1,138 @@
+-- Where a commit goes on: first by what each of its steps has come to, then of each place whole.
+use Rattle.std.proofs.Common.{◌≡◌, ℕ, ◌+◌, true, false, List, [], ◌∷◌, ◌++◌, length, None, refl}
+use Rattle.std.specs.Prelude.{◌==◌}
+use Rattle.std.proofs.lemmas.Bool.{cond_both}
+use Rattle.nam_verbs.specs.declared.now.Now.{Now}
+use Rattle.nam_verbs.specs.declared.now.Now.TheVariants.{At, Over}
+use Rattle.si_model.specs.declared.log.Lock.{Lock}
+use Rattle.nam_catalog.specs.declared.shape.Shape.{Shape}
+use Rattle.nam_calls.specs.declared.lock.LockPlace.{LockPlace}
+use Rattle.nam_calls.specs.declared.lock.LockPlace.TheVariants.{Peek}
+use Rattle.nam_calls.specs.declared.lock.LockEnd.{LockEnd}
+use Rattle.nam_calls.specs.declared.lock.LockEnd.TheVariants as lock_end
+use Rattle.nam_calls.specs.declared.ring.SlotPlace.{SlotPlace}
+use Rattle.nam_calls.specs.declared.ring.SlotPlace.TheVariants.{CheckCount}
+use Rattle.nam_calls.specs.declared.ring.SlotEnd.{SlotEnd}
+use Rattle.nam_calls.specs.declared.ring.SlotEnd.TheVariants.{Free, NotMoved}
+use Rattle.nam_calls.specs.declared.ring.CopyPlace.{CopyPlace}
+use Rattle.nam_calls.specs.declared.ring.CopyPlace.TheVariants.{CopyMark}
+use Rattle.nam_calls.specs.declared.record.InstallPlace.{InstallPlace}
+use Rattle.nam_protocol.specs.declared.txn.TxnState.{TxnState}
+use Rattle.nam_protocol.specs.declared.txn.TxnAnswer.{TxnAnswer}
+use Rattle.nam_protocol.specs.declared.txn.TxnAnswer.TheVariants.{ReadOnly, Spent, Committed, Locked, Newer, Full}
+use Rattle.nam_protocol.specs.declared.txn.CommitPlace.{CommitPlace}
+use Rattle.nam_protocol.specs.declared.txn.CommitPlace.TheVariants.{Locking, Checking, Returning, Saving, Copying}
+use Rattle.nam_protocol.specs.declared.txn.CommitPlace.TheVariants.{Installing, Publishing, Freeing}
+use Rattle.nam_catalog.specs.Greatest.{greatest_number}
+use Rattle.nam_calls.specs.Record.{install_begin}
+use Rattle.nam_protocol.specs.Txn.{Stepped, answered}
+use Rattle.nam_protocol.specs.ProgramCommit.{committing}
+use Rattle.nam_protocol.specs.Commit.{go, lock_at, value_at, ask_commit, on_lock, on_slot, on_return, on_words, on_copy}
+use Rattle.nam_protocol.specs.Commit.{on_install, next_free, commit_after}
+
+-- the state with all locks, and with one more count
+abbrev pub holding_locks : TxnState → List ℕ → TxnState
+holding_locks state headers = record state { held = headers }
+
+abbrev pub with_count : TxnState → ℕ → TxnState
+with_count state count = record state { counts = state.counts ++ count ∷ [] }
+
+module _ (P : Stepped → Type 0) (state : TxnState) where
+  -- 1. The commit is asked
+
+  pub ask_commit_goes : (shape : Shape)
+      → ((length state.writes == 0) ≡ true → P (answered (record state { read = None }) ReadOnly))
+      → ((length state.writes == 0) ≡ false → (state.last == greatest_number shape.form) ≡ true → P (answered (record state { read = None }) Spent))
+      → ((length state.writes == 0) ≡ false → (state.last == greatest_number shape.form) ≡ false → P (go (committing state) (Locking (Peek []))))
+      → P (ask_commit shape state)
+  ask_commit_goes shape read_only spent locking =
+      cond_both (length state.writes == 0) _ _ P read_only
+      (λ e. cond_both (state.last == greatest_number shape.form) _ _ P (spent e) (locking e))
+
+  -- 2. By what a step has come to
+
+  pub on_lock_goes : (now : Now LockPlace LockEnd)
+      → ((place : LockPlace) → now ≡ At place → P (go state (Locking place)))
+      → ((headers : List ℕ) → now ≡ Over (lock_end.Held headers) → P (go (holding_locks state headers) (Checking CheckCount)))
+      → ((nth found : ℕ) → now ≡ Over (lock_end.Locked nth found) → P (answered state (Locked (lock_at state nth found))))
+      → ((nth found : ℕ) → now ≡ Over (lock_end.Newer nth found) → P (answered state (Newer (lock_at state nth found))))
+      → P (on_lock state now)
+  on_lock_goes (At place) stays held locked newer = stays place refl
+  on_lock_goes (Over (lock_end.Held headers)) stays held locked newer = held headers refl
+  on_lock_goes (Over (lock_end.Locked nth found)) stays held locked newer = locked nth found refl
+  on_lock_goes (Over (lock_end.Newer nth found)) stays held locked newer = newer nth found refl
+
+  pub on_slot_goes : (now : Now SlotPlace SlotEnd)
+      → ((place : SlotPlace) → now ≡ At place → P (go state (Checking place)))
+      → ((count : ℕ) → now ≡ Over (Free count) → (length (state.counts ++ count ∷ []) == length state.writes) ≡ true
+      → P (go (with_count state count) (Saving 0 [])))
+      → ((count : ℕ) → now ≡ Over (Free count) → (length (state.counts ++ count ∷ []) == length state.writes) ≡ false
+      → P (go (with_count state count) (Checking CheckCount)))
+      → ((slot found : ℕ) → now ≡ Over (NotMoved slot found) → P (go state (Returning 0 (lock_at state (length state.counts) found))))
+      → P (on_slot state now)
+  on_slot_goes (At place) stays last next full = stays place refl
+  on_slot_goes (Over (Free count)) stays last next full =
+      cond_both (length (state.counts ++ count ∷ []) == length state.writes) _ _ P (last count refl) (next count refl)
+  on_slot_goes (Over (NotMoved slot found)) stays last next full = full slot found refl
+
+  pub on_return_goes : (full : Lock) (now : Now ℕ (Unit {0}))
+      → ((given : ℕ) → now ≡ At given → P (go state (Returning given full)))
+      → (now ≡ Over tt → P (answered state (Full full)))
+      → P (on_return state full now)
+  on_return_goes full (At given) stays done = stays given refl
+  on_return_goes full (Over tt) stays done = done refl
+
+  pub on_words_goes : (nth : ℕ) (now : Now (List ℕ) (List ℕ))
+      → ((got : List ℕ) → now ≡ At got → P (go state (Saving nth got)))
+      → ((old : List ℕ) → now ≡ Over old → P (go state (Copying nth old CopyMark)))
+      → P (on_words state nth now)
+  on_words_goes nth (At got) stays done = stays got refl
+  on_words_goes nth (Over old) stays done = done old refl
+
+  pub on_copy_goes : (nth : ℕ) (old : List ℕ) (now : Now CopyPlace (Unit {0}))
+      → ((place : CopyPlace) → now ≡ At place → P (go state (Copying nth old place)))
+      → (now ≡ Over tt → P (go state (Installing nth (install_begin (value_at state nth)))))
+      → P (on_copy state nth old now)
+  on_copy_goes nth old (At place) stays done = stays place refl
+  on_copy_goes nth old (Over tt) stays done = done refl
+
+  pub on_install_goes : (nth : ℕ) (now : Now InstallPlace (Unit {0}))
+      → ((place : InstallPlace) → now ≡ At place → P (go state (Installing nth place)))
+      → (now ≡ Over tt → (nth + 1 == length state.writes) ≡ true → P (go state Publishing))
+      → (now ≡ Over tt → (nth + 1 == length state.writes) ≡ false → P (go state (Saving (nth + 1) [])))
+      → P (on_install state nth now)
+  on_install_goes nth (At place) stays last next = stays place refl
+  on_install_goes nth (Over tt) stays last next = cond_both (nth + 1 == length state.writes) _ _ P (last refl) (next refl)
+
+  pub next_free_goes : (nth : ℕ)
+      → ((nth == length state.records) ≡ true → P (answered state (Committed (state.last + 1))))
+      → ((nth == length state.records) ≡ false → P (go state (Freeing nth)))
+      → P (next_free state nth)
+  next_free_goes nth done next = cond_both (nth == length state.records) _ _ P done next
+
+  -- 3. Each place whole
+
+  pub commit_goes : (place : CommitPlace) (found : ℕ)
+      → ((next : CommitPlace) → P (go state next))
+      → ((headers : List ℕ) → P (go (holding_locks state headers) (Checking CheckCount)))
+      → ((count : ℕ) (next : CommitPlace) → P (go (with_count state count) next))
+      → ((answer : TxnAnswer) → P (answered state answer))
+      → P (commit_after state place found)
+  commit_goes (Locking at) found stays held counted answer =
+      on_lock_goes _ (λ next e. stays (Locking next)) (λ headers e. held headers)
+      (λ nth word e. answer (Locked (lock_at state nth word))) (λ nth word e. answer (Newer (lock_at state nth word)))
+  commit_goes (Checking at) found stays held counted answer =
+      on_slot_goes _ (λ next e. stays (Checking next)) (λ count e f. counted count (Saving 0 [])) (λ count e f. counted count (Checking CheckCount))
+      (λ slot word e. stays (Returning 0 (lock_at state (length state.counts) word)))
+  commit_goes (Returning given full) found stays held counted answer =
+      on_return_goes full _ (λ next e. stays (Returning next full)) (λ e. answer (Full full))
+  commit_goes (Saving nth got) found stays held counted answer =
+      on_words_goes nth _ (λ next e. stays (Saving nth next)) (λ old e. stays (Copying nth old CopyMark))
+  commit_goes (Copying nth old at) found stays held counted answer =
+      on_copy_goes nth old _ (λ next e. stays (Copying nth old next)) (λ e. stays (Installing nth (install_begin (value_at state nth))))
+  commit_goes (Installing nth at) found stays held counted answer =
+      on_install_goes nth _ (λ next e. stays (Installing nth next)) (λ e f. stays Publishing) (λ e f. stays (Saving (nth + 1) []))
+  commit_goes Publishing found stays held counted answer =
+      next_free_goes (length state.writes) (λ e. answer (Committed (state.last + 1))) (λ e. stays (Freeing (length state.writes)))
+  commit_goes (Freeing nth) found stays held counted answer =
+      next_free_goes (nth + 1) (λ e. answer (Committed (state.last + 1))) (λ e. stays (Freeing (nth + 1)))

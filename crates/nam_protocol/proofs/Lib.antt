@@ -1,0 +1,25 @@
+pub mod Rounds
+pub mod Shown
+mod WordsExample
+mod SerialExample
+mod CommitsExample
+mod OldVersionsExample
+mod GuardsExample
+mod ScansExample
+mod FusesExample
+pub mod FallsKeys
+pub mod FallsCommit
+pub mod FallsTxn
+pub mod FallsBegins
+pub mod FallsScan
+pub mod FallsClient
+pub mod AddressesCalls
+pub mod FallsAttempt
+pub mod Grows
+pub mod GrowsSession
+pub mod GoesParts
+pub mod GoesTxn
+pub mod GoesCommit
+pub mod GoesClient
+pub mod GoesView
+pub mod ProgramsCommit

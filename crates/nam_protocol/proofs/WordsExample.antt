@@ -1,0 +1,55 @@
+-- Addresses, opening words, the generator and the bounds at small numbers.
+use Rattle.std.proofs.Common.{◌≡◌, ◌+◌, ◌*◌, false, [], ◌∷◌, refl}
+use Rattle.std.specs.Prelude.{length}
+use Rattle.nam_catalog.specs.declared.form.Form.TheVariants.{Narrow}
+use Rattle.nam_catalog.specs.declared.shape.Shape.{Shape}
+use Rattle.nam_catalog.specs.Words.{words_of}
+use Rattle.nam_layout.specs.Place.{place_of, cells_of}
+use Rattle.si_model.specs.declared.op.Op.TheVariants.{Need, Add, Scan}
+use Rattle.nam_calls.specs.Words.{slot_at, tag_at}
+use Rattle.nam_calls.specs.Stamps.{freed}
+use Rattle.nam_protocol.specs.Opening.{copies, load_from, blank_words, opening_words}
+use Rattle.nam_protocol.specs.Schedule.{next_state, pick}
+use Rattle.nam_protocol.specs.Bound.{verb_bound}
+use Rattle.nam_protocol.proofs.Shown.{shape, table, loaded}
+
+-- one worker, one table of two positions with a ring of one slot, and one cell
+abbrev small : Shape
+small = shape Narrow 1 (table 1 2 1 ∷ []) 1 1 0
+
+second_header : (place_of small 0 1).header_at ≡ 10
+second_header = refl
+
+second_slot : slot_at (place_of small 0 1) 0 ≡ 13
+second_slot = refl
+
+first_tag : tag_at (cells_of small 0) 0 ≡ 16
+first_tag = refl
+
+blank_is_whole : length (blank_words small) ≡ words_of small
+unfolding copies
+blank_is_whole = refl
+
+-- key 3 is loaded at position 1, and key 5 then at position 0
+loaded_words : opening_words small (loaded 0 3 (30 ∷ []) ∷ loaded 0 5 (50 ∷ []) ∷ [])
+    ≡ 0 ∷ 0 ∷ 6 ∷ 0 ∷ 0 ∷ 50 ∷ 5 ∷ 0 ∷ 0 ∷ 4 ∷ 0 ∷ 0 ∷ 30 ∷ 5 ∷ 0 ∷ 0 ∷ 0 ∷ 0 ∷ 0 ∷ 0 ∷ 0 ∷ 0 ∷ 0 ∷ 0 ∷ 0 ∷ 0 ∷ 0 ∷ 0 ∷ []
+unfolding copies load_from
+loaded_words = refl
+
+-- a tag of the last generation is not set free again
+last_tag : freed 18446744073709551613 ≡ 18446744073709551613
+last_tag = refl
+
+first_state : next_state 1 ≡ 7806831264735756412
+first_state = refl
+
+first_pick : pick (next_state 1) 16 ≡ 6
+first_pick = refl
+
+-- a need and two adds on a table of one word, two positions and a ring of one slot, beside one cell and one worker
+transfer_bound : verb_bound small (Need 0 0 1 10 ∷ Add 0 0 1 false 10 ∷ Add 0 1 1 false 10 ∷ []) ≡ 2 + 3 * (2 + 20) + 2 * 4 + 2 * 12 + 1
+transfer_bound = refl
+
+-- a scan of that table
+scan_bound : verb_bound small (Scan 0 0 9 ∷ []) ≡ 2 + 2 * 21 + 1
+scan_bound = refl

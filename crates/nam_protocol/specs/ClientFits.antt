@@ -1,0 +1,75 @@
+-- What holds of a client and of the places of its calls, and how many verbs a call takes.
+use Rattle.std.specs.Prelude.{◌≡◌, ℕ, ◌*◌, ◌<◌, length, Option, Some, None, IsSome}
+use Rattle.nam_verbs.specs.declared.now.Now.{Now}
+use Rattle.nam_verbs.specs.declared.now.Now.TheVariants.{At}
+use Rattle.nam_catalog.specs.declared.shape.Shape.{Shape}
+use Rattle.nam_layout.specs.Place.{place_of, cells_of}
+use Rattle.nam_vector.specs.SnapPlace.{SnapFits}
+use Rattle.nam_protocol.specs.declared.txn.TxnPlace.{TxnPlace}
+use Rattle.nam_protocol.specs.declared.txn.TxnCall.{TxnCall}
+use Rattle.nam_protocol.specs.declared.client.Call.{Call}
+use Rattle.nam_protocol.specs.declared.client.Call.TheVariants.{Begin, Txn, Scan, Tidy, Collect}
+use Rattle.nam_protocol.specs.declared.client.Answer.{Answer}
+use Rattle.nam_protocol.specs.declared.client.CallPlace.{CallPlace}
+use Rattle.nam_protocol.specs.declared.client.CallPlace.TheVariants.{Beginning, InTxn, Scanning, Seeking, Moving}
+use Rattle.nam_protocol.specs.declared.client.CallPlace.TheVariants.{Snapping, Collecting}
+use Rattle.nam_protocol.specs.declared.client.Open.{Open}
+use Rattle.nam_protocol.specs.declared.client.ClientState.{ClientState}
+use Rattle.nam_calls.specs.Words.{capacity_of, cells_by}
+use Rattle.nam_protocol.specs.Bound.{scan_bound, tidy_bound, collect_bound}
+use Rattle.nam_calls.specs.Fits.{IsOf, FindFits, MoveFits, CollectFits, IsTableOf}
+use Rattle.nam_protocol.specs.TxnFits.{StateFits, TxnPlaceFits, ScanFits, TxnCallFits, txn_call_bound}
+
+module _ (shape : Shape) where
+  -- 1. Places
+
+  -- what the open transaction has at hand
+  abbrev pub OpenFits : Option Open → Type 0
+  OpenFits None = Unit {0}
+  OpenFits (Some attempt) = StateFits shape attempt.state
+
+  -- a call of a transaction stands only where one is open
+  abbrev pub OpenPlaceFits : Option Open → TxnPlace → Type 0
+  OpenPlaceFits None at = ⊥
+  OpenPlaceFits (Some attempt) at = TxnPlaceFits shape attempt.state at
+
+  abbrev pub CallPlaceFits : Option Open → CallPlace → Type 0
+  CallPlaceFits opened (Beginning txn nth at) = SnapFits shape.workers at
+  CallPlaceFits opened (InTxn at) = OpenPlaceFits opened at
+  CallPlaceFits opened (Scanning table low high at) = IsSome opened × IsTableOf shape table × ScanFits shape table at
+  CallPlaceFits opened (Seeking table key passed) = IsTableOf shape table × FindFits (capacity_of shape table) passed
+  CallPlaceFits opened (Moving table key position at) =
+      IsTableOf shape table × (position < capacity_of shape table)
+      × MoveFits (place_of shape table position) (cells_by shape (place_of shape table position)) at
+  CallPlaceFits opened (Snapping bucket at) = (bucket < shape.buckets) × SnapFits shape.workers at
+  CallPlaceFits opened (Collecting bucket prefix seen at) =
+      (bucket < shape.buckets) × (length seen ≡ shape.workers) × CollectFits (cells_of shape bucket) shape.workers at
+
+  abbrev pub NowFits : Option Open → Option (Now CallPlace Answer) → Type 0
+  NowFits opened (Some (At place)) = CallPlaceFits opened place
+  NowFits opened _ = Unit {0}
+
+  abbrev pub ClientFits : ClientState → Type 0
+  ClientFits client = IsOf shape.workers client.worker × OpenFits client.txn × NowFits client.txn client.call
+
+  -- 2. Calls
+
+  -- a call of a transaction, or a scan, is asked only where one is open
+  abbrev pub CallFits : Option Open → Call → Type 0
+  CallFits opened (Begin txn nth) = Unit {0}
+  CallFits opened (Txn call) = IsSome opened × TxnCallFits shape call
+  CallFits opened (Scan table low high) = IsSome opened × IsTableOf shape table
+  CallFits opened (Tidy table key) = IsTableOf shape table
+  CallFits opened (Collect bucket) = bucket < shape.buckets
+
+  abbrev pub open_bound : Option Open → TxnCall → ℕ
+  open_bound None call = 0
+  open_bound (Some attempt) call = txn_call_bound shape attempt.state call
+
+  -- how many verbs a call takes at the most
+  abbrev pub call_bound : ClientState → Call → ℕ
+  call_bound client (Begin txn nth) = 2 * shape.workers
+  call_bound client (Txn call) = open_bound client.txn call
+  call_bound client (Scan table low high) = scan_bound shape table
+  call_bound client (Tidy table key) = tidy_bound shape table
+  call_bound client (Collect bucket) = collect_bound shape

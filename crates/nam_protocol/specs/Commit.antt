@@ -1,0 +1,163 @@
+-- A commit: lock, check the slots, copy and install, publish, free the guards.
+use Rattle.std.specs.Prelude.{ℕ, ◌+◌, ◌==◌, if◌then◌else◌, List, [], ◌∷◌, ◌++◌, length, map, slice_index}
+use Rattle.std.specs.Prelude.{slice_index_or, Option, None, is_some, not}
+use Rattle.nam_verbs.specs.declared.verb.Verb.{Verb}
+use Rattle.nam_verbs.specs.declared.now.Now.{Now}
+use Rattle.nam_verbs.specs.declared.now.Now.TheVariants.{At, Over}
+use Rattle.si_model.specs.declared.row.Key.{Key}
+use Rattle.si_model.specs.declared.row.Item.{Item}
+use Rattle.si_model.specs.declared.log.Stamp.{Stamp}
+use Rattle.si_model.specs.declared.log.Lock.{Lock}
+use Rattle.si_model.specs.Rows.{key_at, same_key, item_key}
+use Rattle.si_model.specs.Evaluation.{unwritten}
+use Rattle.nam_catalog.specs.declared.shape.Shape.{Shape}
+use Rattle.nam_catalog.specs.Greatest.{greatest_number}
+use Rattle.nam_layout.specs.declared.field.Place.{Place}
+use Rattle.nam_vector.specs.Publish.{write_of}
+use Rattle.nam_calls.specs.declared.record.InstallPlace.{InstallPlace}
+use Rattle.nam_calls.specs.declared.ring.SlotPlace.{SlotPlace}
+use Rattle.nam_calls.specs.declared.ring.SlotEnd.{SlotEnd}
+use Rattle.nam_calls.specs.declared.ring.SlotEnd.TheVariants.{Free, NotMoved}
+use Rattle.nam_calls.specs.declared.ring.CopyPlace.{CopyPlace}
+use Rattle.nam_calls.specs.declared.lock.LockPlace.{LockPlace}
+use Rattle.nam_calls.specs.declared.lock.LockEnd.{LockEnd}
+use Rattle.nam_calls.specs.declared.lock.LockEnd.TheVariants as lock_end
+use Rattle.nam_protocol.specs.declared.txn.Record.{Record}
+use Rattle.nam_protocol.specs.declared.txn.TxnState.{TxnState}
+use Rattle.nam_protocol.specs.declared.txn.CommitPlace.{CommitPlace}
+use Rattle.nam_protocol.specs.declared.txn.CommitPlace.TheVariants.{Locking, Checking, Returning, Saving, Copying}
+use Rattle.nam_protocol.specs.declared.txn.CommitPlace.TheVariants.{Installing, Publishing, Freeing}
+use Rattle.nam_protocol.specs.declared.txn.TxnPlace.TheVariants.{Committing}
+use Rattle.nam_protocol.specs.declared.txn.TxnAnswer.TheVariants.{Committed, ReadOnly, Spent, Locked, Newer, Full}
+use Rattle.nam_calls.specs.Stamps.{stamp_in, version_word}
+use Rattle.nam_calls.specs.Words.{no_place}
+use Rattle.nam_calls.specs.Record.{words_begin, words_verb, words_after, install_begin, install_verb, install_after}
+use Rattle.nam_calls.specs.Ring.{slot_begin, slot_verb, slot_after, copy_begin, copy_verb, copy_after}
+use Rattle.nam_calls.specs.Lock.{nth_place, lock_begin, lock_verb, lock_after, taken, unlock_verb, unlock_after}
+use Rattle.nam_protocol.specs.Txn.{Stepped, at, answered}
+
+-- 1. The records
+
+-- the key with the position that was claimed for it
+abbrev pub record_in : List Record → Key → Record
+record_in [] key = record { key = key; place = no_place }
+record_in (c ∷ cs) key = if same_key c.key key then c else record_in cs key
+
+-- the written keys in write-set order, then the guarded ones that aren't written
+abbrev pub commit_keys : TxnState → List Key
+commit_keys state = map item_key state.writes ++ unwritten state.writes state.guards
+
+abbrev pub records_of : TxnState → List Record
+records_of state = map (record_in state.claims) (commit_keys state)
+
+abbrev pub places : TxnState → List Place
+places state = map (λ r. r.place) state.records
+
+abbrev pub place_at : TxnState → ℕ → Place
+place_at state nth = nth_place (places state) nth
+
+abbrev pub no_record : Record
+no_record = record { key = key_at 0 0; place = no_place }
+
+abbrev pub record_at : TxnState → ℕ → Record
+record_at state nth = slice_index_or state.records nth no_record
+
+abbrev pub no_item : Item
+no_item = record { table = 0; key = 0; value = None }
+
+-- what a written record gets
+abbrev pub value_at : TxnState → ℕ → Option (List ℕ)
+value_at state nth = (slice_index_or state.writes nth no_item).value
+
+-- a record with the stamp of the header that was found
+abbrev pub lock_at : TxnState → ℕ → ℕ → Lock
+lock_at state nth word =
+    let r = record_at state nth in record { table = r.key.table; key = r.key.key; stamp = stamp_in r.place.form word }
+
+-- the stamp of this commit, and the header of a written record's new version
+abbrev pub own_stamp : TxnState → Stamp
+own_stamp state = record { thread = state.worker; number = state.last + 1 }
+
+abbrev pub new_header : TxnState → ℕ → ℕ
+new_header state nth = version_word (place_at state nth).form (own_stamp state) (not (is_some (value_at state nth)))
+
+-- 2. The commit is asked
+
+abbrev pub ask_commit : Shape → TxnState → Stepped
+ask_commit shape state =
+    if length state.writes == 0 then answered (record state { read = None }) ReadOnly
+    else if state.last == greatest_number shape.form then answered (record state { read = None }) Spent
+    else at (record state { read = None; records = records_of state; held = []; counts = [] }) (Committing (Locking lock_begin))
+
+-- 3. The verb that stands
+
+abbrev pub commit_verb : TxnState → CommitPlace → Verb
+commit_verb state (Locking at) = lock_verb state.worker (places state) at
+commit_verb state (Checking at) = slot_verb (place_at state (length state.counts)) at
+commit_verb state (Returning given full) = unlock_verb (places state) state.held given
+commit_verb state (Saving nth got) = words_verb (place_at state nth) got
+commit_verb state (Copying nth old at) =
+    copy_verb (place_at state nth) (slice_index state.counts nth) (slice_index state.held nth) old (own_stamp state) at
+commit_verb state (Installing nth at) =
+    install_verb (place_at state nth) (value_at state nth) (slice_index state.counts nth) (new_header state nth) at
+commit_verb state Publishing = write_of state.worker (state.last + 1)
+commit_verb state (Freeing nth) = unlock_verb (places state) state.held nth
+
+-- 4. A word is taken
+
+abbrev pub go : TxnState → CommitPlace → Stepped
+go state place = at state (Committing place)
+
+-- step 1: the locks
+abbrev pub on_lock : TxnState → Now LockPlace LockEnd → Stepped
+on_lock state (At place) = go state (Locking place)
+on_lock state (Over (lock_end.Held headers)) = go (record state { held = headers }) (Checking slot_begin)
+on_lock state (Over (lock_end.Locked nth found)) = answered state (Locked (lock_at state nth found))
+on_lock state (Over (lock_end.Newer nth found)) = answered state (Newer (lock_at state nth found))
+
+-- step 2: the slots of the written records
+abbrev pub next_check : TxnState → Stepped
+next_check state = if length state.counts == length state.writes then go state (Saving 0 words_begin) else go state (Checking slot_begin)
+
+abbrev pub on_slot : TxnState → Now SlotPlace SlotEnd → Stepped
+on_slot state (At place) = go state (Checking place)
+on_slot state (Over (Free count)) = next_check (record state { counts = state.counts ++ count ∷ [] })
+on_slot state (Over (NotMoved slot found)) = go state (Returning 0 (lock_at state (length state.counts) found))
+
+abbrev pub on_return : TxnState → Lock → Now ℕ (Unit {0}) → Stepped
+on_return state full (At given) = go state (Returning given full)
+on_return state full (Over done) = answered state (Full full)
+
+-- step 3: record after record its words, the copy into the slot, and the new version
+abbrev pub on_words : TxnState → ℕ → Now (List ℕ) (List ℕ) → Stepped
+on_words state nth (At got) = go state (Saving nth got)
+on_words state nth (Over old) = go state (Copying nth old copy_begin)
+
+abbrev pub on_copy : TxnState → ℕ → List ℕ → Now CopyPlace (Unit {0}) → Stepped
+on_copy state nth old (At place) = go state (Copying nth old place)
+on_copy state nth old (Over done) = go state (Installing nth (install_begin (value_at state nth)))
+
+abbrev pub on_install : TxnState → ℕ → Now InstallPlace (Unit {0}) → Stepped
+on_install state nth (At place) = go state (Installing nth place)
+on_install state nth (Over done) =
+    if nth + 1 == length state.writes then go state Publishing else go state (Saving (nth + 1) words_begin)
+
+-- steps 4 and 5: the worker's entry, then the guards
+abbrev pub next_free : TxnState → ℕ → Stepped
+next_free state nth = if nth == length state.records then answered state (Committed (state.last + 1)) else go state (Freeing nth)
+
+abbrev pub commit_after : TxnState → CommitPlace → ℕ → Stepped
+commit_after state (Locking at) found = on_lock state (lock_after (places state) state.seen at found)
+commit_after state (Checking at) found = on_slot state (slot_after (place_at state (length state.counts)) at found)
+commit_after state (Returning given full) found = on_return state full (unlock_after (places state) given)
+commit_after state (Saving nth got) found = on_words state nth (words_after (place_at state nth) got found)
+commit_after state (Copying nth old at) found = on_copy state nth old (copy_after (place_at state nth) at)
+commit_after state (Installing nth at) found = on_install state nth (install_after (place_at state nth) at)
+commit_after state Publishing found = next_free state (length state.writes)
+commit_after state (Freeing nth) found = next_free state (nth + 1)
+
+-- 5. The locks that it has taken: while it locks, those so far
+
+abbrev pub locks_taken : TxnState → CommitPlace → List ℕ
+locks_taken state (Locking at) = taken at
+locks_taken state _ = state.held

@@ -1,0 +1,117 @@
+-- The operations of a transaction as calls: find, read, decide, claim.
+use Rattle.std.specs.Prelude.{ℕ, not, if◌then◌else◌, List, [], ◌∷◌, Option, None}
+use Rattle.nam_verbs.specs.declared.now.Now.{Now}
+use Rattle.nam_verbs.specs.declared.now.Now.TheVariants.{At, Over}
+use Rattle.si_model.specs.declared.op.Op.{Op}
+use Rattle.si_model.specs.Rows.{same_key, writes_key}
+use Rattle.si_model.specs.Evaluation.{passes, writes_after, guards_after}
+use Rattle.nam_catalog.specs.declared.shape.Shape.{Shape}
+use Rattle.nam_catalog.specs.Tables.{widths_of}
+use Rattle.nam_layout.specs.Place.{place_of}
+use Rattle.nam_calls.specs.declared.index.FindEnd.{FindEnd}
+use Rattle.nam_calls.specs.declared.index.FindEnd.TheVariants as found_key
+use Rattle.nam_calls.specs.declared.index.ClaimKeyPlace.{ClaimKeyPlace}
+use Rattle.nam_calls.specs.declared.index.ClaimKeyEnd.{ClaimKeyEnd}
+use Rattle.nam_calls.specs.declared.index.ClaimKeyEnd.TheVariants as claimed_key
+use Rattle.nam_calls.specs.declared.reading.ReadPlace.{ReadPlace}
+use Rattle.nam_calls.specs.declared.reading.ReadingEnd.{ReadingEnd}
+use Rattle.nam_calls.specs.declared.reading.ReadingEnd.TheVariants as read_end
+use Rattle.nam_protocol.specs.declared.txn.Record.{Record}
+use Rattle.nam_protocol.specs.declared.txn.TxnState.{TxnState}
+use Rattle.nam_protocol.specs.declared.txn.TxnPlace.{TxnPlace}
+use Rattle.nam_protocol.specs.declared.txn.TxnPlace.TheVariants.{Finding, Reading, Claiming}
+use Rattle.nam_protocol.specs.declared.txn.TxnAnswer.{TxnAnswer}
+use Rattle.nam_protocol.specs.declared.txn.TxnAnswer.TheVariants.{TooOld, NoSpace, Declined, Astray}
+use Rattle.nam_calls.specs.Index.{find_begin, claim_key_begin}
+use Rattle.nam_calls.specs.Reading.{read_begin}
+use Rattle.nam_protocol.specs.Operations.{key_of, reads, claims, holding, own_value, read_of, value_in, answer_of}
+
+-- a transaction, and where its call stands or how it was answered
+pub record Stepped : Type 0 where
+  pub state : TxnState
+  pub call : Now TxnPlace TxnAnswer
+
+-- a new transaction
+abbrev pub new_txn : ℕ → ℕ → List ℕ → TxnState
+new_txn worker last seen = record {
+  worker = worker;
+  last = last;
+  seen = seen;
+  writes = [];
+  guards = [];
+  claims = [];
+  read = None;
+  records = [];
+  held = [];
+  counts = [];
+}
+
+abbrev pub at : TxnState → TxnPlace → Stepped
+at state place = record { state = state; call = At place }
+
+abbrev pub answered : TxnState → TxnAnswer → Stepped
+answered state answer = record { state = state; call = Over answer }
+
+-- the claimed keys with one more, each once
+abbrev pub with_claim : List Record → Record → List Record
+with_claim [] r = r ∷ []
+with_claim (c ∷ cs) r = if same_key c.key r.key then c ∷ cs else c ∷ with_claim cs r
+
+module _ (shape : Shape) where
+  -- the write set and the guards after an operation that found this value
+  abbrev pub with_op : TxnState → Op → Option (List ℕ) → TxnState
+  with_op state op value = record state {
+    writes = writes_after (widths_of shape.tables) op (holding value) state.writes;
+    guards = guards_after op state.guards;
+  }
+
+  -- 1. An operation is asked
+
+  -- a key of the write set takes no verb
+  abbrev pub with_own : TxnState → Op → Option (List ℕ) → Stepped
+  with_own state op value =
+      if not (passes op (holding value)) then answered state Declined else answered (with_op state op value) (answer_of op value)
+
+  abbrev pub ask_op : TxnState → Op → Stepped
+  ask_op state op =
+      if writes_key state.writes (key_of op)
+      then (let own = own_value state.writes (key_of op) in with_own (record state { read = read_of op own }) op own)
+      else if reads op then at (record state { read = None }) (Finding op find_begin)
+      else at (record state { read = None }) (Claiming op claim_key_begin)
+
+  -- 2. The value is known: a decline stands before any claim
+
+  abbrev pub decided : TxnState → Op → Option (List ℕ) → Stepped
+  decided state op value =
+      if not (passes op (holding value)) then answered state Declined
+      else if claims op then at state (Claiming op claim_key_begin)
+      else answered state (answer_of op value)
+
+  abbrev pub valued : TxnState → Op → Option (List ℕ) → Stepped
+  valued state op value = decided (record state { read = read_of op value }) op value
+
+  abbrev pub on_find : TxnState → Op → Now ℕ FindEnd → Stepped
+  on_find state op (At passed) = at state (Finding op passed)
+  on_find state op (Over (found_key.At position)) = at state (Reading op position read_begin)
+  on_find state op (Over found_key.Absent) = valued state op None
+
+  abbrev pub on_read : TxnState → Op → ℕ → Now ReadPlace ReadingEnd → Stepped
+  on_read state op position (At place) = at state (Reading op position place)
+  on_read state op position (Over (read_end.Got value)) = valued state op value
+  on_read state op position (Over (read_end.Passed worker entry horizon)) = answered state (TooOld worker entry horizon)
+  on_read state op position (Over read_end.Astray) = answered state Astray
+
+  -- 3. The key has its position
+
+  abbrev pub record_of : Op → ℕ → Record
+  record_of op position = record { key = key_of op; place = place_of shape (key_of op).table position }
+
+  -- the operation on the value that it read
+  abbrev pub claimed : TxnState → Op → ℕ → TxnState
+  claimed state op position =
+      with_op (record state { claims = with_claim state.claims (record_of op position) }) op (value_in state.read)
+
+  abbrev pub on_claim : TxnState → Op → Now ClaimKeyPlace ClaimKeyEnd → Stepped
+  on_claim state op (At place) = at state (Claiming op place)
+  on_claim state op (Over claimed_key.NoSpace) = answered state (NoSpace (key_of op).table)
+  on_claim state op (Over (claimed_key.At position)) = answered (claimed state op position) (answer_of op (value_in state.read))

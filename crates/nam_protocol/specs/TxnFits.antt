@@ -1,0 +1,153 @@
+-- What holds of a transaction and of the places of its calls, of a scan, and of a client.
+use Rattle.std.specs.Prelude.{◌≡◌, ℕ, ◌+◌, ◌-◌, ◌*◌, ◌<◌, ◌≤◌, Bool, true, false, if◌then◌else◌, List, [], ◌∷◌, length}
+use Rattle.std.specs.Prelude.{map}
+use Rattle.std.specs.List.{AllByRecursion}
+use Rattle.nam_verbs.specs.declared.now.Now.{Now}
+use Rattle.nam_verbs.specs.declared.now.Now.TheVariants.{At, Over}
+use Rattle.si_model.specs.declared.row.Key.{Key}
+use Rattle.si_model.specs.declared.row.Item.{Item}
+use Rattle.si_model.specs.declared.op.Op.{Op}
+use Rattle.si_model.specs.declared.op.Op.TheVariants as op
+use Rattle.si_model.specs.Rows.{same_key, item_key}
+use Rattle.si_model.specs.Evaluation.{OpFits, unwritten}
+use Rattle.si_model.specs.EvaluationLaws.{IsWide, is_scan}
+use Rattle.nam_catalog.specs.declared.shape.Shape.{Shape}
+use Rattle.nam_catalog.specs.Tables.{widths_of}
+use Rattle.nam_layout.specs.RowLaw.{IsPosition}
+use Rattle.nam_layout.specs.Place.{place_of}
+use Rattle.nam_protocol.specs.declared.scan.ScanPlace.{ScanPlace}
+use Rattle.nam_protocol.specs.declared.scan.ScanPlace.TheVariants.{ScanKey, ScanRead}
+use Rattle.nam_protocol.specs.declared.scan.ScanAnswer.{ScanAnswer}
+use Rattle.nam_protocol.specs.declared.scan.ScanAnswer.TheVariants as scan
+use Rattle.nam_protocol.specs.declared.txn.Record.{Record}
+use Rattle.nam_protocol.specs.declared.txn.TxnState.{TxnState}
+use Rattle.nam_protocol.specs.declared.txn.TxnCall.{TxnCall}
+use Rattle.nam_protocol.specs.declared.txn.TxnCall.TheVariants.{Get, Put, Add, Del, Need, Guard, Commit}
+use Rattle.nam_protocol.specs.declared.txn.TxnPlace.{TxnPlace}
+use Rattle.nam_protocol.specs.declared.txn.TxnPlace.TheVariants.{Finding, Reading, Claiming, Committing}
+use Rattle.nam_protocol.specs.declared.txn.CommitPlace.{CommitPlace}
+use Rattle.nam_protocol.specs.declared.txn.CommitPlace.TheVariants.{Locking, Checking, Returning, Saving, Copying}
+use Rattle.nam_protocol.specs.declared.txn.CommitPlace.TheVariants.{Installing, Publishing, Freeing}
+use Rattle.nam_protocol.specs.Txn.{Stepped}
+use Rattle.nam_calls.specs.Words.{width_of, capacity_of}
+use Rattle.nam_calls.specs.Reading.{sight_of, read_begin}
+use Rattle.nam_protocol.specs.Operations.{key_of, value_in}
+use Rattle.nam_protocol.specs.Commit.{records_of, place_at}
+use Rattle.nam_protocol.specs.Scan.{positions_left, scan_left}
+use Rattle.nam_protocol.specs.Bound.{txn_left, op_bound, writes_bound}
+use Rattle.nam_calls.specs.Fits.{Falls, Any, HasWidth, IsOf, FindFits, ClaimKeyFits, ReadFits, WordsFit, WordsEnd}
+use Rattle.nam_calls.specs.Fits.{CopyFits, InstallFits, LockFits}
+
+-- a call begins at a place that fits, with at most n verbs to come, or takes none
+abbrev pub Begins : {P E : Type 0} → (P → Type 0) → (E → Type 0) → (P → ℕ) → ℕ → Now P E → Type 0
+Begins Fits Ends left n (At place) = Fits place × (left place ≤ n)
+Begins Fits Ends left n (Over end) = Ends end
+
+-- is the key one of those that were claimed
+abbrev pub is_claimed : List Record → Key → Bool
+is_claimed [] key = false
+is_claimed (c ∷ cs) key = if same_key c.key key then true else is_claimed cs key
+
+module _ (shape : Shape) where
+  -- the record's place is a position of its key's table
+  abbrev pub IsPlaced : Record → Type 0
+  IsPlaced r = (position : ℕ) × IsPosition shape.tables r.key.table position × (r.place ≡ place_of shape r.key.table position)
+
+  -- 1. What a transaction has at hand: each key that it writes or guards is claimed, each claimed key has a position, and
+  -- each value its table's width
+
+  pub record KeysFit (worker : ℕ) (claims : List Record) (writes : List Item) (guards : List Key) : Type 0 where
+    pub worker_is : IsOf shape.workers worker
+    pub placed : AllByRecursion (IsPlaced) claims
+    pub written : AllByRecursion (λ item. is_claimed claims (item_key item) ≡ true) writes
+    pub guarded : AllByRecursion (λ key. is_claimed claims key ≡ true) guards
+    pub wide : AllByRecursion (IsWide (widths_of shape.tables)) writes
+
+  abbrev pub StateFits : TxnState → Type 0
+  StateFits state = KeysFit state.worker state.claims state.writes state.guards
+
+  -- 2. Places of a commit
+
+  abbrev pub CommitPlaceFits : TxnState → CommitPlace → Type 0
+  CommitPlaceFits state (Locking at) = LockFits (length state.records) at × (length state.counts ≡ 0)
+  CommitPlaceFits state (Checking at) = (length state.held ≡ length state.records) × (length state.counts < length state.writes)
+  CommitPlaceFits state (Returning given full) = (length state.held ≡ length state.records) × (given < length state.records)
+  CommitPlaceFits state (Saving nth got) =
+      (length state.held ≡ length state.records) × (length state.counts ≡ length state.writes) × (nth < length state.writes)
+      × WordsFit (place_at state nth) got
+  CommitPlaceFits state (Copying nth old at) =
+      (length state.held ≡ length state.records) × (length state.counts ≡ length state.writes) × (nth < length state.writes)
+      × WordsEnd (place_at state nth) old × CopyFits (place_at state nth) at
+  CommitPlaceFits state (Installing nth at) =
+      (length state.held ≡ length state.records) × (length state.counts ≡ length state.writes) × (nth < length state.writes)
+      × InstallFits (place_at state nth) at
+  CommitPlaceFits state Publishing = (length state.held ≡ length state.records) × (length state.counts ≡ length state.writes)
+  CommitPlaceFits state (Freeing nth) =
+      (length state.held ≡ length state.records) × (length state.counts ≡ length state.writes)
+      × (length state.writes ≤ nth) × (nth < length state.records)
+
+  -- the records of the commit are those of its keys, of which at least one is written
+  abbrev pub CommitFits : TxnState → CommitPlace → Type 0
+  CommitFits state at = (state.records ≡ records_of state) × (1 ≤ length state.writes) × CommitPlaceFits state at
+
+  -- 3. Places of a transaction
+
+  -- an operation on one key, of the tables' widths
+  abbrev pub OpStands : Op → Type 0
+  OpStands op = OpFits (widths_of shape.tables) op × (is_scan op ≡ false)
+
+  abbrev pub TxnPlaceFits : TxnState → TxnPlace → Type 0
+  TxnPlaceFits state (Finding op passed) = OpStands op × FindFits (capacity_of shape (key_of op).table) passed
+  TxnPlaceFits state (Reading op position at) =
+      OpStands op × (position < capacity_of shape (key_of op).table) × ReadFits (sight_of shape (key_of op).table position) at
+  TxnPlaceFits state (Claiming op at) =
+      OpStands op × ClaimKeyFits (capacity_of shape (key_of op).table) at × HasWidth (width_of shape (key_of op).table) (value_in state.read)
+  TxnPlaceFits state (Committing at) = CommitFits state at
+
+  -- a transaction has stepped: what it has at hand fits, and its call goes on with fewer verbs to come or was answered
+  abbrev pub TxnFalls : ℕ → Stepped → Type 0
+  TxnFalls n step = StateFits step.state × Falls (TxnPlaceFits step.state) Any (txn_left shape step.state) n step.call
+
+  abbrev pub TxnBegins : ℕ → Stepped → Type 0
+  TxnBegins n step = StateFits step.state × Begins (TxnPlaceFits step.state) Any (txn_left shape step.state) n step.call
+
+  -- 4. Calls of a transaction, and how many verbs they take at the most
+
+  abbrev pub TxnCallFits : TxnCall → Type 0
+  TxnCallFits (Get t k) = OpStands (op.Get t k)
+  TxnCallFits (Put t k v) = OpStands (op.Put t k v)
+  TxnCallFits (Add t k f up by) = OpStands (op.Add t k f up by)
+  TxnCallFits (Del t k) = OpStands (op.Del t k)
+  TxnCallFits (Need t k f least) = OpStands (op.Need t k f least)
+  TxnCallFits (Guard t k) = OpStands (op.Guard t k)
+  TxnCallFits Commit = Unit {0}
+
+  -- the written keys, the keys that are guarded only, and the worker's entry
+  abbrev pub commit_bound : TxnState → ℕ
+  commit_bound state = writes_bound shape (map item_key state.writes) + 3 * length (unwritten state.writes state.guards) + 1
+
+  abbrev pub txn_call_bound : TxnState → TxnCall → ℕ
+  txn_call_bound state (Get t k) = op_bound shape (op.Get t k)
+  txn_call_bound state (Put t k v) = op_bound shape (op.Put t k v)
+  txn_call_bound state (Add t k f up by) = op_bound shape (op.Add t k f up by)
+  txn_call_bound state (Del t k) = op_bound shape (op.Del t k)
+  txn_call_bound state (Need t k f least) = op_bound shape (op.Need t k f least)
+  txn_call_bound state (Guard t k) = op_bound shape (op.Guard t k)
+  txn_call_bound state Commit = commit_bound state
+
+  -- 5. A scan
+
+  abbrev pub ScanFits : ℕ → ScanPlace → Type 0
+  ScanFits table (ScanKey position) = position < capacity_of shape table
+  ScanFits table (ScanRead position key at) = (position < capacity_of shape table) × ReadFits (sight_of shape table position) at
+
+  abbrev pub ScanEnds : ℕ → ScanAnswer → Type 0
+  ScanEnds table (scan.Row item) = HasWidth (width_of shape table) item.value
+  ScanEnds table (scan.TooOld worker entry horizon) = IsOf shape.workers worker
+  ScanEnds table _ = Unit {0}
+
+  -- what follows a key or a row at this position: the read there, and the positions after it
+  abbrev pub after_scan : ℕ → ℕ → ScanAnswer → ℕ
+  after_scan table position (scan.Key key) = scan_left shape table (ScanRead position key read_begin)
+  after_scan table position (scan.Row item) = positions_left shape table (capacity_of shape table - position - 1)
+  after_scan table position _ = 0

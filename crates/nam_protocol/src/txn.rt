@@ -1,0 +1,165 @@
+//! Transactions: their calls, and what they have at hand.
+
+use lists::ShortList;
+use nam_calls::{ClaimKeyPlace, CopyPlace, InstallPlace, LockPlace, ReadPlace, SlotPlace};
+use nam_layout::Place;
+use si_model::{Item, Key, Lock, Op, Snapshot, Value};
+
+/// A call of a transaction. Fields are counted from 1.
+#[derive(Debug, Drop, PartialEq, Eq)]
+pub enum TxnCall {
+    /// Reads a key.
+    Get {
+        table: u32,
+        key: u64,
+    },
+    /// Gives a key a value.
+    Put {
+        table: u32,
+        key: u64,
+        value: Value,
+    },
+    /// Reads a key and adds `by` to one of its fields, or takes it away where not `up`.
+    Add {
+        table: u32,
+        key: u64,
+        field: u32,
+        up: bool,
+        by: u64,
+    },
+    /// Makes a key absent.
+    Del {
+        table: u32,
+        key: u64,
+    },
+    /// Reads a key and declines the transaction where a field is below `least`.
+    Need {
+        table: u32,
+        key: u64,
+        field: u32,
+        least: u64,
+    },
+    /// Reads a key that no concurrent transaction may write.
+    Guard {
+        table: u32,
+        key: u64,
+    },
+    /// Publishes the write set.
+    Commit,
+}
+
+/// A key and the position that bears it.
+#[derive(Clone, Copy, Debug, PartialEq, Eq)]
+pub struct Record {
+    pub key: Key,
+    pub place: Place,
+}
+
+/// An open transaction of a worker whose last commit number is `last`, on the snapshot `seen`.
+#[derive(Debug, Drop)]
+pub struct TxnState {
+    pub worker: u32,
+    pub last: u64,
+    pub seen: Snapshot,
+    /// The write set: each key once, in the order of first writes, with its last value.
+    pub writes: ShortList<Item, 16>,
+    /// The guarded keys, each once, in the order of first guards.
+    pub guards: ShortList<Key, 16>,
+    /// The keys that are written or guarded, each once, with their positions.
+    pub claims: ShortList<Record, 16>,
+    /// What the call that runs or was answered last has read.
+    pub read: Option<Item>,
+    /// The records of the commit: the written ones in write-set order, then the others that are guarded.
+    pub records: ShortList<Record, 16>,
+    /// The headers that the locked records bore.
+    pub held: ShortList<u64, 16>,
+    /// The numbers of the current versions of the written records whose slots were looked at.
+    pub counts: ShortList<u64, 16>,
+}
+
+/// Where a commit stands. Records are counted from 0, in the commit's order.
+#[derive(Debug, Drop)]
+pub enum CommitPlace {
+    /// Lock the records.
+    Locking { at: LockPlace },
+    /// Look at the slot of the next written record.
+    Checking { at: SlotPlace },
+    /// Write a record's header back, since a written record's slot is not free.
+    Returning { given: u32, full: Lock },
+    /// Read a written record's data word after those got.
+    Saving { nth: u32, got: Value },
+    /// Copy a written record's current version into its slot.
+    Copying { nth: u32, old: Value, at: CopyPlace },
+    /// Install a written record's next version.
+    Installing { nth: u32, at: InstallPlace },
+    /// Write the worker's entry of the vector.
+    Publishing,
+    /// Write a guarded record's header back.
+    Freeing { nth: u32 },
+}
+
+/// Where a transaction's call stands.
+#[derive(Debug, Drop)]
+pub enum TxnPlace {
+    /// Search the key's position, having passed so many of its path.
+    Finding {
+        op: Op,
+        passed: u32,
+    },
+    /// Read at the position.
+    Reading {
+        op: Op,
+        position: u32,
+        at: ReadPlace,
+    },
+    /// Claim a position for the key.
+    Claiming {
+        op: Op,
+        at: ClaimKeyPlace,
+    },
+    /// Commit.
+    Committing {
+        at: CommitPlace,
+    },
+}
+
+/// The answer to a transaction's call.
+#[derive(Debug, Drop, PartialEq, Eq)]
+pub enum TxnAnswer {
+    /// What a get or a guard found.
+    Value(Option<Value>),
+    /// The write set has the put or the deletion.
+    Written,
+    /// The write set has the field's new value.
+    Added(u64),
+    /// The field is at least what was needed.
+    Met,
+    /// The write set is published under this number.
+    Committed {
+        number: u64,
+    },
+    /// There was nothing to be published.
+    ReadOnly,
+    /// The horizon is above the snapshot: the worker's entries of both.
+    TooOld {
+        worker: u32,
+        entry: u64,
+        horizon: u64,
+    },
+    /// Every position of the table bears another key.
+    NoSpace {
+        table: u32,
+    },
+    /// The operation did not find what it needs.
+    Declined,
+    /// The worker has no commit number left.
+    Spent,
+    /// The record is locked by another.
+    Locked(Lock),
+    /// The record has a newer version than the snapshot sees.
+    Newer(Lock),
+    /// The slot that the record's next version needs has a version that was not moved yet.
+    Full(Lock),
+    /// A read went astray: this never comes in a world.
+    Astray,
+}

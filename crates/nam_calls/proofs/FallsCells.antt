@@ -1,8 +1,11 @@
 -- The verbs to come fall in the machines of a bucket's cells, and in a move.
-use Rattle.std.proofs.Common.{◌≡◌, ℕ, ◌+◌, ◌-◌, ◌*◌, ◌<◌, ◌≤◌, List, [], length, arith, Some, None}
 use Rattle.std.specs.Prelude.{if◌then◌else◌}
+use Rattle.std.proofs.Common.{◌≡◌, ℕ, ◌+◌, ◌-◌, ◌*◌, ◌<◌, ◌≤◌, List, [], length, arith, Some, None}
 use Rattle.nam_verbs.specs.declared.now.Now.{Now}
 use Rattle.nam_verbs.specs.declared.now.Now.TheVariants.{At, Over}
+use Rattle.nam_verbs.specs.Falls.{Falls, Any}
+use Rattle.nam_header.specs.Stamp.{is_deleted, without_moved}
+use Rattle.nam_header.specs.Tag.{written}
 use Rattle.nam_layout.specs.declared.field.Place.{Place}
 use Rattle.nam_layout.specs.declared.field.Cells.{Cells}
 use Rattle.nam_layout.specs.PlaceFits.{FitsPlace, FitsCells}
@@ -19,17 +22,18 @@ use Rattle.nam_calls.specs.declared.overflow.Version.{Version}
 use Rattle.nam_calls.specs.declared.overflow.FillPlace.{FillPlace}
 use Rattle.nam_calls.specs.declared.overflow.FillPlace.TheVariants.{FillOwner, FillBegin, FillEnding, FillWord}
 use Rattle.nam_calls.specs.declared.mover.MovePlace.{MovePlace}
-use Rattle.nam_calls.specs.declared.mover.MovePlace.TheVariants.{MoveCount, MoveHead, MoveEnding, MoveClaim, MoveWords}
+use Rattle.nam_calls.specs.declared.mover.MovePlace.TheVariants.{MoveCount, MoveHead, MoveEnding, MoveClaim}
+use Rattle.nam_calls.specs.declared.mover.MovePlace.TheVariants.{MoveWords}
 use Rattle.nam_calls.specs.declared.mover.MovePlace.TheVariants.{MoveFill, MoveAgain, MoveFull, MoveFlag, MoveBack}
 use Rattle.nam_calls.specs.declared.mover.MoveAnswer.{MoveAnswer}
-use Rattle.nam_calls.specs.declared.mover.MoveAnswer.TheVariants as answer
-use Rattle.nam_calls.specs.Stamps.{is_deleted, without_moved, written}
-use Rattle.nam_calls.specs.Overflow.{cell_after, cell_left, cells_left, next_cell, claim_next, claim_after, claim_left}
+use Rattle.nam_calls.specs.Overflow.{cell_after, cell_left, cells_left, next_cell, claim_next, claim_after}
+use Rattle.nam_calls.specs.Overflow.{claim_left}
 use Rattle.nam_calls.specs.Overflow.{fill_begin, fill_after, fill_left}
 use Rattle.nam_calls.specs.Mover.{on_claim, on_fill, move_after, move_left}
-use Rattle.nam_calls.specs.Fits.{Falls, Any, SearchEnds, CellFits, ClaimFits, ClaimEnds, FillFits, MoveFits}
+use Rattle.nam_calls.specs.Fits.{SearchEnds, CellFits, ClaimFits, ClaimEnds, FillFits, MoveFits}
 use Rattle.nam_calls.proofs.FallsTests.{either, or_last, one_more, later_row, wide_or_none}
 use Rattle.nam_calls.proofs.FallsMachines.{slot_within}
+use Rattle.nam_calls.specs.declared.mover.MoveAnswer.TheVariants as answer
 
 -- 1. The search of a bucket
 

@@ -1,20 +1,22 @@
 -- The verbs to come fall in the machines of locks.
 use Rattle.std.proofs.Common.{◌≡◌, ℕ, ◌+◌, ◌-◌, ◌<◌, ◌≤◌, List, [], ◌∷◌, ◌++◌, length, length-append, arith}
-use Rattle.std.specs.Prelude.{◌==◌, if◌then◌else◌}
+use Rattle.std.specs.Prelude.{if◌then◌else◌, ◌==◌}
 use Rattle.std.proofs.lemmas.Bool.Decides.{nat_tests}
 use Rattle.nam_verbs.specs.declared.now.Now.{Now}
 use Rattle.nam_verbs.specs.declared.now.Now.TheVariants.{At, Over}
+use Rattle.nam_verbs.proofs.TestLemmas.{by_test}
+use Rattle.nam_verbs.specs.Falls.{FallsTo, Falls, Any}
 use Rattle.nam_catalog.specs.declared.form.Form.{Form}
+use Rattle.nam_header.specs.Stamp.{is_locked, sees}
 use Rattle.nam_layout.specs.declared.field.Place.{Place}
 use Rattle.nam_calls.specs.declared.lock.LockPlace.{LockPlace}
 use Rattle.nam_calls.specs.declared.lock.LockPlace.TheVariants.{Peek, Seize, GiveBack}
 use Rattle.nam_calls.specs.declared.lock.LockEnd.{LockEnd}
 use Rattle.nam_calls.specs.declared.lock.LockEnd.TheVariants.{Held, Locked, Newer}
-use Rattle.nam_calls.specs.Stamps.{sees, is_locked}
 use Rattle.nam_calls.specs.Lock.{nth_place, loss_of, give_back, lock_next, lock_after, lock_left, unlock_after}
 use Rattle.nam_calls.specs.Lock.{unlock_left}
-use Rattle.nam_calls.specs.Fits.{FallsTo, Falls, Any, LockFits, LockEnds, after_locks}
-use Rattle.nam_calls.proofs.FallsTests.{either, by_test, or_last}
+use Rattle.nam_calls.specs.Fits.{LockFits, LockEnds, after_locks}
+use Rattle.nam_calls.proofs.FallsTests.{either, or_last}
 
 module _ (places : List Place) (rest : ℕ) (enough : length places ≤ rest) where
   abbrev pub LockFalls : ℕ → Now LockPlace LockEnd → Type 0

@@ -1,22 +1,22 @@
 -- The verbs to come fall in each machine.
 use Rattle.std.proofs.Common.{ℕ, ◌+◌, ◌-◌, ◌*◌, ◌<◌, List, [], arith, ◌||◌, Some, None}
-use Rattle.std.specs.Prelude.{◌==◌, if◌then◌else◌}
+use Rattle.std.specs.Prelude.{if◌then◌else◌, ◌==◌}
 use Rattle.std.proofs.lemmas.Bool.Decides.{nat_tests}
 use Rattle.nam_verbs.specs.declared.now.Now.{Now}
 use Rattle.nam_verbs.specs.declared.now.Now.TheVariants.{At, Over}
-use Rattle.nam_catalog.specs.declared.shape.Shape.{Shape}
+use Rattle.nam_verbs.proofs.TestLemmas.{by_test}
+use Rattle.nam_verbs.specs.Falls.{Falls, Any}
+use Rattle.nam_header.specs.Stamp.{is_locked, is_deleted}
 use Rattle.nam_layout.specs.declared.field.Place.{Place}
 use Rattle.nam_layout.specs.PlaceFits.{FitsPlace}
+use Rattle.nam_layout.specs.Place.{slot_of}
 use Rattle.nam_calls.specs.declared.index.FindEnd.{FindEnd}
-use Rattle.nam_calls.specs.declared.index.FindEnd.TheVariants as found_key
 use Rattle.nam_calls.specs.declared.index.ClaimKeyPlace.{ClaimKeyPlace}
 use Rattle.nam_calls.specs.declared.index.ClaimKeyPlace.TheVariants.{KeyLook, KeyTake}
 use Rattle.nam_calls.specs.declared.index.ClaimKeyEnd.{ClaimKeyEnd}
-use Rattle.nam_calls.specs.declared.index.ClaimKeyEnd.TheVariants as claimed_key
 use Rattle.nam_calls.specs.declared.record.CurrentPlace.{CurrentPlace}
 use Rattle.nam_calls.specs.declared.record.CurrentPlace.TheVariants.{CurrentHead, CurrentWords, CurrentAgain}
 use Rattle.nam_calls.specs.declared.record.CurrentEnd.{CurrentEnd}
-use Rattle.nam_calls.specs.declared.record.CurrentEnd.TheVariants as current
 use Rattle.nam_calls.specs.declared.record.InstallPlace.{InstallPlace}
 use Rattle.nam_calls.specs.declared.record.InstallPlace.TheVariants.{InstallWord, InstallCount, InstallHead}
 use Rattle.nam_calls.specs.declared.ring.SlotPlace.{SlotPlace}
@@ -29,62 +29,65 @@ use Rattle.nam_calls.specs.declared.ring.RingPlace.{RingPlace}
 use Rattle.nam_calls.specs.declared.ring.RingPlace.TheVariants.{SlotHead, SlotEnding, SlotWords, SlotAgain}
 use Rattle.nam_calls.specs.declared.ring.SearchEnd.{SearchEnd}
 use Rattle.nam_calls.specs.declared.ring.SearchEnd.TheVariants.{Found, NotThere}
-use Rattle.nam_calls.specs.Stamps.{is_deleted, is_locked}
-use Rattle.nam_calls.specs.Words.{capacity_of, on_path, key_word, slot_of}
-use Rattle.nam_calls.specs.Index.{find_after, find_left, claim_key_after, claim_key_next, claim_key_left}
+use Rattle.nam_calls.specs.Words.{key_word}
+use Rattle.nam_calls.specs.Index.{nth_position, find_after, find_left, claim_key_after, claim_key_next, claim_key_left}
 use Rattle.nam_calls.specs.Record.{current_after, current_left, words_after, words_left, install_after, install_left}
 use Rattle.nam_calls.specs.Ring.{slot_after, slot_left, copy_after, copy_left, next_slot, ring_after, slots_left}
 use Rattle.nam_calls.specs.Ring.{ring_left}
-use Rattle.nam_calls.specs.Fits.{Falls, Any, FindFits, FindEnds, ClaimKeyFits, ClaimKeyEnds, CurrentFits, CurrentEnds}
+use Rattle.nam_calls.specs.Fits.{FindFits, FindEnds, ClaimKeyFits, ClaimKeyEnds, CurrentFits, CurrentEnds}
 use Rattle.nam_calls.specs.Fits.{WordsFit, WordsEnd, InstallFits, SlotEnds, CopyFits, RingFits, SearchEnds}
-use Rattle.nam_calls.proofs.FallsTests.{either, by_test, or_last, one_more, later_row, wide_or_none}
+use Rattle.nam_calls.proofs.FallsTests.{either, or_last, one_more, later_row, wide_or_none}
+use Rattle.nam_calls.specs.declared.index.Path.{Path}
+use Rattle.nam_calls.specs.declared.index.FindEnd.TheVariants as found_key
+use Rattle.nam_calls.specs.declared.index.ClaimKeyEnd.TheVariants as claimed_key
+use Rattle.nam_calls.specs.declared.record.CurrentEnd.TheVariants as current
 
 -- 1. Finding and claiming a key
 
-module _ (shape : Shape) (table key : ℕ) where
+module _ (path : Path) where
   abbrev capacity : ℕ
-  capacity = capacity_of shape table
+  capacity = path.capacity
 
   abbrev pub FindFalls : ℕ → Now ℕ FindEnd → Type 0
-  FindFalls = Falls (FindFits capacity) (FindEnds capacity) (find_left shape table)
+  FindFalls = Falls (FindFits capacity) (FindEnds capacity) (find_left path)
 
   abbrev pub ClaimKeyFalls : ℕ → Now ClaimKeyPlace ClaimKeyEnd → Type 0
-  ClaimKeyFalls = Falls (ClaimKeyFits capacity) (ClaimKeyEnds capacity) (claim_key_left shape table)
+  ClaimKeyFalls = Falls (ClaimKeyFits capacity) (ClaimKeyEnds capacity) (claim_key_left path)
 
   -- each position of a path is one of the table
-  path_within : (passed : ℕ) → passed < capacity → on_path capacity key passed < capacity
+  path_within : (passed : ℕ) → passed < capacity → nth_position path passed < capacity
   path_within passed l = omega arith
 
-  pub find_falls : (passed found : ℕ) → FindFits capacity passed → FindFalls (find_left shape table passed) (find_after shape table key passed found)
+  pub find_falls : (passed found : ℕ) → FindFits capacity passed → FindFalls (find_left path passed) (find_after path passed found)
   find_falls passed found l =
-      let n = find_left shape table passed in
+      let n = find_left path passed in
       let r = path_within passed l in
-      either (FindFalls n) (found == key_word key) (Over (found_key.At (on_path capacity key passed)))
+      either (FindFalls n) (found == key_word path.key) (Over (found_key.At (nth_position path passed)))
       (if (found == 0) || (passed + 1 == capacity) then Over found_key.Absent else At (passed + 1))
       (r, omega arith)
       (by_test (FindFalls n) ((found == 0) || (passed + 1 == capacity)) (Over found_key.Absent) (At (passed + 1)) (λ e. (tt, omega arith))
       (λ e. grind (arith, nat_tests)))
 
-  next_falls : (passed n : ℕ) → passed < capacity → 2 * (capacity - passed - 1) < n → ClaimKeyFalls n (claim_key_next shape table passed)
+  next_falls : (passed n : ℕ) → passed < capacity → 2 * (capacity - passed - 1) < n → ClaimKeyFalls n (claim_key_next path passed)
   next_falls passed n l m =
       or_last (ClaimKeyFalls n) capacity passed (Over claimed_key.NoSpace) (At (KeyLook (passed + 1))) l (λ e. (tt, omega arith))
       (λ e. (e, omega arith))
 
   pub claim_key_falls : (place : ClaimKeyPlace) (found : ℕ) → ClaimKeyFits capacity place
-      → ClaimKeyFalls (claim_key_left shape table place) (claim_key_after shape table key place found)
+      → ClaimKeyFalls (claim_key_left path place) (claim_key_after path place found)
   claim_key_falls (KeyLook passed) found l =
-      let n = claim_key_left shape table (KeyLook passed) in
+      let n = claim_key_left path (KeyLook passed) in
       let r = path_within passed l in
-      either (ClaimKeyFalls n) (found == key_word key) (Over (claimed_key.At (on_path capacity key passed)))
-      (if found == 0 then At (KeyTake passed) else claim_key_next shape table passed)
+      either (ClaimKeyFalls n) (found == key_word path.key) (Over (claimed_key.At (nth_position path passed)))
+      (if found == 0 then At (KeyTake passed) else claim_key_next path passed)
       (r, omega arith)
-      (either (ClaimKeyFalls n) (found == 0) (At (KeyTake passed)) (claim_key_next shape table passed) (l, omega arith)
+      (either (ClaimKeyFalls n) (found == 0) (At (KeyTake passed)) (claim_key_next path passed) (l, omega arith)
       (next_falls passed n l (omega arith)))
   claim_key_falls (KeyTake passed) found l =
-      let n = claim_key_left shape table (KeyTake passed) in
+      let n = claim_key_left path (KeyTake passed) in
       let r = path_within passed l in
-      either (ClaimKeyFalls n) ((found == 0) || (found == key_word key)) (Over (claimed_key.At (on_path capacity key passed)))
-      (claim_key_next shape table passed)
+      either (ClaimKeyFalls n) ((found == 0) || (found == key_word path.key)) (Over (claimed_key.At (nth_position path passed)))
+      (claim_key_next path passed)
       (r, omega arith) (next_falls passed n l (omega arith))
 
 -- 2. A position's words

@@ -1,14 +1,15 @@
 -- The verbs to come fall in the machines of the horizon, and in a whole read.
 use Rattle.std.proofs.Common.{◌≡◌, ℕ, ◌+◌, ◌-◌, ◌*◌, ◌<◌, ◌≤◌, List, [], ◌∷◌, ◌++◌, length, arith, Some}
-use Rattle.std.specs.Prelude.{◌==◌, if◌then◌else◌, slice_index}
+use Rattle.std.specs.Prelude.{if◌then◌else◌, ◌==◌, slice_index}
 use Rattle.std.proofs.lemmas.Bool.Decides.{nat_tests}
 use Rattle.nam_verbs.specs.declared.now.Now.{Now}
 use Rattle.nam_verbs.specs.declared.now.Now.TheVariants.{At, Over}
+use Rattle.nam_verbs.proofs.TestLemmas.{by_test}
+use Rattle.nam_verbs.specs.Falls.{Falls}
 use Rattle.nam_layout.specs.declared.field.Cells.{Cells}
 use Rattle.nam_layout.specs.PlaceFits.{FitsCells}
 use Rattle.nam_calls.specs.declared.record.CurrentPlace.{CurrentPlace}
 use Rattle.nam_calls.specs.declared.record.CurrentEnd.{CurrentEnd}
-use Rattle.nam_calls.specs.declared.record.CurrentEnd.TheVariants as current
 use Rattle.nam_calls.specs.declared.ring.RingPlace.{RingPlace}
 use Rattle.nam_calls.specs.declared.ring.SearchEnd.{SearchEnd}
 use Rattle.nam_calls.specs.declared.ring.SearchEnd.TheVariants.{Found, NotThere}
@@ -29,10 +30,11 @@ use Rattle.nam_calls.specs.Ring.{ring_begin}
 use Rattle.nam_calls.specs.Horizon.{collect_after, collect_next, collect_left, entry_known, old_after, old_left}
 use Rattle.nam_calls.specs.Reading.{on_current, on_unsure, on_ring, on_cells, on_horizon, read_after, ring_whole}
 use Rattle.nam_calls.specs.Reading.{cells_whole, old_versions_left, read_left}
-use Rattle.nam_calls.specs.Fits.{Falls, IsOf, CollectFits, CollectEnds, OldEnds, SightFits, ReadFits, ReadEnds}
-use Rattle.nam_calls.proofs.FallsTests.{either, by_test, or_last, one_more, all_rows}
+use Rattle.nam_calls.specs.Fits.{IsOf, CollectFits, CollectEnds, OldEnds, SightFits, ReadFits, ReadEnds}
+use Rattle.nam_calls.proofs.FallsTests.{either, or_last, one_more, all_rows}
 use Rattle.nam_calls.proofs.FallsMachines.{CurrentFalls, current_falls, RingFalls, ring_falls}
 use Rattle.nam_calls.proofs.FallsCells.{CellFalls, cell_falls}
+use Rattle.nam_calls.specs.declared.record.CurrentEnd.TheVariants as current
 
 -- 1. A collection
 

@@ -2,20 +2,16 @@
 use Rattle.std.proofs.Common.{◌≡◌, ℕ, suc, ◌+◌, ◌-◌, ◌*◌, ◌<◌, ◌≤◌, List, [], ◌∷◌, ◌++◌, length, length-append, refl}
 use Rattle.std.proofs.Common.{arith, Bool, true, false, Some, None}
 use Rattle.std.proofs.Math.Nat.{suc-mul}
-use Rattle.std.specs.Prelude.{◌==◌, if◌then◌else◌}
+use Rattle.std.specs.Prelude.{if◌then◌else◌, ◌==◌}
 use Rattle.std.proofs.lemmas.Bool.Decides.{nat_tests}
-use Rattle.nam_calls.specs.Words.{until}
+use Rattle.nam_verbs.proofs.TestLemmas.{by_test}
+use Rattle.nam_verbs.specs.Until.{until}
 use Rattle.nam_calls.specs.Fits.{HasWidth}
 
 -- either way of a test
 pub either : {A : Type 0} (P : A → Type 0) (b : Bool) (x y : A) → P x → P y → P (if b then x else y)
 either P true x y f g = f
 either P false x y f g = g
-
--- either way of a test, each with what the test says
-pub by_test : {A : Type 0} (P : A → Type 0) (b : Bool) (x y : A) → (b ≡ true → P x) → (b ≡ false → P y) → P (if b then x else y)
-by_test P true x y f g = f refl
-by_test P false x y f g = g refl
 
 pub next_is : (r c : ℕ) → c < r → (c + 1 == r) ≡ false → c + 1 < r
 next_is r c l e = grind (arith, nat_tests)

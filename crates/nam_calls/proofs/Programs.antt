@@ -2,14 +2,15 @@
 use Rattle.std.proofs.Common.{◌≡◌, ℕ, zero, suc, ◌+◌, ◌<◌, Bool, true, false, not, List, [], ◌∷◌, ◌++◌, length, refl}
 use Rattle.std.proofs.Common.{sym, ◌∙◌, ap, subst, arith, length-append}
 use Rattle.std.proofs.Math.Path.{fun_ext}
-use Rattle.std.specs.Prelude.{◌==◌, if◌then◌else◌}
+use Rattle.std.specs.Prelude.{if◌then◌else◌, ◌==◌}
 use Rattle.std.proofs.lemmas.Bool.Decides.{nat_tests}
-use Rattle.nam_verbs.specs.declared.verb.Verb.{Verb}
-use Rattle.nam_verbs.specs.declared.verb.Verb.TheVariants.{Read, Write}
 use Rattle.nam_verbs.specs.declared.now.Now.{Now}
 use Rattle.nam_verbs.specs.declared.now.Now.TheVariants.{At, Over}
-use Rattle.nam_calls.specs.Words.{until}
-use Rattle.nam_calls.specs.Program.{Prog, Ret, Do, ◌>>=◌, words, write_words, IsProgram, IsTheProgram, standing, taking}
+use Rattle.nam_verbs.specs.Until.{until}
+use Rattle.nam_verbs.specs.VerbAt.{VerbAt, ReadAt, WriteAt}
+use Rattle.nam_layout.specs.declared.field.Field.{Field}
+use Rattle.nam_calls.specs.Program.{Prog, Ret, Do, ◌>>=◌, words, write_words, IsProgram, IsTheProgram, standing}
+use Rattle.nam_calls.specs.Program.{taking}
 
 -- 1. Tests on both sides
 
@@ -43,12 +44,7 @@ module _ {X : Type 0} (F : X → Type 0) (nth count : ℕ) (last more : X) where
   pub before_last : (rest : ℕ) → nth + 1 + rest ≡ count → F more → F (if nth == count then last else more)
   before_last rest e f = let t : (nth == count) ≡ false = grind (arith, nat_tests) in subst (λ b. F (if b then last else more)) (sym t) f
 
--- a test inside
-pub if_in : {X Y : Type 0} (f : X → Y) (b : Bool) (x y : X) → f (if b then x else y) ≡ (if b then f x else f y)
-if_in f true x y = refl
-if_in f false x y = refl
-
-module _ {S A : Type 0} (stands : S → Now Verb A) (after : S → ℕ → S) where
+module _ {S A : Type 0} (stands : S → Now (VerbAt Field) A) (after : S → ℕ → S) where
   -- 2. A call does what one program says
 
   pub program_unique : (call : S) (p q : Prog A) → IsProgram stands after call p → IsProgram stands after call q → p ≡ q
@@ -66,12 +62,12 @@ module _ {S A : Type 0} (stands : S → Now Verb A) (after : S → ℕ → S) wh
   -- 3. Words
 
   -- places for the words got so far, and after the last
-  module _ (address : ℕ → ℕ) (width : ℕ) (more done : List ℕ → S) (rest : List ℕ → Prog A)
-      (stands_more : (got : List ℕ) → stands (more got) ≡ At (Read (address (length got))))
+  module _ (at : ℕ → Field) (width : ℕ) (more done : List ℕ → S) (rest : List ℕ → Prog A)
+      (stands_more : (got : List ℕ) → stands (more got) ≡ At (ReadAt (at (length got))))
       (after_more : (got : List ℕ) (word : ℕ) → after (more got) word ≡ until width (got ++ word ∷ []) more done)
       (wide : 0 < width) (goes_on : (got : List ℕ) → length got ≡ width → IsProgram stands after (done got) (rest got)) where
     abbrev Reads : ℕ → List ℕ → S → Type 0
-    Reads n got call = IsProgram stands after call (words address n got >>= rest)
+    Reads n got call = IsProgram stands after call (words at n got >>= rest)
 
     words_from : (n : ℕ) (got : List ℕ) → length got + suc n ≡ width → Reads (suc n) got (more got)
     words_from zero got e = word_then (stands_more got) λ word.
@@ -96,12 +92,12 @@ module _ {S A : Type 0} (stands : S → Now Verb A) (after : S → ℕ → S) wh
 
   -- 4. Writes one after another
 
-  module _ (address word : ℕ → ℕ) (count : ℕ) (here : ℕ → S) (done : S) (rest : Prog A)
-      (stands_here : (nth : ℕ) → stands (here nth) ≡ At (Write (address nth) (word nth)))
+  module _ (at : ℕ → Field) (word : ℕ → ℕ) (count : ℕ) (here : ℕ → S) (done : S) (rest : Prog A)
+      (stands_here : (nth : ℕ) → stands (here nth) ≡ At (WriteAt (at nth) (word nth)))
       (after_here : (nth found : ℕ) → after (here nth) found ≡ (if nth + 1 == count then done else here (nth + 1)))
       (goes_on : IsProgram stands after done rest) where
     abbrev Writes : ℕ → ℕ → S → Type 0
-    Writes n nth call = IsProgram stands after call (write_words address word n nth >>= λ end. rest)
+    Writes n nth call = IsProgram stands after call (write_words at word n nth >>= λ end. rest)
 
     -- those from the nth on, where none may be left
     pub writes_left : (n nth : ℕ) → nth + n ≡ count → Writes n nth (if nth == count then done else here nth)
@@ -120,7 +116,7 @@ module _ {S A : Type 0} (stands : S → Now Verb A) (after : S → ℕ → S) wh
 
 -- 5. A part of a composed call: on says what follows what the part has come to
 
-module _ {S A P E : Type 0} (stands : S → Now Verb A) (after : S → ℕ → S) (verb : P → Verb) (part : P → ℕ → Now P E) (on : Now P E → S)
+module _ {S A P E : Type 0} (stands : S → Now (VerbAt Field) A) (after : S → ℕ → S) (verb : P → VerbAt Field) (part : P → ℕ → Now P E) (on : Now P E → S)
     (stands_in : (place : P) → stands (on (At place)) ≡ At (verb place))
     (after_in : (place : P) (found : ℕ) → after (on (At place)) found ≡ on (part place found)) (rest : E → Prog A)
     (goes_on : (end : E) → IsProgram stands after (on (Over end)) (rest end)) where

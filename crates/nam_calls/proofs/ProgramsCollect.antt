@@ -1,19 +1,21 @@
 -- The snapshot and the collection are their straight programs.
-use Rattle.std.proofs.Common.{◌≡◌, ℕ, zero, suc, ◌+◌, ◌<◌, false, ◌&&◌, List, [], ◌∷◌, ◌++◌, length, refl, sym, ap}
+use Rattle.std.proofs.Common.{◌≡◌, ℕ, zero, suc, ◌+◌, ◌<◌, false, ◌&&◌, List, [], ◌∷◌, ◌++◌, length, refl}
 use Rattle.std.proofs.Common.{arith, length-append, subst}
-use Rattle.std.specs.Prelude.{◌==◌, nat_lt, if◌then◌else◌, slice_index}
+use Rattle.std.specs.Prelude.{if◌then◌else◌, ◌==◌, nat_lt, slice_index}
 use Rattle.std.proofs.lemmas.Bool.Decides.{nat_tests}
 use Rattle.nam_verbs.specs.declared.now.Now.{Now}
 use Rattle.nam_verbs.specs.declared.now.Now.TheVariants.{At, Over}
+use Rattle.nam_verbs.proofs.TestLemmas.{if_in}
+use Rattle.nam_header.specs.Stamp.{stamp_in, is_within}
+use Rattle.nam_header.specs.Tag.{is_full, has_next}
 use Rattle.nam_layout.specs.declared.field.Cells.{Cells}
 use Rattle.nam_vector.specs.declared.snap.SnapPlace.{SnapPlace}
 use Rattle.nam_vector.specs.declared.snap.SnapPlace.TheVariants.{First, Second}
 use Rattle.nam_vector.specs.declared.snap.SnapEnd.{SnapEnd}
 use Rattle.nam_vector.specs.declared.snap.SnapEnd.TheVariants.{Done}
-use Rattle.nam_vector.specs.SnapPlace as snap
+use Rattle.nam_vector.specs.Snap.{snap_begin, snap_verb, snap_after, nth_entry}
 use Rattle.nam_calls.specs.declared.horizon.CollectPlace.{CollectPlace}
 use Rattle.nam_calls.specs.declared.horizon.CollectPlace.TheVariants.{HorizonLook, CollectTag}
-use Rattle.nam_calls.specs.Stamps.{stamp_in, is_within, is_full, has_next}
 use Rattle.nam_calls.specs.Horizon.{collect_begin, collect_verb, collect_after, collect_next, entry_known}
 use Rattle.nam_calls.specs.Program.{Prog, ◌>>=◌, IsProgram, standing, taking}
 use Rattle.nam_calls.specs.ProgramCollect.{second_pass, snap_program, raised, raise_entries, free_cells}
@@ -25,7 +27,7 @@ use Rattle.nam_calls.proofs.Programs.{the_program}
 
 module _ (workers : ℕ) (some : 0 < workers) where
   abbrev IsSnap : Now SnapPlace SnapEnd → Prog SnapEnd → Type 0
-  IsSnap = IsProgram (standing snap.verb_at) (taking (snap.after_word workers))
+  IsSnap = IsProgram (standing snap_verb) (taking (snap_after workers))
 
   entry_is : (seen : List ℕ) (rest entry : ℕ)
       → IsSnap (if entry + 1 == workers then Over (Done seen) else At (Second seen (entry + 1))) (second_pass seen rest (entry + 1))
@@ -44,21 +46,17 @@ module _ (workers : ℕ) (some : 0 < workers) where
   second_of seen zero e = absurd (omega arith)
   second_of seen (suc rest) e = second_from seen rest 0 (omega arith)
 
-  one_more : (got : List ℕ) (word : ℕ) (more done : Now SnapPlace SnapEnd)
-      → (if length got + 1 == workers then done else more) ≡ (if length (got ++ word ∷ []) == workers then done else more)
-  one_more got word more done = ap (λ n. if n == workers then done else more) (sym (length-append got (word ∷ [])))
-
-  pub snap_is : IsSnap (At snap.begin) (snap_program workers)
+  pub snap_is : IsSnap (At snap_begin) (snap_program workers)
   snap_is =
-      words_is (standing snap.verb_at) (taking (snap.after_word workers)) (λ entry. entry) workers
-      (λ got. At (First got)) (λ seen. At (Second seen 0)) _ (λ got. refl) (λ got word. one_more got word _ _) some λ seen l.
+      words_is (standing snap_verb) (taking (snap_after workers)) nth_entry workers
+      (λ got. At (First got)) (λ seen. At (Second seen 0)) _ (λ got. refl) (λ got word. if_in At _ _ _) some λ seen l.
       second_of seen workers refl
 
 -- 2. The collection
 
 module _ (cells : Cells) (workers : ℕ) (seen : List ℕ) (some : 0 < workers) (room : 0 < cells.cells) where
   abbrev IsCollect : Now CollectPlace (List ℕ) → Prog (List ℕ) → Type 0
-  IsCollect = IsProgram (standing (collect_verb cells workers seen)) (taking (collect_after cells workers seen))
+  IsCollect = IsProgram (standing (collect_verb cells seen)) (taking (collect_after cells workers seen))
 
   cell_is : (known : List ℕ) (rest cell : ℕ) → IsCollect (collect_next cells known cell) (free_cells cells workers seen known rest (cell + 1))
       → IsCollect (At (CollectTag known cell)) (free_cells cells workers seen known (suc rest) cell)
@@ -111,8 +109,8 @@ module _ (cells : Cells) (workers : ℕ) (seen : List ℕ) (some : 0 < workers) 
 
 pub collections_are_programs : CollectIsProgram
 collections_are_programs = record {
-  snap = λ workers some. the_program (standing snap.verb_at) (taking (snap.after_word workers)) _ _ (snap_is workers some);
+  snap = λ workers some. the_program (standing snap_verb) (taking (snap_after workers)) _ _ (snap_is workers some);
   collect = λ cells workers seen some room.
-      the_program (standing (collect_verb cells workers seen)) (taking (collect_after cells workers seen)) _ _
+      the_program (standing (collect_verb cells seen)) (taking (collect_after cells workers seen)) _ _
       (collect_is cells workers seen some room);
 }

@@ -1,12 +1,16 @@
 -- The read is its straight program.
 use Rattle.std.proofs.Common.{◌≡◌, ℕ, zero, suc, ◌+◌, ◌-◌, ◌<◌, not, ◌&&◌, ◌||◌, List, [], ◌∷◌, ◌++◌, length, Some}
 use Rattle.std.proofs.Common.{refl, arith}
-use Rattle.std.specs.Prelude.{◌==◌, nat_lt, slice_index, if◌then◌else◌}
-use Rattle.nam_verbs.specs.declared.verb.Verb.TheVariants.{Read}
+use Rattle.std.specs.Prelude.{if◌then◌else◌, ◌==◌, nat_lt, slice_index}
 use Rattle.nam_verbs.specs.declared.now.Now.{Now}
 use Rattle.nam_verbs.specs.declared.now.Now.TheVariants.{At, Over}
+use Rattle.nam_verbs.proofs.TestLemmas.{if_in}
+use Rattle.nam_verbs.specs.VerbAt.{ReadAt}
+use Rattle.nam_header.specs.Stamp.{is_locked, is_deleted, same_stamp, sees, mark}
+use Rattle.nam_header.specs.Tag.{is_full}
 use Rattle.nam_layout.specs.declared.field.Place.{Place}
 use Rattle.nam_layout.specs.declared.field.Cells.{Cells}
+use Rattle.nam_layout.specs.declared.field.Field.TheVariants as field
 use Rattle.nam_calls.specs.declared.record.CurrentPlace.{CurrentPlace}
 use Rattle.nam_calls.specs.declared.record.CurrentPlace.TheVariants.{CurrentWords, CurrentAgain}
 use Rattle.nam_calls.specs.declared.record.CurrentEnd.{CurrentEnd}
@@ -22,9 +26,6 @@ use Rattle.nam_calls.specs.declared.reading.Sight.{Sight}
 use Rattle.nam_calls.specs.declared.reading.ReadPlace.{ReadPlace}
 use Rattle.nam_calls.specs.declared.reading.ReadPlace.TheVariants.{ReadCurrent, ReadUnsure, ReadRing}
 use Rattle.nam_calls.specs.declared.reading.ReadingEnd.{ReadingEnd}
-use Rattle.nam_calls.specs.declared.reading.ReadingEnd.TheVariants as read_end
-use Rattle.nam_calls.specs.Stamps.{sees, is_deleted, is_locked, same_stamp, mark, is_full}
-use Rattle.nam_calls.specs.Words.{word_at, slot_word_at, cell_word_at}
 use Rattle.nam_calls.specs.Ring.{ring_begin, ring_verb, ring_after, next_slot}
 use Rattle.nam_calls.specs.Overflow.{cell_begin, cell_verb, cell_after, next_cell}
 use Rattle.nam_calls.specs.Horizon.{old_begin, old_verb, old_after}
@@ -33,8 +34,9 @@ use Rattle.nam_calls.specs.Reading.{on_horizon}
 use Rattle.nam_calls.specs.Program.{Prog, Ret, Do, ◌>>=◌, IsProgram, standing, taking}
 use Rattle.nam_calls.specs.ProgramRead.{search_ring, search_cells, show_old, found_or, reading_end, old_versions}
 use Rattle.nam_calls.specs.ProgramRead.{read_program, SightHasAll, ReadIsProgram}
-use Rattle.nam_calls.proofs.Programs.{both, both_not, is_last, is_more, at_last, before_last, if_in, word_then}
+use Rattle.nam_calls.proofs.Programs.{both, both_not, is_last, is_more, at_last, before_last, word_then}
 use Rattle.nam_calls.proofs.Programs.{words_is, part_is, the_program}
+use Rattle.nam_calls.specs.declared.reading.ReadingEnd.TheVariants as read_end
 
 module _ (place : Place) (seen : List ℕ) (wide : 0 < place.width) where
   -- 1. The search of the ring
@@ -50,7 +52,7 @@ module _ (place : Place) (seen : List ℕ) (wide : 0 < place.width) where
       both IsRing ((header == mark) || not (sees place.form seen header)) _ _ _ _ (λ e. next) λ e.
       word_then refl λ ending.
       both IsRing (sees place.form seen ending) _ _ _ _ (λ e. next) λ e.
-      words_is (standing (ring_verb place)) (taking (ring_after place seen)) (slot_word_at place slot) place.width
+      words_is (standing (ring_verb place)) (taking (ring_after place seen)) (field.SlotWord place.row slot) place.width
       (λ got. At (SlotWords slot header got)) (λ got. At (SlotAgain slot header got)) _ (λ got. refl)
       (λ got word. if_in At (length (got ++ word ∷ []) == place.width) _ _) wide λ value l.
       word_then refl λ again.
@@ -84,7 +86,7 @@ module _ (place : Place) (seen : List ℕ) (wide : 0 < place.width) where
         both_not IsCells (sees place.form seen header) _ _ _ _ (λ e. next) λ e.
         word_then refl λ ending.
         both IsCells (sees place.form seen ending) _ _ _ _ (λ e. next) λ e.
-        words_is (standing (cell_verb cells)) (taking (cell_after cells place seen)) (cell_word_at cells cell) place.width
+        words_is (standing (cell_verb cells)) (taking (cell_after cells place seen)) (field.CellWord cells.bucket cell) place.width
         (λ got. At (CellWords cell tag header got)) (λ got. At (CellAgain cell tag header got)) _ (λ got. refl)
         (λ got word. if_in At (length (got ++ word ∷ []) == place.width) _ _) wide λ value l.
         word_then refl λ again.
@@ -106,7 +108,7 @@ module _ (place : Place) (seen : List ℕ) (wide : 0 < place.width) where
 
 module _ (workers : ℕ) (seen : List ℕ) where
   abbrev IsOld : Now ℕ OldEnd → Prog OldEnd → Type 0
-  IsOld = IsProgram (standing (old_verb workers)) (taking (old_after workers seen))
+  IsOld = IsProgram (standing (old_verb)) (taking (old_after workers seen))
 
   old_from : (rest worker : ℕ) → worker + rest ≡ workers → IsOld (At worker) (show_old workers seen (suc rest) worker)
   old_from zero worker e =
@@ -137,7 +139,7 @@ module _ (sight : Sight) (seen : List ℕ) (has : SightHasAll sight) where
       → IsRead (on_cells (Over end)) (found_or (show_old sight.workers seen sight.workers 1 >>= λ end. Ret (reading_end end)) end)
   after_cells (Found value) = refl
   after_cells NotThere =
-      part_is (standing (read_verb sight)) (taking (read_after sight seen)) (old_verb sight.workers) (old_after sight.workers seen) on_horizon
+      part_is (standing (read_verb sight)) (taking (read_after sight seen)) (old_verb) (old_after sight.workers seen) on_horizon
       (λ place. refl) (λ place found. refl) _ horizon_is (At old_begin) (show_old sight.workers seen sight.workers 1)
       (old_of sight.workers seen sight.workers refl has.workers)
 
@@ -158,7 +160,7 @@ module _ (sight : Sight) (seen : List ℕ) (has : SightHasAll sight) where
 
   -- step 5
   abbrev recheck : ℕ → List ℕ → Prog ReadingEnd
-  recheck header value = Do (Read sight.place.header_at) (λ last.
+  recheck header value = Do (ReadAt (field.Header sight.place.row)) (λ last.
       if same_stamp sight.place.form last header then Ret (read_end.Got (Some value)) else old_versions sight seen)
 
   after_unsure : (header : ℕ) (value : List ℕ) (end : SearchEnd) → IsRead (on_unsure value header (Over end)) (found_or (recheck header value) end)
@@ -182,7 +184,7 @@ module _ (sight : Sight) (seen : List ℕ) (has : SightHasAll sight) where
       word_then refl λ header.
       both_not IsCurrent (sees sight.place.form seen header) _ _ _ _ (λ e. old_versions_are) λ e.
       both IsCurrent (is_deleted sight.place.form header) _ _ _ _ (λ e. refl) λ e.
-      words_is (standing (read_verb sight)) (taking (read_after sight seen)) (word_at sight.place) sight.place.width
+      words_is (standing (read_verb sight)) (taking (read_after sight seen)) (field.Word sight.place.row) sight.place.width
       (λ got. At (ReadCurrent (CurrentWords header got))) (λ got. At (ReadCurrent (CurrentAgain header got))) _ (λ got. refl)
       (λ got word. if_in (λ place. At (ReadCurrent place)) (length (got ++ word ∷ []) == sight.place.width) _ _) has.words λ value l.
       word_then refl λ again.

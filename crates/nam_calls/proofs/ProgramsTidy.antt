@@ -3,8 +3,13 @@ use Rattle.std.proofs.Common.{◌≡◌, ℕ, zero, suc, ◌+◌, ◌<◌, List,
 use Rattle.std.specs.Prelude.{◌==◌, slice_index}
 use Rattle.nam_verbs.specs.declared.now.Now.{Now}
 use Rattle.nam_verbs.specs.declared.now.Now.TheVariants.{At, Over}
+use Rattle.nam_verbs.proofs.TestLemmas.{if_in}
+use Rattle.nam_header.specs.Stamp.{is_moved, without_moved}
+use Rattle.nam_header.specs.Tag.{is_free}
 use Rattle.nam_layout.specs.declared.field.Place.{Place}
 use Rattle.nam_layout.specs.declared.field.Cells.{Cells}
+use Rattle.nam_layout.specs.Place.{slot_of}
+use Rattle.nam_layout.specs.declared.field.Field.TheVariants as field
 use Rattle.nam_calls.specs.declared.overflow.ClaimPlace.{ClaimPlace}
 use Rattle.nam_calls.specs.declared.overflow.ClaimPlace.TheVariants.{ClaimLook}
 use Rattle.nam_calls.specs.declared.overflow.ClaimEnd.{ClaimEnd}
@@ -14,13 +19,11 @@ use Rattle.nam_calls.specs.declared.overflow.Version.{Version}
 use Rattle.nam_calls.specs.declared.mover.MovePlace.{MovePlace}
 use Rattle.nam_calls.specs.declared.mover.MovePlace.TheVariants.{MoveWords, MoveFill, MoveAgain}
 use Rattle.nam_calls.specs.declared.mover.MoveAnswer.{MoveAnswer}
-use Rattle.nam_calls.specs.Stamps.{is_moved, without_moved, is_free}
-use Rattle.nam_calls.specs.Words.{slot_word_at, slot_of, cell_word_at}
 use Rattle.nam_calls.specs.Overflow.{claim_begin, claim_verb, claim_after, claim_next, fill_begin}
 use Rattle.nam_calls.specs.Mover.{move_begin, move_verb, move_after, on_claim, on_fill}
 use Rattle.nam_calls.specs.Program.{Prog, IsProgram, standing, taking}
 use Rattle.nam_calls.specs.ProgramTidy.{claim_cell, after_claim, move_program, MoveIsProgram}
-use Rattle.nam_calls.proofs.Programs.{both, both_not, is_last, is_more, if_in, word_then, words_is, writes_is, part_is}
+use Rattle.nam_calls.proofs.Programs.{both, both_not, is_last, is_more, word_then, words_is, writes_is, part_is}
 use Rattle.nam_calls.proofs.Programs.{the_program}
 
 -- 1. The claim of a cell
@@ -61,14 +64,14 @@ module _ (place : Place) (cells : Cells) (wide : 0 < place.width) (some : 0 < ce
       → IsMove (on_claim cells slot header ending (Over end)) (after_claim place cells slot header ending end)
   claimed_is slot header ending NoRoom = refl
   claimed_is slot header ending (Claimed cell tag) =
-      words_is (standing (move_verb place cells)) (taking (move_after place cells)) (slot_word_at place slot) place.width
+      words_is (standing (move_verb place cells)) (taking (move_after place cells)) (field.SlotWord place.row slot) place.width
       (λ got. At (MoveWords slot header ending cell tag got))
       (λ value. At (MoveFill slot header cell tag (version_of header ending value) fill_begin)) _ (λ got. refl)
       (λ got word. if_in At (length (got ++ word ∷ []) == place.width) _ _) wide λ value l.
       word_then refl λ owned.
       word_then refl λ begun.
       word_then refl λ ended.
-      writes_is (standing (move_verb place cells)) (taking (move_after place cells)) (cell_word_at cells cell) (slice_index value) place.width
+      writes_is (standing (move_verb place cells)) (taking (move_after place cells)) (field.CellWord cells.bucket cell) (slice_index value) place.width
       (λ nth. At (MoveFill slot header cell tag (version_of header ending value) (FillWord nth))) (At (MoveAgain slot header cell tag)) _
       (λ nth. refl)
       (λ nth found. if_in (on_fill slot header cell tag (version_of header ending value)) (nth + 1 == place.width) _ (At (FillWord (nth + 1)))) (

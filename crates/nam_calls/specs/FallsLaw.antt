@@ -1,5 +1,6 @@
 -- The number of verbs to come falls with each word taken, and what it is at the begin of a read.
 use Rattle.std.specs.Prelude.{◌≡◌, ℕ, ◌+◌, ◌<◌, ◌≤◌, List, length}
+use Rattle.nam_verbs.specs.Falls.{FallsTo, Falls, Any}
 use Rattle.nam_catalog.specs.declared.shape.Shape.{Shape}
 use Rattle.nam_catalog.specs.Fits.{FitsLimits}
 use Rattle.nam_layout.specs.declared.field.Place.{Place}
@@ -28,22 +29,25 @@ use Rattle.nam_calls.specs.Mover.{move_after, move_left}
 use Rattle.nam_calls.specs.Horizon.{collect_after, collect_left, old_after, old_left}
 use Rattle.nam_calls.specs.Lock.{lock_after, lock_left, unlock_after, unlock_left}
 use Rattle.nam_calls.specs.Reading.{sight_of, read_begin, read_after, read_left, read_most}
-use Rattle.nam_calls.specs.Fits.{FallsTo, Falls, Any, IsOf, FindFits, FindEnds, ClaimKeyFits, ClaimKeyEnds, CurrentFits}
-use Rattle.nam_calls.specs.Fits.{CurrentEnds, WordsFit, WordsEnd, InstallFits, SlotEnds, CopyFits, RingFits, SearchEnds}
-use Rattle.nam_calls.specs.Fits.{CellFits, ClaimFits, ClaimEnds, FillFits, MoveFits, CollectFits, CollectEnds, OldEnds}
+use Rattle.nam_calls.specs.Fits.{IsOf, FindFits, FindEnds, ClaimKeyFits, ClaimKeyEnds, CurrentFits}
+use Rattle.nam_calls.specs.Fits.{CurrentEnds, WordsFit, WordsEnd, InstallFits, SlotEnds, CopyFits, RingFits}
+use Rattle.nam_calls.specs.Fits.{SearchEnds}
+use Rattle.nam_calls.specs.Fits.{CellFits, ClaimFits, ClaimEnds, FillFits, MoveFits, CollectFits, CollectEnds}
+use Rattle.nam_calls.specs.Fits.{OldEnds}
 use Rattle.nam_calls.specs.Fits.{SightFits, ReadFits, ReadEnds, LockFits, LockEnds, after_locks, IsTableOf}
+use Rattle.nam_calls.specs.declared.index.Path.{Path}
 
 -- 1. Machines
 
 abbrev pub FindLaw : Type 0
-FindLaw = (shape : Shape) (table key passed found : ℕ) → FindFits (capacity_of shape table) passed
-    → Falls (FindFits (capacity_of shape table)) (FindEnds (capacity_of shape table)) (find_left shape table) (find_left shape table passed)
-    (find_after shape table key passed found)
+FindLaw = (path : Path) (passed found : ℕ) → FindFits path.capacity passed
+    → Falls (FindFits path.capacity) (FindEnds path.capacity) (find_left path) (find_left path passed)
+    (find_after path passed found)
 
 abbrev pub ClaimKeyLaw : Type 0
-ClaimKeyLaw = (shape : Shape) (table key : ℕ) (at : ClaimKeyPlace) (found : ℕ) → ClaimKeyFits (capacity_of shape table) at
-    → Falls (ClaimKeyFits (capacity_of shape table)) (ClaimKeyEnds (capacity_of shape table)) (claim_key_left shape table)
-    (claim_key_left shape table at) (claim_key_after shape table key at found)
+ClaimKeyLaw = (path : Path) (at : ClaimKeyPlace) (found : ℕ) → ClaimKeyFits path.capacity at
+    → Falls (ClaimKeyFits path.capacity) (ClaimKeyEnds path.capacity) (claim_key_left path) (claim_key_left path at)
+    (claim_key_after path at found)
 
 abbrev pub CurrentLaw : Type 0
 CurrentLaw = (place : Place) → FitsPlace place → (seen : List ℕ) (at : CurrentPlace) (found : ℕ) → CurrentFits place at

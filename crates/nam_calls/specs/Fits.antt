@@ -1,20 +1,16 @@
 -- What holds of each place and of each end, and what it is that the number of verbs to come falls.
 use Rattle.std.specs.Prelude.{◌≡◌, ℕ, ◌<◌, ◌≤◌, List, length, Option, MatchOption}
-use Rattle.nam_verbs.specs.declared.now.Now.{Now}
-use Rattle.nam_verbs.specs.declared.now.Now.TheVariants.{At, Over}
+use Rattle.nam_catalog.specs.declared.shape.Shape.{Shape}
 use Rattle.nam_layout.specs.declared.field.Place.{Place}
 use Rattle.nam_layout.specs.declared.field.Cells.{Cells}
 use Rattle.nam_layout.specs.PlaceFits.{FitsPlace, FitsCells}
 use Rattle.nam_calls.specs.declared.index.FindEnd.{FindEnd}
-use Rattle.nam_calls.specs.declared.index.FindEnd.TheVariants as found_key
 use Rattle.nam_calls.specs.declared.index.ClaimKeyPlace.{ClaimKeyPlace}
 use Rattle.nam_calls.specs.declared.index.ClaimKeyPlace.TheVariants.{KeyLook, KeyTake}
 use Rattle.nam_calls.specs.declared.index.ClaimKeyEnd.{ClaimKeyEnd}
-use Rattle.nam_calls.specs.declared.index.ClaimKeyEnd.TheVariants as claimed_key
 use Rattle.nam_calls.specs.declared.record.CurrentPlace.{CurrentPlace}
 use Rattle.nam_calls.specs.declared.record.CurrentPlace.TheVariants.{CurrentHead, CurrentWords, CurrentAgain}
 use Rattle.nam_calls.specs.declared.record.CurrentEnd.{CurrentEnd}
-use Rattle.nam_calls.specs.declared.record.CurrentEnd.TheVariants as current
 use Rattle.nam_calls.specs.declared.record.InstallPlace.{InstallPlace}
 use Rattle.nam_calls.specs.declared.record.InstallPlace.TheVariants.{InstallWord, InstallCount, InstallHead}
 use Rattle.nam_calls.specs.declared.ring.SlotEnd.{SlotEnd}
@@ -35,7 +31,8 @@ use Rattle.nam_calls.specs.declared.overflow.ClaimEnd.TheVariants.{Claimed, NoRo
 use Rattle.nam_calls.specs.declared.overflow.FillPlace.{FillPlace}
 use Rattle.nam_calls.specs.declared.overflow.FillPlace.TheVariants.{FillOwner, FillBegin, FillEnding, FillWord}
 use Rattle.nam_calls.specs.declared.mover.MovePlace.{MovePlace}
-use Rattle.nam_calls.specs.declared.mover.MovePlace.TheVariants.{MoveCount, MoveHead, MoveEnding, MoveClaim, MoveWords}
+use Rattle.nam_calls.specs.declared.mover.MovePlace.TheVariants.{MoveCount, MoveHead, MoveEnding, MoveClaim}
+use Rattle.nam_calls.specs.declared.mover.MovePlace.TheVariants.{MoveWords}
 use Rattle.nam_calls.specs.declared.mover.MovePlace.TheVariants.{MoveFill, MoveAgain, MoveFull, MoveFlag, MoveBack}
 use Rattle.nam_calls.specs.declared.horizon.CollectPlace.{CollectPlace}
 use Rattle.nam_calls.specs.declared.horizon.CollectPlace.TheVariants.{HorizonLook, HorizonRaise, CollectTag}
@@ -52,26 +49,11 @@ use Rattle.nam_calls.specs.declared.reading.ReadPlace.TheVariants.{ReadCurrent, 
 use Rattle.nam_calls.specs.declared.reading.ReadPlace.TheVariants.{ReadCells, ReadHorizon}
 use Rattle.nam_calls.specs.declared.reading.ReadingEnd.{ReadingEnd}
 use Rattle.nam_calls.specs.declared.reading.ReadingEnd.TheVariants.{Got, Passed, Astray}
-use Rattle.nam_catalog.specs.declared.shape.Shape.{Shape}
+use Rattle.nam_calls.specs.declared.index.FindEnd.TheVariants as found_key
+use Rattle.nam_calls.specs.declared.index.ClaimKeyEnd.TheVariants as claimed_key
+use Rattle.nam_calls.specs.declared.record.CurrentEnd.TheVariants as current
 
--- 1. Falling
-
--- The call goes on at a place that fits, with fewer verbs to come than n; or it ends as it may, and what its caller does
--- after that end takes fewer than n.
-abbrev pub FallsTo : {P E : Type 0} → (P → Type 0) → (E → Type 0) → (P → ℕ) → (E → ℕ) → ℕ → Now P E → Type 0
-FallsTo Fits Ends left after n (At place) = Fits place × (left place < n)
-FallsTo Fits Ends left after n (Over end) = Ends end × (after end < n)
-
--- nothing follows an end
-abbrev pub nothing : {E : Type 0} → E → ℕ
-nothing end = 0
-
-abbrev pub Falls : {P E : Type 0} → (P → Type 0) → (E → Type 0) → (P → ℕ) → ℕ → Now P E → Type 0
-Falls Fits Ends left n now = FallsTo Fits Ends left nothing n now
-
--- each place and each end
-abbrev pub Any : {A : Type 0} → A → Type 0
-Any a = Unit {0}
+-- 1. Values and workers
 
 -- a value, where there is one, has so many words
 abbrev pub HasWidth : ℕ → Option (List ℕ) → Type 0

@@ -1,31 +1,33 @@
 -- The horizon: collecting a bucket, and showing that a snapshot is too old.
-use Rattle.std.specs.Prelude.{ℕ, ◌+◌, ◌-◌, ◌*◌, ◌==◌, ◌&&◌, nat_lt, if◌then◌else◌, List, [], ◌∷◌, ◌++◌, length}
+use Rattle.std.specs.Prelude.{if◌then◌else◌, ℕ, ◌+◌, ◌-◌, ◌*◌, ◌==◌, ◌&&◌, nat_lt, List, [], ◌∷◌, ◌++◌, length}
 use Rattle.std.specs.Prelude.{slice_index}
-use Rattle.nam_verbs.specs.declared.verb.Verb.{Verb}
-use Rattle.nam_verbs.specs.declared.verb.Verb.TheVariants.{Read, Exchange}
 use Rattle.nam_verbs.specs.declared.now.Now.{Now}
 use Rattle.nam_verbs.specs.declared.now.Now.TheVariants.{At, Over}
+use Rattle.nam_verbs.specs.Until.{until}
+use Rattle.nam_verbs.specs.VerbAt.{VerbAt, ReadAt, ExchangeAt}
+use Rattle.nam_header.specs.Stamp.{stamp_in, is_within}
+use Rattle.nam_header.specs.Tag.{is_full, has_next, freed}
 use Rattle.nam_layout.specs.declared.field.Cells.{Cells}
+use Rattle.nam_layout.specs.declared.field.Field.{Field}
+use Rattle.nam_layout.specs.declared.field.Field.TheVariants as field
 use Rattle.nam_calls.specs.declared.horizon.CollectPlace.{CollectPlace}
 use Rattle.nam_calls.specs.declared.horizon.CollectPlace.TheVariants.{HorizonLook, HorizonRaise, CollectTag}
 use Rattle.nam_calls.specs.declared.horizon.CollectPlace.TheVariants.{CollectEnding, CollectFree}
 use Rattle.nam_calls.specs.declared.horizon.OldEnd.{OldEnd}
 use Rattle.nam_calls.specs.declared.horizon.OldEnd.TheVariants.{TooOld, NotPassed}
-use Rattle.nam_calls.specs.Stamps.{stamp_in, is_within, is_full, has_next, freed}
-use Rattle.nam_calls.specs.Words.{tag_at, end_at, horizon_at, until}
 
 -- 1. Collect: the horizon entries are raised to the snapshot's, then the cells within the horizon that is known are freed
 
 abbrev pub collect_begin : CollectPlace
 collect_begin = HorizonLook []
 
-abbrev pub collect_verb : Cells → ℕ → List ℕ → CollectPlace → Verb
-collect_verb cells workers seen (HorizonLook known) = Read (horizon_at workers (length known + 1))
-collect_verb cells workers seen (HorizonRaise known found) =
-    Exchange (horizon_at workers (length known + 1)) found (slice_index seen (length known))
-collect_verb cells workers seen (CollectTag known cell) = Read (tag_at cells cell)
-collect_verb cells workers seen (CollectEnding known cell tag) = Read (end_at cells cell)
-collect_verb cells workers seen (CollectFree known cell tag) = Exchange (tag_at cells cell) tag (freed tag)
+abbrev pub collect_verb : Cells → List ℕ → CollectPlace → VerbAt Field
+collect_verb cells seen (HorizonLook known) = ReadAt (field.Horizon (length known + 1))
+collect_verb cells seen (HorizonRaise known found) =
+    ExchangeAt (field.Horizon (length known + 1)) found (slice_index seen (length known))
+collect_verb cells seen (CollectTag known cell) = ReadAt (field.Tag cells.bucket cell)
+collect_verb cells seen (CollectEnding known cell tag) = ReadAt (field.End cells.bucket cell)
+collect_verb cells seen (CollectFree known cell tag) = ExchangeAt (field.Tag cells.bucket cell) tag (freed tag)
 
 -- after the last entry the cells follow
 abbrev pub entry_known : ℕ → List ℕ → Now CollectPlace (List ℕ)
@@ -57,8 +59,8 @@ collect_left cells workers (CollectFree known cell tag) = 3 * (cells.cells - cel
 abbrev pub old_begin : ℕ
 old_begin = 1
 
-abbrev pub old_verb : ℕ → ℕ → Verb
-old_verb workers worker = Read (horizon_at workers worker)
+abbrev pub old_verb : ℕ → VerbAt Field
+old_verb worker = ReadAt (field.Horizon worker)
 
 abbrev pub old_after : ℕ → List ℕ → ℕ → ℕ → Now ℕ OldEnd
 old_after workers seen worker found =

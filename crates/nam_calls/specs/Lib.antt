@@ -1,4 +1,3 @@
-pub mod Stamps
 pub mod Words
 pub mod Index
 pub mod Record
@@ -11,10 +10,9 @@ pub mod Reading
 pub mod Left
 pub mod Fits
 pub mod FallsLaw
-pub mod VerbFields
-pub mod AddressFact
 pub mod Program
 pub mod ProgramRead
 pub mod ProgramClaim
 pub mod ProgramTidy
 pub mod ProgramCollect
+pub mod FieldLaw

@@ -1,18 +1,19 @@
 -- Locking records in order, and writing headers back.
-use Rattle.std.specs.Prelude.{ℕ, ◌+◌, ◌-◌, ◌*◌, ◌==◌, if◌then◌else◌, List, [], ◌∷◌, ◌++◌, length, slice_index}
+use Rattle.std.specs.Prelude.{if◌then◌else◌, ℕ, ◌+◌, ◌-◌, ◌*◌, ◌==◌, List, [], ◌∷◌, ◌++◌, length, slice_index}
 use Rattle.std.specs.Prelude.{slice_index_or}
-use Rattle.nam_verbs.specs.declared.verb.Verb.{Verb}
-use Rattle.nam_verbs.specs.declared.verb.Verb.TheVariants.{Read, Write, Exchange}
 use Rattle.nam_verbs.specs.declared.now.Now.{Now}
 use Rattle.nam_verbs.specs.declared.now.Now.TheVariants.{At, Over}
+use Rattle.nam_verbs.specs.VerbAt.{VerbAt, ReadAt, WriteAt, ExchangeAt}
 use Rattle.nam_catalog.specs.declared.form.Form.{Form}
+use Rattle.nam_header.specs.Stamp.{is_locked, sees, with_lock}
 use Rattle.nam_layout.specs.declared.field.Place.{Place}
+use Rattle.nam_layout.specs.Place.{no_place}
+use Rattle.nam_layout.specs.declared.field.Field.{Field}
+use Rattle.nam_layout.specs.declared.field.Field.TheVariants as field
 use Rattle.nam_calls.specs.declared.lock.LockPlace.{LockPlace}
 use Rattle.nam_calls.specs.declared.lock.LockPlace.TheVariants.{Peek, Seize, GiveBack}
 use Rattle.nam_calls.specs.declared.lock.LockEnd.{LockEnd}
 use Rattle.nam_calls.specs.declared.lock.LockEnd.TheVariants.{Held, Locked, Newer}
-use Rattle.nam_calls.specs.Stamps.{sees, is_locked, with_lock}
-use Rattle.nam_calls.specs.Words.{no_place}
 
 abbrev pub nth_place : List Place → ℕ → Place
 nth_place places nth = slice_index_or places nth no_place
@@ -22,11 +23,11 @@ nth_place places nth = slice_index_or places nth no_place
 abbrev pub lock_begin : LockPlace
 lock_begin = Peek []
 
-abbrev pub lock_verb : ℕ → List Place → LockPlace → Verb
-lock_verb worker places (Peek held) = Read (nth_place places (length held)).header_at
+abbrev pub lock_verb : ℕ → List Place → LockPlace → VerbAt Field
+lock_verb worker places (Peek held) = ReadAt (field.Header (nth_place places (length held)).row)
 lock_verb worker places (Seize held header) =
-    let place = nth_place places (length held) in Exchange place.header_at header (with_lock place.form worker header)
-lock_verb worker places (GiveBack held given found) = Write (nth_place places given).header_at (slice_index held given)
+    let place = nth_place places (length held) in ExchangeAt (field.Header place.row) header (with_lock place.form worker header)
+lock_verb worker places (GiveBack held given found) = WriteAt (field.Header (nth_place places given).row) (slice_index held given)
 
 -- what the header found in the way of the next lock says
 abbrev pub loss_of : Form → ℕ → ℕ → LockEnd
@@ -66,8 +67,8 @@ lock_left places rest (GiveBack held given found) = length held - given
 abbrev pub unlock_begin : List Place → Now ℕ (Unit {0})
 unlock_begin places = if length places == 0 then Over tt else At 0
 
-abbrev pub unlock_verb : List Place → List ℕ → ℕ → Verb
-unlock_verb places headers given = Write (nth_place places given).header_at (slice_index headers given)
+abbrev pub unlock_verb : List Place → List ℕ → ℕ → VerbAt Field
+unlock_verb places headers given = WriteAt (field.Header (nth_place places given).row) (slice_index headers given)
 
 abbrev pub unlock_after : List Place → ℕ → Now ℕ (Unit {0})
 unlock_after places given = if given + 1 == length places then Over tt else At (given + 1)

@@ -1,41 +1,45 @@
 -- Moving the version in the slot that the record's next version needs.
-use Rattle.std.specs.Prelude.{ℕ, ◌+◌, ◌-◌, ◌*◌, ◌==◌, if◌then◌else◌, [], ◌∷◌, ◌++◌, length, Option, Some, None}
-use Rattle.nam_verbs.specs.declared.verb.Verb.{Verb}
-use Rattle.nam_verbs.specs.declared.verb.Verb.TheVariants.{Read, Write, Exchange}
+use Rattle.std.specs.Prelude.{if◌then◌else◌, ℕ, ◌+◌, ◌-◌, ◌*◌, ◌==◌, [], ◌∷◌, ◌++◌, length, Option, Some, None}
+use Rattle.si_model.specs.declared.log.Stamp.{Stamp}
 use Rattle.nam_verbs.specs.declared.now.Now.{Now}
 use Rattle.nam_verbs.specs.declared.now.Now.TheVariants.{At, Over}
-use Rattle.si_model.specs.declared.log.Stamp.{Stamp}
+use Rattle.nam_verbs.specs.Until.{until}
+use Rattle.nam_verbs.specs.VerbAt.{VerbAt, ReadAt, WriteAt, ExchangeAt}
+use Rattle.nam_header.specs.Stamp.{stamp_in, is_moved, with_moved, without_moved}
+use Rattle.nam_header.specs.Tag.{full, freed}
 use Rattle.nam_layout.specs.declared.field.Place.{Place}
 use Rattle.nam_layout.specs.declared.field.Cells.{Cells}
+use Rattle.nam_layout.specs.Place.{slot_of}
+use Rattle.nam_layout.specs.declared.field.Field.{Field}
+use Rattle.nam_layout.specs.declared.field.Field.TheVariants as field
 use Rattle.nam_calls.specs.declared.overflow.ClaimPlace.{ClaimPlace}
 use Rattle.nam_calls.specs.declared.overflow.ClaimEnd.{ClaimEnd}
 use Rattle.nam_calls.specs.declared.overflow.ClaimEnd.TheVariants.{Claimed, NoRoom}
 use Rattle.nam_calls.specs.declared.overflow.Version.{Version}
 use Rattle.nam_calls.specs.declared.overflow.FillPlace.{FillPlace}
 use Rattle.nam_calls.specs.declared.mover.MovePlace.{MovePlace}
-use Rattle.nam_calls.specs.declared.mover.MovePlace.TheVariants.{MoveCount, MoveHead, MoveEnding, MoveClaim, MoveWords}
+use Rattle.nam_calls.specs.declared.mover.MovePlace.TheVariants.{MoveCount, MoveHead, MoveEnding, MoveClaim}
+use Rattle.nam_calls.specs.declared.mover.MovePlace.TheVariants.{MoveWords}
 use Rattle.nam_calls.specs.declared.mover.MovePlace.TheVariants.{MoveFill, MoveAgain, MoveFull, MoveFlag, MoveBack}
 use Rattle.nam_calls.specs.declared.mover.MoveAnswer.{MoveAnswer}
-use Rattle.nam_calls.specs.declared.mover.MoveAnswer.TheVariants as answer
-use Rattle.nam_calls.specs.Stamps.{stamp_in, is_moved, with_moved, without_moved, freed, full}
-use Rattle.nam_calls.specs.Words.{slot_at, slot_end_at, slot_word_at, slot_of, tag_at, until}
 use Rattle.nam_calls.specs.Overflow.{claim_begin, claim_verb, claim_after, claim_left, fill_begin, fill_verb}
 use Rattle.nam_calls.specs.Overflow.{fill_after, fill_left}
+use Rattle.nam_calls.specs.declared.mover.MoveAnswer.TheVariants as answer
 
 abbrev pub move_begin : MovePlace
 move_begin = MoveCount
 
-abbrev pub move_verb : Place → Cells → MovePlace → Verb
-move_verb place cells MoveCount = Read place.count_at
-move_verb place cells (MoveHead slot) = Read (slot_at place slot)
-move_verb place cells (MoveEnding slot header) = Read (slot_end_at place slot)
+abbrev pub move_verb : Place → Cells → MovePlace → VerbAt Field
+move_verb place cells MoveCount = ReadAt (field.Count place.row)
+move_verb place cells (MoveHead slot) = ReadAt (field.SlotHeader place.row slot)
+move_verb place cells (MoveEnding slot header) = ReadAt (field.SlotEnd place.row slot)
 move_verb place cells (MoveClaim slot header ending at) = claim_verb cells at
-move_verb place cells (MoveWords slot header ending cell tag got) = Read (slot_word_at place slot (length got))
+move_verb place cells (MoveWords slot header ending cell tag got) = ReadAt (field.SlotWord place.row slot (length got))
 move_verb place cells (MoveFill slot header cell tag version at) = fill_verb cells cell place.row version at
-move_verb place cells (MoveAgain slot header cell tag) = Read (slot_at place slot)
-move_verb place cells (MoveFull slot header cell tag) = Write (tag_at cells cell) (full tag)
-move_verb place cells (MoveFlag slot header) = Exchange (slot_at place slot) header (with_moved place.form header)
-move_verb place cells (MoveBack header cell tag) = Write (tag_at cells cell) (freed tag)
+move_verb place cells (MoveAgain slot header cell tag) = ReadAt (field.SlotHeader place.row slot)
+move_verb place cells (MoveFull slot header cell tag) = WriteAt (field.Tag cells.bucket cell) (full tag)
+move_verb place cells (MoveFlag slot header) = ExchangeAt (field.SlotHeader place.row slot) header (with_moved place.form header)
+move_verb place cells (MoveBack header cell tag) = WriteAt (field.Tag cells.bucket cell) (freed tag)
 
 -- after the claim the slot's words are read
 abbrev pub on_claim : Cells → ℕ → ℕ → ℕ → Now ClaimPlace ClaimEnd → Now MovePlace MoveAnswer

@@ -1,12 +1,16 @@
 -- Old versions in cells: the search of a bucket, the claim of a free cell, and its filling.
-use Rattle.std.specs.Prelude.{ℕ, ◌+◌, ◌-◌, ◌*◌, ◌==◌, if◌then◌else◌, List, [], ◌∷◌, ◌++◌, length, slice_index, Some}
+use Rattle.std.specs.Prelude.{if◌then◌else◌, ℕ, ◌+◌, ◌-◌, ◌*◌, ◌==◌, List, [], ◌∷◌, ◌++◌, length, slice_index, Some}
 use Rattle.std.specs.Prelude.{None}
-use Rattle.nam_verbs.specs.declared.verb.Verb.{Verb}
-use Rattle.nam_verbs.specs.declared.verb.Verb.TheVariants.{Read, Write, Exchange}
 use Rattle.nam_verbs.specs.declared.now.Now.{Now}
 use Rattle.nam_verbs.specs.declared.now.Now.TheVariants.{At, Over}
+use Rattle.nam_verbs.specs.Until.{until}
+use Rattle.nam_verbs.specs.VerbAt.{VerbAt, ReadAt, WriteAt, ExchangeAt}
+use Rattle.nam_header.specs.Stamp.{is_deleted, sees}
+use Rattle.nam_header.specs.Tag.{is_free, is_full, written}
 use Rattle.nam_layout.specs.declared.field.Place.{Place}
 use Rattle.nam_layout.specs.declared.field.Cells.{Cells}
+use Rattle.nam_layout.specs.declared.field.Field.{Field}
+use Rattle.nam_layout.specs.declared.field.Field.TheVariants as field
 use Rattle.nam_calls.specs.declared.ring.SearchEnd.{SearchEnd}
 use Rattle.nam_calls.specs.declared.ring.SearchEnd.TheVariants.{Found, NotThere}
 use Rattle.nam_calls.specs.declared.overflow.CellPlace.{CellPlace}
@@ -19,21 +23,19 @@ use Rattle.nam_calls.specs.declared.overflow.ClaimEnd.TheVariants.{Claimed, NoRo
 use Rattle.nam_calls.specs.declared.overflow.Version.{Version}
 use Rattle.nam_calls.specs.declared.overflow.FillPlace.{FillPlace}
 use Rattle.nam_calls.specs.declared.overflow.FillPlace.TheVariants.{FillOwner, FillBegin, FillEnding, FillWord}
-use Rattle.nam_calls.specs.Stamps.{sees, is_deleted, is_free, is_full, written}
-use Rattle.nam_calls.specs.Words.{tag_at, owner_at, begin_at, end_at, cell_word_at, until}
 
 -- 1. SearchCells: cell after cell its tag, owner, begin, end, its words, its tag again
 
 abbrev pub cell_begin : CellPlace
 cell_begin = CellTag 0
 
-abbrev pub cell_verb : Cells → CellPlace → Verb
-cell_verb cells (CellTag cell) = Read (tag_at cells cell)
-cell_verb cells (CellOwner cell tag) = Read (owner_at cells cell)
-cell_verb cells (CellBegin cell tag) = Read (begin_at cells cell)
-cell_verb cells (CellEnding cell tag header) = Read (end_at cells cell)
-cell_verb cells (CellWords cell tag header got) = Read (cell_word_at cells cell (length got))
-cell_verb cells (CellAgain cell tag header value) = Read (tag_at cells cell)
+abbrev pub cell_verb : Cells → CellPlace → VerbAt Field
+cell_verb cells (CellTag cell) = ReadAt (field.Tag cells.bucket cell)
+cell_verb cells (CellOwner cell tag) = ReadAt (field.Owner cells.bucket cell)
+cell_verb cells (CellBegin cell tag) = ReadAt (field.Begin cells.bucket cell)
+cell_verb cells (CellEnding cell tag header) = ReadAt (field.End cells.bucket cell)
+cell_verb cells (CellWords cell tag header got) = ReadAt (field.CellWord cells.bucket cell (length got))
+cell_verb cells (CellAgain cell tag header value) = ReadAt (field.Tag cells.bucket cell)
 
 abbrev pub next_cell : Cells → ℕ → Now CellPlace SearchEnd
 next_cell cells cell = if cell + 1 == cells.cells then Over NotThere else At (CellTag (cell + 1))
@@ -68,9 +70,9 @@ cell_left cells place (CellAgain cell tag header value) = cells_left cells place
 abbrev pub claim_begin : ClaimPlace
 claim_begin = ClaimLook 0
 
-abbrev pub claim_verb : Cells → ClaimPlace → Verb
-claim_verb cells (ClaimLook cell) = Read (tag_at cells cell)
-claim_verb cells (ClaimTake cell tag) = Exchange (tag_at cells cell) tag (written tag)
+abbrev pub claim_verb : Cells → ClaimPlace → VerbAt Field
+claim_verb cells (ClaimLook cell) = ReadAt (field.Tag cells.bucket cell)
+claim_verb cells (ClaimTake cell tag) = ExchangeAt (field.Tag cells.bucket cell) tag (written tag)
 
 abbrev pub claim_next : Cells → ℕ → Now ClaimPlace ClaimEnd
 claim_next cells cell = if cell + 1 == cells.cells then Over NoRoom else At (ClaimLook (cell + 1))
@@ -88,11 +90,11 @@ claim_left cells (ClaimTake cell tag) = (cells.cells - cell - 1) * 2 + 1
 abbrev pub fill_begin : FillPlace
 fill_begin = FillOwner
 
-abbrev pub fill_verb : Cells → ℕ → ℕ → Version → FillPlace → Verb
-fill_verb cells cell owner version FillOwner = Write (owner_at cells cell) owner
-fill_verb cells cell owner version FillBegin = Write (begin_at cells cell) version.begin
-fill_verb cells cell owner version FillEnding = Write (end_at cells cell) version.«end»
-fill_verb cells cell owner version (FillWord nth) = Write (cell_word_at cells cell nth) (slice_index version.value nth)
+abbrev pub fill_verb : Cells → ℕ → ℕ → Version → FillPlace → VerbAt Field
+fill_verb cells cell owner version FillOwner = WriteAt (field.Owner cells.bucket cell) owner
+fill_verb cells cell owner version FillBegin = WriteAt (field.Begin cells.bucket cell) version.begin
+fill_verb cells cell owner version FillEnding = WriteAt (field.End cells.bucket cell) version.«end»
+fill_verb cells cell owner version (FillWord nth) = WriteAt (field.CellWord cells.bucket cell nth) (slice_index version.value nth)
 
 abbrev pub fill_after : ℕ → FillPlace → Now FillPlace (Unit {0})
 fill_after width FillOwner = At FillBegin

@@ -1,9 +1,12 @@
 -- The read at a position as a straight program, to be compared with the order of verbs.
-use Rattle.std.specs.Prelude.{ℕ, zero, suc, ◌+◌, ◌-◌, ◌<◌, ◌==◌, ◌&&◌, ◌||◌, not, nat_lt, if◌then◌else◌, List, [], Some}
+use Rattle.std.specs.Prelude.{if◌then◌else◌, ℕ, zero, suc, ◌+◌, ◌-◌, ◌<◌, ◌==◌, ◌&&◌, ◌||◌, not, nat_lt, List, [], Some}
 use Rattle.std.specs.Prelude.{None, slice_index}
 use Rattle.nam_verbs.specs.declared.now.Now.TheVariants.{At}
+use Rattle.nam_header.specs.Stamp.{is_locked, is_deleted, same_stamp, sees, mark}
+use Rattle.nam_header.specs.Tag.{is_full}
 use Rattle.nam_layout.specs.declared.field.Place.{Place}
 use Rattle.nam_layout.specs.declared.field.Cells.{Cells}
+use Rattle.nam_layout.specs.declared.field.Field.TheVariants as field
 use Rattle.nam_calls.specs.declared.ring.SearchEnd.{SearchEnd}
 use Rattle.nam_calls.specs.declared.ring.SearchEnd.TheVariants.{Found, NotThere}
 use Rattle.nam_calls.specs.declared.horizon.OldEnd.{OldEnd}
@@ -11,9 +14,6 @@ use Rattle.nam_calls.specs.declared.horizon.OldEnd.TheVariants.{TooOld, NotPasse
 use Rattle.nam_calls.specs.declared.reading.Sight.{Sight}
 use Rattle.nam_calls.specs.declared.reading.ReadingEnd.{ReadingEnd}
 use Rattle.nam_calls.specs.declared.reading.ReadingEnd.TheVariants.{Got, Passed, Astray}
-use Rattle.nam_calls.specs.Stamps.{sees, is_deleted, is_locked, same_stamp, mark, is_full}
-use Rattle.nam_calls.specs.Words.{word_at, slot_at, slot_end_at, slot_word_at, tag_at, owner_at, begin_at, end_at}
-use Rattle.nam_calls.specs.Words.{cell_word_at, horizon_at}
 use Rattle.nam_calls.specs.Reading.{read_begin, read_verb, read_after}
 use Rattle.nam_calls.specs.Program.{Prog, Ret, ◌>>=◌, read, words, IsTheProgram, standing, taking}
 
@@ -22,12 +22,12 @@ module _ (place : Place) (seen : List ℕ) where
   abbrev pub search_ring : ℕ → ℕ → Prog SearchEnd
   search_ring zero slot = Ret NotThere
   search_ring (suc rest) slot =
-      read (slot_at place slot) >>= λ header.
+      read (field.SlotHeader place.row slot) >>= λ header.
       if (header == mark) || not (sees place.form seen header) then search_ring rest (slot + 1) else
-      read (slot_end_at place slot) >>= λ ending.
+      read (field.SlotEnd place.row slot) >>= λ ending.
       if sees place.form seen ending then search_ring rest (slot + 1) else
-      words (slot_word_at place slot) place.width [] >>= λ value.
-      read (slot_at place slot) >>= λ again.
+      words (field.SlotWord place.row slot) place.width [] >>= λ value.
+      read (field.SlotHeader place.row slot) >>= λ again.
       if same_stamp place.form again header && not (again == mark)
       then Ret (Found (if is_deleted place.form header then None else Some value))
       else search_ring rest (slot + 1)
@@ -36,16 +36,16 @@ module _ (place : Place) (seen : List ℕ) where
   abbrev pub search_cells : Cells → ℕ → ℕ → Prog SearchEnd
   search_cells cells zero cell = Ret NotThere
   search_cells cells (suc rest) cell =
-      read (tag_at cells cell) >>= λ tag.
+      read (field.Tag cells.bucket cell) >>= λ tag.
       if not (is_full tag) then search_cells cells rest (cell + 1) else
-      read (owner_at cells cell) >>= λ owner.
+      read (field.Owner cells.bucket cell) >>= λ owner.
       if not (owner == place.row) then search_cells cells rest (cell + 1) else
-      read (begin_at cells cell) >>= λ header.
+      read (field.Begin cells.bucket cell) >>= λ header.
       if not (sees place.form seen header) then search_cells cells rest (cell + 1) else
-      read (end_at cells cell) >>= λ ending.
+      read (field.End cells.bucket cell) >>= λ ending.
       if sees place.form seen ending then search_cells cells rest (cell + 1) else
-      words (cell_word_at cells cell) place.width [] >>= λ value.
-      read (tag_at cells cell) >>= λ again.
+      words (field.CellWord cells.bucket cell) place.width [] >>= λ value.
+      read (field.Tag cells.bucket cell) >>= λ again.
       if again == tag then Ret (Found (if is_deleted place.form header then None else Some value))
       else search_cells cells rest (cell + 1)
 
@@ -53,7 +53,7 @@ module _ (place : Place) (seen : List ℕ) where
 abbrev pub show_old : ℕ → List ℕ → ℕ → ℕ → Prog OldEnd
 show_old workers seen zero worker = Ret NotPassed
 show_old workers seen (suc rest) worker =
-    read (horizon_at workers worker) >>= λ horizon.
+    read (field.Horizon worker) >>= λ horizon.
     if nat_lt (slice_index seen (worker - 1)) horizon then Ret (TooOld worker (slice_index seen (worker - 1)) horizon)
     else show_old workers seen rest (worker + 1)
 
@@ -78,15 +78,15 @@ module _ (sight : Sight) (seen : List ℕ) where
   -- steps 1 to 5: the header, the words, the header, and where one of the two looks found a lock, the ring and the header
   abbrev pub read_program : Prog ReadingEnd
   read_program =
-      read sight.place.header_at >>= λ header.
+      read (field.Header sight.place.row) >>= λ header.
       if not (sees sight.place.form seen header) then old_versions else
       if is_deleted sight.place.form header then Ret (Got None) else
-      words (word_at sight.place) sight.place.width [] >>= λ value.
-      read sight.place.header_at >>= λ again.
+      words (field.Word sight.place.row) sight.place.width [] >>= λ value.
+      read (field.Header sight.place.row) >>= λ again.
       if not (same_stamp sight.place.form again header) then old_versions else
       if not (is_locked sight.place.form header || is_locked sight.place.form again) then Ret (Got (Some value)) else
       search_ring sight.place seen sight.place.ring 0 >>= found_or (
-      read sight.place.header_at >>= λ last.
+      read (field.Header sight.place.row) >>= λ last.
       if same_stamp sight.place.form last header then Ret (Got (Some value)) else old_versions)
 
 -- a record has words and slots, its bucket cells, and the store workers

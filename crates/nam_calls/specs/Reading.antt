@@ -1,13 +1,13 @@
 -- Reading at a position, by eight steps.
-use Rattle.std.specs.Prelude.{ℕ, ◌+◌, ◌*◌, if◌then◌else◌, List, Some}
-use Rattle.nam_verbs.specs.declared.verb.Verb.{Verb}
+use Rattle.std.specs.Prelude.{if◌then◌else◌, ℕ, ◌+◌, ◌*◌, List, Some}
 use Rattle.nam_verbs.specs.declared.now.Now.{Now}
 use Rattle.nam_verbs.specs.declared.now.Now.TheVariants.{At, Over}
+use Rattle.nam_verbs.specs.VerbAt.{VerbAt}
 use Rattle.nam_catalog.specs.declared.shape.Shape.{Shape}
-use Rattle.nam_layout.specs.Place.{place_of}
+use Rattle.nam_layout.specs.Place.{place_of, cells_by}
+use Rattle.nam_layout.specs.declared.field.Field.{Field}
 use Rattle.nam_calls.specs.declared.record.CurrentPlace.{CurrentPlace}
 use Rattle.nam_calls.specs.declared.record.CurrentEnd.{CurrentEnd}
-use Rattle.nam_calls.specs.declared.record.CurrentEnd.TheVariants as current
 use Rattle.nam_calls.specs.declared.ring.RingPlace.{RingPlace}
 use Rattle.nam_calls.specs.declared.ring.SearchEnd.{SearchEnd}
 use Rattle.nam_calls.specs.declared.ring.SearchEnd.TheVariants.{Found, NotThere}
@@ -20,11 +20,13 @@ use Rattle.nam_calls.specs.declared.reading.ReadPlace.TheVariants.{ReadCurrent, 
 use Rattle.nam_calls.specs.declared.reading.ReadPlace.TheVariants.{ReadCells, ReadHorizon}
 use Rattle.nam_calls.specs.declared.reading.ReadingEnd.{ReadingEnd}
 use Rattle.nam_calls.specs.declared.reading.ReadingEnd.TheVariants.{Got, Passed, Astray}
-use Rattle.nam_calls.specs.Words.{cells_by, width_of, ring_of}
-use Rattle.nam_calls.specs.Record.{current_begin, current_verb, current_after, current_left, recheck_verb, recheck_end}
+use Rattle.nam_calls.specs.Words.{width_of, ring_of}
+use Rattle.nam_calls.specs.Record.{current_begin, current_verb, current_after, current_left, recheck_verb}
+use Rattle.nam_calls.specs.Record.{recheck_end}
 use Rattle.nam_calls.specs.Ring.{ring_begin, ring_verb, ring_after, ring_left}
 use Rattle.nam_calls.specs.Overflow.{cell_begin, cell_verb, cell_after, cell_left}
 use Rattle.nam_calls.specs.Horizon.{old_begin, old_verb, old_after, old_left}
+use Rattle.nam_calls.specs.declared.record.CurrentEnd.TheVariants as current
 
 -- where a read of a table's position looks
 abbrev pub sight_of : Shape → ℕ → ℕ → Sight
@@ -35,13 +37,13 @@ sight_of shape table position =
 abbrev pub read_begin : ReadPlace
 read_begin = ReadCurrent current_begin
 
-abbrev pub read_verb : Sight → ReadPlace → Verb
+abbrev pub read_verb : Sight → ReadPlace → VerbAt Field
 read_verb sight (ReadCurrent at) = current_verb sight.place at
 read_verb sight (ReadUnsure value header at) = ring_verb sight.place at
 read_verb sight (ReadRecheck value header) = recheck_verb sight.place
 read_verb sight (ReadRing at) = ring_verb sight.place at
 read_verb sight (ReadCells at) = cell_verb sight.cells at
-read_verb sight (ReadHorizon worker) = old_verb sight.workers worker
+read_verb sight (ReadHorizon worker) = old_verb worker
 
 -- steps 1 to 3: the current version; a locked one is looked for in the ring, another stamp leads to the old versions
 abbrev pub on_current : Now CurrentPlace CurrentEnd → Now ReadPlace ReadingEnd

@@ -1,29 +1,31 @@
 -- The current version of a record: reading it, looking once more, its words alone, and installing the next version.
-use Rattle.std.specs.Prelude.{ℕ, ◌+◌, ◌-◌, ◌==◌, ◌||◌, Bool, if◌then◌else◌, List, [], ◌∷◌, ◌++◌, length, slice_index}
+use Rattle.std.specs.Prelude.{if◌then◌else◌, ℕ, ◌+◌, ◌-◌, ◌==◌, ◌||◌, Bool, List, [], ◌∷◌, ◌++◌, length, slice_index}
 use Rattle.std.specs.Prelude.{Option, Some, None}
-use Rattle.nam_verbs.specs.declared.verb.Verb.{Verb}
-use Rattle.nam_verbs.specs.declared.verb.Verb.TheVariants.{Read, Write}
 use Rattle.nam_verbs.specs.declared.now.Now.{Now}
 use Rattle.nam_verbs.specs.declared.now.Now.TheVariants.{At, Over}
+use Rattle.nam_verbs.specs.Until.{until}
+use Rattle.nam_verbs.specs.VerbAt.{VerbAt, ReadAt, WriteAt}
+use Rattle.nam_header.specs.Stamp.{is_locked, is_deleted, same_stamp, sees}
 use Rattle.nam_layout.specs.declared.field.Place.{Place}
+use Rattle.nam_layout.specs.declared.field.Field.{Field}
+use Rattle.nam_layout.specs.declared.field.Field.TheVariants as field
 use Rattle.nam_calls.specs.declared.record.CurrentPlace.{CurrentPlace}
 use Rattle.nam_calls.specs.declared.record.CurrentPlace.TheVariants.{CurrentHead, CurrentWords, CurrentAgain}
 use Rattle.nam_calls.specs.declared.record.CurrentEnd.{CurrentEnd}
 use Rattle.nam_calls.specs.declared.record.CurrentEnd.TheVariants.{Found, Unsure, GoOld}
 use Rattle.nam_calls.specs.declared.record.InstallPlace.{InstallPlace}
 use Rattle.nam_calls.specs.declared.record.InstallPlace.TheVariants.{InstallWord, InstallCount, InstallHead}
-use Rattle.nam_calls.specs.Stamps.{sees, is_deleted, is_locked, same_stamp, wrapped}
-use Rattle.nam_calls.specs.Words.{word_at, until}
+use Rattle.nam_calls.specs.Words.{wrapped}
 
 -- 1. ReadCurrent: the header, the data words, the header again
 
 abbrev pub current_begin : CurrentPlace
 current_begin = CurrentHead
 
-abbrev pub current_verb : Place → CurrentPlace → Verb
-current_verb place CurrentHead = Read place.header_at
-current_verb place (CurrentWords header got) = Read (word_at place (length got))
-current_verb place (CurrentAgain header value) = Read place.header_at
+abbrev pub current_verb : Place → CurrentPlace → VerbAt Field
+current_verb place CurrentHead = ReadAt (field.Header place.row)
+current_verb place (CurrentWords header got) = ReadAt (field.Word place.row (length got))
+current_verb place (CurrentAgain header value) = ReadAt (field.Header place.row)
 
 abbrev pub current_after : Place → List ℕ → CurrentPlace → ℕ → Now CurrentPlace CurrentEnd
 current_after place seen CurrentHead found =
@@ -44,8 +46,8 @@ current_left place (CurrentAgain header value) = 1
 
 -- 2. Recheck: does the header still bear the stamp. There is one place
 
-abbrev pub recheck_verb : Place → Verb
-recheck_verb place = Read place.header_at
+abbrev pub recheck_verb : Place → VerbAt Field
+recheck_verb place = ReadAt (field.Header place.row)
 
 abbrev pub recheck_end : Place → ℕ → ℕ → Bool
 recheck_end place header found = same_stamp place.form found header
@@ -55,8 +57,8 @@ recheck_end place header found = same_stamp place.form found header
 abbrev pub words_begin : List ℕ
 words_begin = []
 
-abbrev pub words_verb : Place → List ℕ → Verb
-words_verb place got = Read (word_at place (length got))
+abbrev pub words_verb : Place → List ℕ → VerbAt Field
+words_verb place got = ReadAt (field.Word place.row (length got))
 
 abbrev pub words_after : Place → List ℕ → ℕ → Now (List ℕ) (List ℕ)
 words_after place got found = until place.width (got ++ found ∷ []) At Over
@@ -75,10 +77,10 @@ abbrev pub word_in : Option (List ℕ) → ℕ → ℕ
 word_in None nth = 0
 word_in (Some value) nth = slice_index value nth
 
-abbrev pub install_verb : Place → Option (List ℕ) → ℕ → ℕ → InstallPlace → Verb
-install_verb place value count header (InstallWord nth) = Write (word_at place nth) (word_in value nth)
-install_verb place value count header InstallCount = Write place.count_at (wrapped (count + 1))
-install_verb place value count header InstallHead = Write place.header_at header
+abbrev pub install_verb : Place → Option (List ℕ) → ℕ → ℕ → InstallPlace → VerbAt Field
+install_verb place value count header (InstallWord nth) = WriteAt (field.Word place.row nth) (word_in value nth)
+install_verb place value count header InstallCount = WriteAt (field.Count place.row) (wrapped (count + 1))
+install_verb place value count header InstallHead = WriteAt (field.Header place.row) header
 
 abbrev pub install_after : Place → InstallPlace → Now InstallPlace (Unit {0})
 install_after place (InstallWord nth) = if nth + 1 == place.width then At InstallCount else At (InstallWord (nth + 1))

@@ -1,12 +1,16 @@
 -- Old versions in the ring: the slot that the next version needs, the copy into it, and the search.
-use Rattle.std.specs.Prelude.{ℕ, ◌+◌, ◌-◌, ◌*◌, ◌==◌, ◌&&◌, ◌||◌, not, if◌then◌else◌, List, [], ◌∷◌, ◌++◌, length}
+use Rattle.std.specs.Prelude.{if◌then◌else◌, ℕ, ◌+◌, ◌-◌, ◌*◌, ◌==◌, ◌&&◌, ◌||◌, not, List, [], ◌∷◌, ◌++◌, length}
 use Rattle.std.specs.Prelude.{slice_index, Some, None}
-use Rattle.nam_verbs.specs.declared.verb.Verb.{Verb}
-use Rattle.nam_verbs.specs.declared.verb.Verb.TheVariants.{Read, Write}
+use Rattle.si_model.specs.declared.log.Stamp.{Stamp}
 use Rattle.nam_verbs.specs.declared.now.Now.{Now}
 use Rattle.nam_verbs.specs.declared.now.Now.TheVariants.{At, Over}
-use Rattle.si_model.specs.declared.log.Stamp.{Stamp}
+use Rattle.nam_verbs.specs.Until.{until}
+use Rattle.nam_verbs.specs.VerbAt.{VerbAt, ReadAt, WriteAt}
+use Rattle.nam_header.specs.Stamp.{is_deleted, is_moved, same_stamp, sees, stamp_word, mark}
 use Rattle.nam_layout.specs.declared.field.Place.{Place}
+use Rattle.nam_layout.specs.Place.{slot_of}
+use Rattle.nam_layout.specs.declared.field.Field.{Field}
+use Rattle.nam_layout.specs.declared.field.Field.TheVariants as field
 use Rattle.nam_calls.specs.declared.ring.SlotPlace.{SlotPlace}
 use Rattle.nam_calls.specs.declared.ring.SlotPlace.TheVariants.{CheckCount, CheckHead}
 use Rattle.nam_calls.specs.declared.ring.SlotEnd.{SlotEnd}
@@ -17,17 +21,15 @@ use Rattle.nam_calls.specs.declared.ring.RingPlace.{RingPlace}
 use Rattle.nam_calls.specs.declared.ring.RingPlace.TheVariants.{SlotHead, SlotEnding, SlotWords, SlotAgain}
 use Rattle.nam_calls.specs.declared.ring.SearchEnd.{SearchEnd}
 use Rattle.nam_calls.specs.declared.ring.SearchEnd.TheVariants.{Found, NotThere}
-use Rattle.nam_calls.specs.Stamps.{sees, is_deleted, is_moved, same_stamp, stamp_word, mark}
-use Rattle.nam_calls.specs.Words.{slot_at, slot_end_at, slot_word_at, slot_of, until}
 
 -- 1. CheckSlot: the count, and the header of that version's slot
 
 abbrev pub slot_begin : SlotPlace
 slot_begin = CheckCount
 
-abbrev pub slot_verb : Place → SlotPlace → Verb
-slot_verb place CheckCount = Read place.count_at
-slot_verb place (CheckHead count) = Read (slot_at place (slot_of place count))
+abbrev pub slot_verb : Place → SlotPlace → VerbAt Field
+slot_verb place CheckCount = ReadAt (field.Count place.row)
+slot_verb place (CheckHead count) = ReadAt (field.SlotHeader place.row (slot_of place count))
 
 abbrev pub slot_after : Place → SlotPlace → ℕ → Now SlotPlace SlotEnd
 slot_after place CheckCount found = At (CheckHead found)
@@ -43,11 +45,11 @@ slot_left (CheckHead count) = 1
 abbrev pub copy_begin : CopyPlace
 copy_begin = CopyMark
 
-abbrev pub copy_verb : Place → ℕ → ℕ → List ℕ → Stamp → CopyPlace → Verb
-copy_verb place count header old ending CopyMark = Write (slot_at place (slot_of place count)) mark
-copy_verb place count header old ending CopyEnding = Write (slot_end_at place (slot_of place count)) (stamp_word place.form ending)
-copy_verb place count header old ending (CopyWord nth) = Write (slot_word_at place (slot_of place count) nth) (slice_index old nth)
-copy_verb place count header old ending CopyHead = Write (slot_at place (slot_of place count)) header
+abbrev pub copy_verb : Place → ℕ → ℕ → List ℕ → Stamp → CopyPlace → VerbAt Field
+copy_verb place count header old ending CopyMark = WriteAt (field.SlotHeader place.row (slot_of place count)) mark
+copy_verb place count header old ending CopyEnding = WriteAt (field.SlotEnd place.row (slot_of place count)) (stamp_word place.form ending)
+copy_verb place count header old ending (CopyWord nth) = WriteAt (field.SlotWord place.row (slot_of place count) nth) (slice_index old nth)
+copy_verb place count header old ending CopyHead = WriteAt (field.SlotHeader place.row (slot_of place count)) header
 
 abbrev pub copy_after : Place → CopyPlace → Now CopyPlace (Unit {0})
 copy_after place CopyMark = At CopyEnding
@@ -66,11 +68,11 @@ copy_left place CopyHead = 1
 abbrev pub ring_begin : RingPlace
 ring_begin = SlotHead 0
 
-abbrev pub ring_verb : Place → RingPlace → Verb
-ring_verb place (SlotHead slot) = Read (slot_at place slot)
-ring_verb place (SlotEnding slot header) = Read (slot_end_at place slot)
-ring_verb place (SlotWords slot header got) = Read (slot_word_at place slot (length got))
-ring_verb place (SlotAgain slot header value) = Read (slot_at place slot)
+abbrev pub ring_verb : Place → RingPlace → VerbAt Field
+ring_verb place (SlotHead slot) = ReadAt (field.SlotHeader place.row slot)
+ring_verb place (SlotEnding slot header) = ReadAt (field.SlotEnd place.row slot)
+ring_verb place (SlotWords slot header got) = ReadAt (field.SlotWord place.row slot (length got))
+ring_verb place (SlotAgain slot header value) = ReadAt (field.SlotHeader place.row slot)
 
 abbrev pub next_slot : Place → ℕ → Now RingPlace SearchEnd
 next_slot place slot = if slot + 1 == place.ring then Over NotThere else At (SlotHead (slot + 1))

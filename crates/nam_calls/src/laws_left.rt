@@ -1,9 +1,10 @@
-//! Verbs to come: fewer with each word taken, and how many there are at a read's begin; and which word each of them reaches.
+//! Verbs to come: fewer with each word taken, and how many there are at a read's begin; and which field each of them is at.
 
 ghost use Rattle.nam_calls.specs.FallsLaw.{FindLaw, ClaimKeyLaw, CurrentLaw, WordsLaw, InstallLaw, SlotLaw, CopyLaw, RingLaw};
 ghost use Rattle.nam_calls.specs.FallsLaw.{CellLaw, ClaimLaw, FillLaw, MoveLaw, CollectLaw, OldLaw, LockLaw, UnlockLaw};
 ghost use Rattle.nam_calls.specs.FallsLaw.{ReadLaw, ReadBeginsLaw};
-ghost use Rattle.nam_calls.specs.AddressFact.{RowReachesLaw, CellsReachLaw, SnapReachesLaw, OldReachesLaw, CollectReachesLaw};
+ghost use Rattle.nam_calls.specs.FieldLaw.{PlaceVerbsLaw, CellVerbsLaw, MoveVerbsLaw, CollectVerbsLaw, ReadVerbsLaw};
+ghost use Rattle.nam_calls.specs.FieldLaw.{PathLaw};
 
 /// The machines of a key and of a position: at each place that fits, each word leads to a place that fits with fewer
 /// verbs to come, or to an end that fits, as a value of the position's width.
@@ -41,12 +42,14 @@ pub fn read_falls()
     ensures begins { ReadBeginsLaw }
 {}
 
-/// Each verb of each machine reaches the field that its place says, of the row, of the bucket or of a worker, and that
-/// field is one of the shape's. This needs no more than that the place fits, which the other laws keep.
-pub fn machines_reach()
-    ensures row { RowReachesLaw }
-    ensures cells { CellsReachLaw }
-    ensures snap { SnapReachesLaw }
-    ensures old { OldReachesLaw }
-    ensures collect { CollectReachesLaw }
+/// Each verb of each call is at a field of what the call was given: of its position, of its bucket's cells, of the
+/// workers' entries; the verbs along a path are at the keys of the table's positions. This needs no more than that the
+/// place fits, which the other laws keep. Where such fields stand says `nam_layout`.
+pub fn verbs_at_fields()
+    ensures place { PlaceVerbsLaw }
+    ensures cells { CellVerbsLaw }
+    ensures moves { MoveVerbsLaw }
+    ensures collect { CollectVerbsLaw }
+    ensures read { ReadVerbsLaw }
+    ensures path { PathLaw }
 {}

@@ -20,8 +20,8 @@ mod record;
 mod ring;
 
 pub use horizon::{CollectPlace, OldEnd};
-pub use index::{ClaimKeyEnd, ClaimKeyPlace, FindEnd};
-pub use laws_left::{cells_fall, locks_fall, machines_reach, position_falls, read_falls};
+pub use index::{ClaimKeyEnd, ClaimKeyPlace, FindEnd, Path};
+pub use laws_left::{cells_fall, locks_fall, position_falls, read_falls, verbs_at_fields};
 pub use laws_programs::{
     claim_program_law, collect_program_law, move_program_law, read_program_law,
 };

@@ -70,18 +70,23 @@ module _ (shape : Shape) (limits : FitsLimits shape) (row : ℕ) (is : IsRow sha
       → Reaches shape (words_verb (row_place shape row) got) (words_field (row_place shape row) got)
   words_reach got l = ((is, l), omega arith)
 
-  pub install_reaches : (value : Option (List ℕ)) (count header : ℕ) (at : InstallPlace) → InstallFits (row_place shape row) at
-      → Reaches shape (install_verb (row_place shape row) value count header at) (install_field (row_place shape row) at)
+  pub install_reaches : (value : Option (List ℕ)) (count header : ℕ) (at : InstallPlace)
+      → InstallFits (row_place shape row) at
+      → Reaches shape (install_verb (row_place shape row) value count header at)
+      (install_field (row_place shape row) at)
   install_reaches value count header (InstallWord nth) l = ((is, l), omega arith)
   install_reaches value count header InstallCount l = (is, refl)
   install_reaches value count header InstallHead l = (is, refl)
 
-  pub slot_reaches : (at : SlotPlace) → Reaches shape (slot_verb (row_place shape row) at) (slot_field (row_place shape row) at)
+  pub slot_reaches : (at : SlotPlace)
+      → Reaches shape (slot_verb (row_place shape row) at) (slot_field (row_place shape row) at)
   slot_reaches CheckCount = (is, refl)
   slot_reaches (CheckHead count) = ((is, slot_within count), omega arith)
 
-  pub copy_reaches : (count header : ℕ) (old : List ℕ) (ending : Stamp) (at : CopyPlace) → CopyFits (row_place shape row) at
-      → Reaches shape (copy_verb (row_place shape row) count header old ending at) (copy_field (row_place shape row) count at)
+  pub copy_reaches : (count header : ℕ) (old : List ℕ) (ending : Stamp) (at : CopyPlace)
+      → CopyFits (row_place shape row) at
+      → Reaches shape (copy_verb (row_place shape row) count header old ending at)
+      (copy_field (row_place shape row) count at)
   copy_reaches count header old ending CopyMark l = ((is, slot_within count), omega arith)
   copy_reaches count header old ending CopyEnding l = ((is, slot_within count), omega arith)
   copy_reaches count header old ending (CopyWord nth) l = (((is, slot_within count), l), omega arith)
@@ -103,7 +108,8 @@ module _ (shape : Shape) (limits : FitsLimits shape) (row : ℕ) (is : IsRow sha
     cell_reaches (CellOwner cell tag) l = ((less, l), omega arith)
     cell_reaches (CellBegin cell tag) l = ((less, l), omega arith)
     cell_reaches (CellEnding cell tag header) l = ((less, l), omega arith)
-    cell_reaches (CellWords cell tag header got) l = let w = fits.most_width in let m = l.1 in (((less, l.0), omega arith), omega arith)
+    cell_reaches (CellWords cell tag header got) l =
+        let w = fits.most_width in let m = l.1 in (((less, l.0), omega arith), omega arith)
     cell_reaches (CellAgain cell tag header value) l = ((less, l.0), omega arith)
 
     pub claim_reaches : (at : ClaimPlace) → ClaimFits (cells_of shape bucket) at
@@ -111,15 +117,19 @@ module _ (shape : Shape) (limits : FitsLimits shape) (row : ℕ) (is : IsRow sha
     claim_reaches (ClaimLook cell) l = ((less, l), omega arith)
     claim_reaches (ClaimTake cell tag) l = ((less, l), omega arith)
 
-    pub fill_reaches : (cell owner : ℕ) (version : Version) (at : FillPlace) → cell < shape.cells → FillFits (row_place shape row).width at
-        → Reaches shape (fill_verb (cells_of shape bucket) cell owner version at) (fill_field (cells_of shape bucket) cell at)
+    pub fill_reaches : (cell owner : ℕ) (version : Version) (at : FillPlace) → cell < shape.cells
+        → FillFits (row_place shape row).width at
+        → Reaches shape (fill_verb (cells_of shape bucket) cell owner version at)
+        (fill_field (cells_of shape bucket) cell at)
     fill_reaches cell owner version FillOwner c l = ((less, c), omega arith)
     fill_reaches cell owner version FillBegin c l = ((less, c), omega arith)
     fill_reaches cell owner version FillEnding c l = ((less, c), omega arith)
-    fill_reaches cell owner version (FillWord nth) c l = let w = fits.most_width in (((less, c), omega arith), omega arith)
+    fill_reaches cell owner version (FillWord nth) c l =
+        let w = fits.most_width in (((less, c), omega arith), omega arith)
 
     pub move_reaches : (at : MovePlace) → MoveFits (row_place shape row) (cells_of shape bucket) at
-        → Reaches shape (move_verb (row_place shape row) (cells_of shape bucket) at) (move_field (row_place shape row) (cells_of shape bucket) at)
+        → Reaches shape (move_verb (row_place shape row) (cells_of shape bucket) at)
+        (move_field (row_place shape row) (cells_of shape bucket) at)
     move_reaches MoveCount l = (is, refl)
     move_reaches (MoveHead slot) l = ((is, l), omega arith)
     move_reaches (MoveEnding slot header) l = ((is, l), omega arith)
@@ -138,12 +148,14 @@ module _ (shape : Shape) where
   snap_reaches (First got) l = ((omega arith, omega arith), omega arith)
   snap_reaches (Second seen at) l = let m = l.1 in ((omega arith, omega arith), omega arith)
 
-  pub old_reaches : (worker : ℕ) → IsOf shape.workers worker → Reaches shape (old_verb shape.workers worker) (Horizon worker)
+  pub old_reaches : (worker : ℕ) → IsOf shape.workers worker
+      → Reaches shape (old_verb shape.workers worker) (Horizon worker)
   old_reaches worker l = (l, refl)
 
   pub collect_reaches : (bucket : ℕ) → bucket < shape.buckets → (seen : List ℕ) (at : CollectPlace)
       → CollectFits (cells_of shape bucket) shape.workers at
-      → Reaches shape (collect_verb (cells_of shape bucket) shape.workers seen at) (collect_field (cells_of shape bucket) at)
+      → Reaches shape (collect_verb (cells_of shape bucket) shape.workers seen at)
+      (collect_field (cells_of shape bucket) at)
   collect_reaches bucket less seen (HorizonLook known) l = ((omega arith, omega arith), omega arith)
   collect_reaches bucket less seen (HorizonRaise known found) l = ((omega arith, omega arith), omega arith)
   collect_reaches bucket less seen (CollectTag known cell) l = ((less, l.1), omega arith)

@@ -28,6 +28,8 @@ module _ (shape : Shape) (limits : FitsLimits shape) (table : ℕ) (is : IsTable
   claim_key_reaches key (KeyLook passed) l = path_reaches key passed l
   claim_key_reaches key (KeyTake passed) l = path_reaches key passed l
 
-  pub sight_reaches : (position : ℕ) (at : ReadPlace) → position < capacity_of shape table → ReadFits (sight_of shape table position) at
+  pub sight_reaches : (position : ℕ) (at : ReadPlace) → position < capacity_of shape table
+      → ReadFits (sight_of shape table position) at
       → Reaches shape (read_verb (sight_of shape table position) at) (read_field (sight_of shape table position) at)
-  sight_reaches position at l f = read_reaches shape limits (row_of shape.tables table position) (row_is position l) at f
+  sight_reaches position at l f =
+      read_reaches shape limits (row_of shape.tables table position) (row_is position l) at f

@@ -38,10 +38,12 @@ pub record RowReaches (shape : Shape) (row : ℕ) : Type 0 where
   pub words : (got : List ℕ) → WordsFit (row_place shape row) got
       → Reaches shape (words_verb (row_place shape row) got) (words_field (row_place shape row) got)
   pub install : (value : Option (List ℕ)) (count header : ℕ) (at : InstallPlace) → InstallFits (row_place shape row) at
-      → Reaches shape (install_verb (row_place shape row) value count header at) (install_field (row_place shape row) at)
+      → Reaches shape (install_verb (row_place shape row) value count header at)
+      (install_field (row_place shape row) at)
   pub slot : (at : SlotPlace) → Reaches shape (slot_verb (row_place shape row) at) (slot_field (row_place shape row) at)
   pub copy : (count header : ℕ) (old : List ℕ) (ending : Stamp) (at : CopyPlace) → CopyFits (row_place shape row) at
-      → Reaches shape (copy_verb (row_place shape row) count header old ending at) (copy_field (row_place shape row) count at)
+      → Reaches shape (copy_verb (row_place shape row) count header old ending at)
+      (copy_field (row_place shape row) count at)
   pub ring : (at : RingPlace) → RingFits (row_place shape row) at
       → Reaches shape (ring_verb (row_place shape row) at) (ring_field (row_place shape row) at)
 
@@ -50,26 +52,33 @@ pub record CellsReach (shape : Shape) (row bucket : ℕ) : Type 0 where
       → Reaches shape (cell_verb (cells_of shape bucket) at) (cell_field (cells_of shape bucket) at)
   pub claim : (at : ClaimPlace) → ClaimFits (cells_of shape bucket) at
       → Reaches shape (claim_verb (cells_of shape bucket) at) (claim_field (cells_of shape bucket) at)
-  pub fill : (cell owner : ℕ) (version : Version) (at : FillPlace) → cell < shape.cells → FillFits (row_place shape row).width at
-      → Reaches shape (fill_verb (cells_of shape bucket) cell owner version at) (fill_field (cells_of shape bucket) cell at)
+  pub fill : (cell owner : ℕ) (version : Version) (at : FillPlace) → cell < shape.cells
+      → FillFits (row_place shape row).width at
+      → Reaches shape (fill_verb (cells_of shape bucket) cell owner version at)
+      (fill_field (cells_of shape bucket) cell at)
   pub moves : (at : MovePlace) → MoveFits (row_place shape row) (cells_of shape bucket) at
-      → Reaches shape (move_verb (row_place shape row) (cells_of shape bucket) at) (move_field (row_place shape row) (cells_of shape bucket) at)
+      → Reaches shape (move_verb (row_place shape row) (cells_of shape bucket) at)
+      (move_field (row_place shape row) (cells_of shape bucket) at)
 
 abbrev pub RowReachesLaw : Type 0
 RowReachesLaw = (shape : Shape) → FitsLimits shape → (row : ℕ) → IsRow shape row → RowReaches shape row
 
 abbrev pub CellsReachLaw : Type 0
 CellsReachLaw =
-    (shape : Shape) → FitsLimits shape → (row : ℕ) → IsRow shape row → (bucket : ℕ) → bucket < shape.buckets → CellsReach shape row bucket
+    (shape : Shape) → FitsLimits shape → (row : ℕ) → IsRow shape row → (bucket : ℕ) → bucket < shape.buckets
+    → CellsReach shape row bucket
 
 abbrev pub SnapReachesLaw : Type 0
-SnapReachesLaw = (shape : Shape) (at : SnapPlace) → SnapFits shape.workers at → Reaches shape (verb_at at) (snap_field at)
+SnapReachesLaw =
+    (shape : Shape) (at : SnapPlace) → SnapFits shape.workers at → Reaches shape (verb_at at) (snap_field at)
 
 abbrev pub OldReachesLaw : Type 0
-OldReachesLaw = (shape : Shape) (worker : ℕ) → IsOf shape.workers worker → Reaches shape (old_verb shape.workers worker) (Horizon worker)
+OldReachesLaw = (shape : Shape) (worker : ℕ) → IsOf shape.workers worker
+    → Reaches shape (old_verb shape.workers worker) (Horizon worker)
 
 abbrev pub CollectReachesLaw : Type 0
 CollectReachesLaw =
     (shape : Shape) (bucket : ℕ) → bucket < shape.buckets → (seen : List ℕ) (at : CollectPlace)
     → CollectFits (cells_of shape bucket) shape.workers at
-    → Reaches shape (collect_verb (cells_of shape bucket) shape.workers seen at) (collect_field (cells_of shape bucket) at)
+    → Reaches shape (collect_verb (cells_of shape bucket) shape.workers seen at)
+    (collect_field (cells_of shape bucket) at)

@@ -56,8 +56,8 @@ use Rattle.nam_catalog.specs.declared.shape.Shape.{Shape}
 
 -- 1. Falling
 
--- The call goes on at a place that fits, with fewer verbs to come than n; or it ends as it may, and what its caller does
--- after that end takes fewer than n.
+-- The call goes on at a place that fits, with fewer verbs to come than n; or it ends as it may, and what its caller
+-- does after that end takes fewer than n.
 abbrev pub FallsTo : {P E : Type 0} → (P → Type 0) → (E → Type 0) → (P → ℕ) → (E → ℕ) → ℕ → Now P E → Type 0
 FallsTo Fits Ends left after n (At place) = Fits place × (left place < n)
 FallsTo Fits Ends left after n (Over end) = Ends end × (after end < n)
@@ -172,7 +172,8 @@ MoveFits place cells MoveCount = Unit {0}
 MoveFits place cells (MoveHead slot) = slot < place.ring
 MoveFits place cells (MoveEnding slot header) = slot < place.ring
 MoveFits place cells (MoveClaim slot header ending at) = (slot < place.ring) × ClaimFits cells at
-MoveFits place cells (MoveWords slot header ending cell tag got) = (slot < place.ring) × (cell < cells.cells) × (length got < place.width)
+MoveFits place cells (MoveWords slot header ending cell tag got) =
+    (slot < place.ring) × (cell < cells.cells) × (length got < place.width)
 MoveFits place cells (MoveFill slot header cell tag version at) =
     (slot < place.ring) × (cell < cells.cells) × (length version.value ≡ place.width) × FillFits place.width at
 MoveFits place cells (MoveAgain slot header cell tag) = (slot < place.ring) × (cell < cells.cells)

@@ -14,7 +14,8 @@ use Rattle.nam_calls.specs.declared.horizon.OldEnd.TheVariants.{TooOld, NotPasse
 use Rattle.nam_calls.specs.Stamps.{stamp_in, is_within, is_full, has_next, freed}
 use Rattle.nam_calls.specs.Words.{tag_at, end_at, horizon_at, until}
 
--- 1. Collect: the horizon entries are raised to the snapshot's, then the cells within the horizon that is known are freed
+-- 1. Collect: the horizon entries are raised to the snapshot's, then the cells within the horizon that is known are
+-- freed
 
 abbrev pub collect_begin : CollectPlace
 collect_begin = HorizonLook []
@@ -36,13 +37,15 @@ collect_next cells known cell = if cell + 1 == cells.cells then Over known else 
 
 abbrev pub collect_after : Cells → ℕ → List ℕ → CollectPlace → ℕ → Now CollectPlace (List ℕ)
 collect_after cells workers seen (HorizonLook known) found =
-    if nat_lt found (slice_index seen (length known)) then At (HorizonRaise known found) else entry_known workers (known ++ found ∷ [])
+    if nat_lt found (slice_index seen (length known)) then At (HorizonRaise known found)
+    else entry_known workers (known ++ found ∷ [])
 collect_after cells workers seen (HorizonRaise known expected) found =
     entry_known workers (known ++ (if found == expected then slice_index seen (length known) else found) ∷ [])
 collect_after cells workers seen (CollectTag known cell) found =
     if is_full found then At (CollectEnding known cell found) else collect_next cells known cell
 collect_after cells workers seen (CollectEnding known cell tag) found =
-    if is_within (stamp_in cells.form found) known && has_next tag then At (CollectFree known cell tag) else collect_next cells known cell
+    if is_within (stamp_in cells.form found) known && has_next tag then At (CollectFree known cell tag)
+    else collect_next cells known cell
 collect_after cells workers seen (CollectFree known cell tag) found = collect_next cells known cell
 
 abbrev pub collect_left : Cells → ℕ → CollectPlace → ℕ

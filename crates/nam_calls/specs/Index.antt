@@ -25,7 +25,8 @@ module _ (shape : Shape) (table : ℕ) where
   find_left passed = capacity_of shape table - passed
 
   abbrev pub claim_key_next : ℕ → Now ClaimKeyPlace ClaimKeyEnd
-  claim_key_next passed = if passed + 1 == capacity_of shape table then Over claimed_key.NoSpace else At (KeyLook (passed + 1))
+  claim_key_next passed =
+      if passed + 1 == capacity_of shape table then Over claimed_key.NoSpace else At (KeyLook (passed + 1))
 
   abbrev pub claim_key_left : ClaimKeyPlace → ℕ
   claim_key_left (KeyLook passed) = 2 * (capacity_of shape table - passed - 1) + 2
@@ -56,5 +57,6 @@ module _ (shape : Shape) (table key : ℕ) where
       else if found == 0 then At (KeyTake passed)
       else claim_key_next shape table passed
   claim_key_after (KeyTake passed) found =
-      if (found == 0) || (found == key_word key) then Over (claimed_key.At (on_path (capacity_of shape table) key passed))
+      if (found == 0) || (found == key_word key)
+      then Over (claimed_key.At (on_path (capacity_of shape table) key passed))
       else claim_key_next shape table passed

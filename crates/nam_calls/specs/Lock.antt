@@ -34,7 +34,8 @@ loss_of form nth found = if is_locked form found then Locked nth found else Newe
 
 abbrev pub give_back : List Place → List ℕ → ℕ → ℕ → Now LockPlace LockEnd
 give_back places held given found =
-    if given == length held then Over (loss_of (nth_place places (length held)).form (length held) found) else At (GiveBack held given found)
+    if given == length held then Over (loss_of (nth_place places (length held)).form (length held) found)
+    else At (GiveBack held given found)
 
 abbrev pub lock_next : List Place → List ℕ → Now LockPlace LockEnd
 lock_next places held = if length held == length places then Over (Held held) else At (Peek held)

@@ -47,8 +47,8 @@ write_words address word (suc rest) nth = do
   write (address nth) (word nth)
   write_words address word rest (nth + 1)
 
--- 4. A call does what a program says: where the program returns, the call is over, with that answer; where it has a verb,
--- that verb stands, and whatever word it finds, the call goes on as the program does
+-- 4. A call does what a program says: where the program returns, the call is over, with that answer; where it has a
+-- verb, that verb stands, and whatever word it finds, the call goes on as the program does
 
 module _ {S A : Type 0} (stands : S → Now Verb A) (after : S → ℕ → S) where
   abbrev pub IsProgram : S → Prog A → Type 0

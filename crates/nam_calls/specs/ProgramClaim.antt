@@ -43,5 +43,6 @@ pub record ClaimIsProgram : Type 0 where
       → IsTheProgram (standing (find_verb shape table key)) (taking (find_after shape table key)) (At find_begin)
       (find_program shape table key)
   pub claim : (shape : Shape) (table key : ℕ) → 0 < capacity_of shape table
-      → IsTheProgram (standing (claim_key_verb shape table key)) (taking (claim_key_after shape table key)) (At claim_key_begin)
+      → IsTheProgram (standing (claim_key_verb shape table key)) (taking (claim_key_after shape table key))
+      (At claim_key_begin)
       (claim_program shape table key)

@@ -58,5 +58,6 @@ pub record CollectIsProgram : Type 0 where
   pub snap : (workers : ℕ) → 0 < workers
       → IsTheProgram (standing snap.verb_at) (taking (snap.after_word workers)) (At snap.begin) (snap_program workers)
   pub collect : (cells : Cells) (workers : ℕ) (seen : List ℕ) → 0 < workers → 0 < cells.cells
-      → IsTheProgram (standing (collect_verb cells workers seen)) (taking (collect_after cells workers seen)) (At collect_begin)
+      → IsTheProgram (standing (collect_verb cells workers seen)) (taking (collect_after cells workers seen))
+      (At collect_begin)
       (collect_program cells workers seen)

@@ -75,7 +75,8 @@ module _ (sight : Sight) (seen : List ℕ) where
       show_old sight.workers seen sight.workers 1 >>= λ end.
       Ret (reading_end end)))
 
-  -- steps 1 to 5: the header, the words, the header, and where one of the two looks found a lock, the ring and the header
+  -- steps 1 to 5: the header, the words, the header, and where one of the two looks found a lock, the ring and the
+  -- header
   abbrev pub read_program : Prog ReadingEnd
   read_program =
       read sight.place.header_at >>= λ header.
@@ -99,4 +100,5 @@ pub record SightHasAll (sight : Sight) : Type 0 where
 -- the read does what its program says
 abbrev pub ReadIsProgram : Type 0
 ReadIsProgram = (sight : Sight) (seen : List ℕ) → SightHasAll sight
-    → IsTheProgram (standing (read_verb sight)) (taking (read_after sight seen)) (At read_begin) (read_program sight seen)
+    → IsTheProgram (standing (read_verb sight)) (taking (read_after sight seen)) (At read_begin)
+    (read_program sight seen)

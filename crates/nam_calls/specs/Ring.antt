@@ -45,8 +45,10 @@ copy_begin = CopyMark
 
 abbrev pub copy_verb : Place → ℕ → ℕ → List ℕ → Stamp → CopyPlace → Verb
 copy_verb place count header old ending CopyMark = Write (slot_at place (slot_of place count)) mark
-copy_verb place count header old ending CopyEnding = Write (slot_end_at place (slot_of place count)) (stamp_word place.form ending)
-copy_verb place count header old ending (CopyWord nth) = Write (slot_word_at place (slot_of place count) nth) (slice_index old nth)
+copy_verb place count header old ending CopyEnding =
+    Write (slot_end_at place (slot_of place count)) (stamp_word place.form ending)
+copy_verb place count header old ending (CopyWord nth) =
+    Write (slot_word_at place (slot_of place count) nth) (slice_index old nth)
 copy_verb place count header old ending CopyHead = Write (slot_at place (slot_of place count)) header
 
 abbrev pub copy_after : Place → CopyPlace → Now CopyPlace (Unit {0})

@@ -23,7 +23,8 @@ is_moved form word = (header_of form word).moved
 
 -- do the two words bear one stamp
 abbrev pub same_stamp : Form → ℕ → ℕ → Bool
-same_stamp form a b = ((stamp_in form a).thread == (stamp_in form b).thread) && ((stamp_in form a).number == (stamp_in form b).number)
+same_stamp form a b =
+    ((stamp_in form a).thread == (stamp_in form b).thread) && ((stamp_in form a).number == (stamp_in form b).number)
 
 -- does the snapshot see the word's stamp
 abbrev pub sees : Form → List ℕ → ℕ → Bool
@@ -32,7 +33,8 @@ sees form seen word = is_visible (stamp_in form word) seen
 -- is a worker's stamp within a horizon
 abbrev pub is_within : Stamp → List ℕ → Bool
 is_within stamp horizon =
-    not (stamp.thread == 0) && nat_le stamp.thread (length horizon) && nat_le stamp.number (slice_index horizon (stamp.thread - 1))
+    not (stamp.thread == 0) && nat_le stamp.thread (length horizon) && nat_le stamp.number
+    (slice_index horizon (stamp.thread - 1))
 
 -- the word locked by a worker
 abbrev pub with_lock : Form → ℕ → ℕ → ℕ
@@ -47,7 +49,8 @@ without_moved form word = word_of form (record (header_of form word) { moved = f
 
 -- the header word of a new version
 abbrev pub version_word : Form → Stamp → Bool → ℕ
-version_word form stamp deleted = word_of form record { stamp = stamp; moved = false; deleted = deleted; locked = false; holder = 0 }
+version_word form stamp deleted =
+    word_of form record { stamp = stamp; moved = false; deleted = deleted; locked = false; holder = 0 }
 
 -- the word of a stamp without flags
 abbrev pub stamp_word : Form → Stamp → ℕ

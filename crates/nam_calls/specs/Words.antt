@@ -27,7 +27,17 @@ slot_of place count = count % place.ring
 
 -- no position of a store
 abbrev pub no_place : Place
-no_place = record { row = 0; key_at = 0; header_at = 0; count_at = 0; words_at = 0; ring_at = 0; width = 0; ring = 0; form = Narrow }
+no_place = record {
+  row = 0;
+  key_at = 0;
+  header_at = 0;
+  count_at = 0;
+  words_at = 0;
+  ring_at = 0;
+  width = 0;
+  ring = 0;
+  form = Narrow;
+}
 
 -- 2. Words of a cell
 

@@ -1,9 +1,12 @@
-//! Verbs to come: fewer with each word taken, and how many there are at a read's begin; and which word each of them reaches.
+//! Verbs to come: fewer with each word taken, and how many there are at a read's begin; and which word each of them
+//! reaches.
 
-ghost use Rattle.nam_calls.specs.FallsLaw.{FindLaw, ClaimKeyLaw, CurrentLaw, WordsLaw, InstallLaw, SlotLaw, CopyLaw, RingLaw};
+ghost use Rattle.nam_calls.specs.FallsLaw.{FindLaw, ClaimKeyLaw, CurrentLaw, WordsLaw, InstallLaw, SlotLaw, CopyLaw};
+ghost use Rattle.nam_calls.specs.FallsLaw.{RingLaw};
 ghost use Rattle.nam_calls.specs.FallsLaw.{CellLaw, ClaimLaw, FillLaw, MoveLaw, CollectLaw, OldLaw, LockLaw, UnlockLaw};
 ghost use Rattle.nam_calls.specs.FallsLaw.{ReadLaw, ReadBeginsLaw};
-ghost use Rattle.nam_calls.specs.AddressFact.{RowReachesLaw, CellsReachLaw, SnapReachesLaw, OldReachesLaw, CollectReachesLaw};
+ghost use Rattle.nam_calls.specs.AddressFact.{RowReachesLaw, CellsReachLaw, SnapReachesLaw, OldReachesLaw};
+ghost use Rattle.nam_calls.specs.AddressFact.{CollectReachesLaw};
 
 /// The machines of a key and of a position: at each place that fits, each word leads to a place that fits with fewer
 /// verbs to come, or to an end that fits, as a value of the position's width.

@@ -65,30 +65,36 @@ module _ (shape : Shape) (limits : FitsLimits shape) where
 
   module _ (state : TxnState) (fits : StateFits shape state) where
     -- what holds of each row's place holds of a record's
-    at_nth : (P : Place → Type 0) (at : CommitPlace) → CommitFits shape state at → (nth : ℕ) → nth < length state.records
+    at_nth : (P : Place → Type 0) (at : CommitPlace) → CommitFits shape state at → (nth : ℕ)
+        → nth < length state.records
         → ((row : ℕ) → IsRow shape row → P (row_place shape row)) → P (place_at state nth)
     at_nth P at c nth l each =
         let p = record_is_placed shape state fits c.0 nth l in
         let row = row_of shape.tables (record_at state nth).key.table p.0 in
-        subst P (sym (place_of_nth state.records nth ∙ p.2)) (each row (row_is shape limits (record_at state nth).key.table p.1.0 p.0 p.1.1))
+        subst P (sym (place_of_nth state.records nth ∙ p.2))
+        (each row (row_is shape limits (record_at state nth).key.table p.1.0 p.0 p.1.1))
 
     -- the header of a record
     abbrev HasHeader : Place → Type 0
     HasHeader place = IsField shape (Header place.row) × (place.header_at ≡ address shape (Header place.row))
 
-    has_header : (at : CommitPlace) → CommitFits shape state at → (nth : ℕ) → nth < length state.records → HasHeader (place_at state nth)
+    has_header : (at : CommitPlace) → CommitFits shape state at → (nth : ℕ) → nth < length state.records
+        → HasHeader (place_at state nth)
     has_header at c nth l = at_nth HasHeader at c nth l (λ row is. (is, refl))
 
-    lock_reaches : (at : CommitPlace) → CommitFits shape state at → (place : LockPlace) → LockFits (length state.records) place
+    lock_reaches : (at : CommitPlace) → CommitFits shape state at → (place : LockPlace)
+        → LockFits (length state.records) place
         → Reaches shape (lock_verb state.worker (places state) place) (lock_field (places state) place)
     lock_reaches at c (Peek held) l = has_header at c (length held) l
     lock_reaches at c (Seize held header) l = has_header at c (length held) l
     lock_reaches at c (GiveBack held given found) l = has_header at c given (let m = l.0 in let n = l.1 in omega arith)
 
-    written_less : (at : CommitPlace) → CommitFits shape state at → (nth : ℕ) → nth < length state.writes → nth < length state.records
+    written_less : (at : CommitPlace) → CommitFits shape state at → (nth : ℕ) → nth < length state.writes
+        → nth < length state.records
     written_less at c nth l = let w = writes_within shape state fits c.0 in omega arith
 
-    pub commit_reaches : (at : CommitPlace) → CommitFits shape state at → Reaches shape (commit_verb state at) (commit_field state at)
+    pub commit_reaches : (at : CommitPlace) → CommitFits shape state at
+        → Reaches shape (commit_verb state at) (commit_field state at)
     commit_reaches (Locking at) c = lock_reaches (Locking at) c at c.2.0
     commit_reaches (Checking at) c =
         at_nth (λ p. Reaches shape (slot_verb p at) (slot_field p at)) (Checking at) c (length state.counts)
@@ -102,12 +108,15 @@ module _ (shape : Shape) (limits : FitsLimits shape) where
     commit_reaches (Copying nth old at) c =
         let count = slice_index state.counts nth in
         let header = slice_index state.held nth in
-        at_nth (λ p. CopyFits p at → Reaches shape (copy_verb p count header old (own_stamp state) at) (copy_field p count at))
+        at_nth (λ p. CopyFits p at → Reaches shape (copy_verb p count header old (own_stamp state) at)
+        (copy_field p count at))
         (Copying nth old at) c nth
-        (written_less (Copying nth old at) c nth c.2.2) (λ row is. copy_reaches shape limits row is count header old (own_stamp state) at) c.2.4
+        (written_less (Copying nth old at) c nth c.2.2)
+        (λ row is. copy_reaches shape limits row is count header old (own_stamp state) at) c.2.4
     commit_reaches (Installing nth at) c =
         let count = slice_index state.counts nth in
-        at_nth (λ p. InstallFits p at → Reaches shape (install_verb p (value_at state nth) count (new_header state nth) at) (install_field p at))
+        at_nth (λ p. InstallFits p at → Reaches shape
+        (install_verb p (value_at state nth) count (new_header state nth) at) (install_field p at))
         (Installing nth at) c nth
         (written_less (Installing nth at) c nth c.2.2)
         (λ row is. install_reaches shape limits row is (value_at state nth) count (new_header state nth) at) c.2.3
@@ -116,10 +125,14 @@ module _ (shape : Shape) (limits : FitsLimits shape) where
 
     -- 3. A transaction
 
-    pub txn_reaches : (place : TxnPlace) → TxnPlaceFits shape state place → Reaches shape (txn_verb shape state place) (txn_field shape state place)
-    txn_reaches (Finding op passed) p = path_reaches shape limits (key_of op).table (op_table shape limits op p.0) (key_of op).key passed p.1
-    txn_reaches (Reading op position at) p = sight_reaches shape limits (key_of op).table (op_table shape limits op p.0) position at p.1 p.2
-    txn_reaches (Claiming op at) p = claim_key_reaches shape limits (key_of op).table (op_table shape limits op p.0) (key_of op).key at p.1
+    pub txn_reaches : (place : TxnPlace) → TxnPlaceFits shape state place
+        → Reaches shape (txn_verb shape state place) (txn_field shape state place)
+    txn_reaches (Finding op passed) p =
+        path_reaches shape limits (key_of op).table (op_table shape limits op p.0) (key_of op).key passed p.1
+    txn_reaches (Reading op position at) p =
+        sight_reaches shape limits (key_of op).table (op_table shape limits op p.0) position at p.1 p.2
+    txn_reaches (Claiming op at) p =
+        claim_key_reaches shape limits (key_of op).table (op_table shape limits op p.0) (key_of op).key at p.1
     txn_reaches (Committing at) p = commit_reaches at p
 
   -- 4. A client
@@ -129,7 +142,8 @@ module _ (shape : Shape) (limits : FitsLimits shape) where
   open_reaches None at f p = absurd p
   open_reaches (Some attempt) at f p = txn_reaches attempt.state f at p
 
-  pub place_reaches : (client : ClientState) (place : CallPlace) → OpenFits shape client.txn → CallPlaceFits shape client.txn place
+  pub place_reaches : (client : ClientState) (place : CallPlace) → OpenFits shape client.txn
+      → CallPlaceFits shape client.txn place
       → Reaches shape (call_verb shape client place) (call_field shape client place)
   place_reaches client (Beginning txn nth at) f p = snap_reaches shape at p
   place_reaches client (InTxn at) f p = open_reaches client.txn at f p
@@ -142,7 +156,8 @@ module _ (shape : Shape) (limits : FitsLimits shape) where
   place_reaches client (Snapping bucket at) f p = snap_reaches shape at p.1
   place_reaches client (Collecting bucket prefix seen at) f p = collect_reaches shape bucket p.0 seen at p.2
 
-  pub call_reaches : (client : ClientState) (place : CallPlace) → ClientFits shape client → client.call ≡ Some (At place)
+  pub call_reaches : (client : ClientState) (place : CallPlace) → ClientFits shape client
+      → client.call ≡ Some (At place)
       → Reaches shape (call_verb shape client place) (call_field shape client place)
   call_reaches client place fits e = place_reaches client place fits.1 (subst (NowFits shape client.txn) e fits.2)
 
@@ -161,7 +176,8 @@ none_is : (b : Verb) → None ≡ Some b → ⊥
 none_is b e = absurd (cc)
 
 module _ (shape : Shape) (limits : FitsLimits shape) (client : ClientState) (fits : ClientFits shape client) where
-  now_within : (verb : Verb) (call : Option (Now CallPlace Answer)) → NowFits shape client.txn call → verb_of shape client call ≡ Some verb
+  now_within : (verb : Verb) (call : Option (Now CallPlace Answer)) → NowFits shape client.txn call
+      → verb_of shape client call ≡ Some verb
       → address_of verb < words_of shape
   now_within verb None f e = absurd (none_is verb e)
   now_within verb (Some (Over answer)) f e = absurd (none_is verb e)
@@ -172,5 +188,6 @@ module _ (shape : Shape) (limits : FitsLimits shape) (client : ClientState) (fit
 
   pub client_within : (verb : Verb) → client_verb shape client ≡ Some verb → address_of verb < words_of shape
   client_within verb e =
-      by_test (λ (v : Option Verb). v ≡ Some verb → address_of verb < words_of shape) client.cut None (verb_of shape client client.call)
+      by_test (λ (v : Option Verb). v ≡ Some verb → address_of verb < words_of shape) client.cut None
+      (verb_of shape client client.call)
       (λ c. λ n. absurd (none_is verb n)) (λ c. now_within verb client.call fits.2) e

@@ -45,7 +45,8 @@ of_write_skew = record {
   shape = shape Narrow 2 (table 1 4 2 ∷ []) 1 1 0;
   rows = loaded 0 0 (60 ∷ []) ∷ loaded 0 1 (60 ∷ []) ∷ [];
   policy = record { tries = 1; tidy = false };
-  txns = txn 1 (Need 0 0 1 60 ∷ Need 0 1 1 60 ∷ Add 0 0 1 false 60 ∷ []) ∷ txn 2 (Need 0 0 1 60 ∷ Need 0 1 1 60 ∷ Add 0 1 1 false 60 ∷
+  txns = txn 1 (Need 0 0 1 60 ∷ Need 0 1 1 60 ∷ Add 0 0 1 false 60 ∷ []) ∷ txn 2
+      (Need 0 0 1 60 ∷ Need 0 1 1 60 ∷ Add 0 1 1 false 60 ∷
       []) ∷ [];
   schedule = Stints (stint 1 4 ∷ stint 2 4 ∷ []);
 }

@@ -51,7 +51,8 @@ map_wrote (w ∷ ws) i = elim (cases_Bool (same_key (item_key w) (item_key i))) 
 
 -- one more operation
 keys_more : (named : Op → Option Key) (ks : List Key) (ops : List Op) (op : Op)
-    → keys_from named ks (ops ++ op ∷ []) ≡ elim (named op) [ None ↦ keys_from named ks ops | Some key ↦ guarded (keys_from named ks ops) key ]
+    → keys_from named ks (ops ++ op ∷ []) ≡ elim
+    (named op) [ None ↦ keys_from named ks ops | Some key ↦ guarded (keys_from named ks ops) key ]
 keys_more named ks [] op = refl
 keys_more named ks (o ∷ ops) op = keys_more named (elim (named o) [ None ↦ ks | Some key ↦ guarded ks key ]) ops op
 
@@ -65,11 +66,13 @@ writes_by_keys [] key = refl
 writes_by_keys (w ∷ ws) key = ap (λ (b : Bool). if same_key (item_key w) key then true else b) (writes_by_keys ws key)
 
 -- a write set writes what the operations of its keys write
-writes_as_asked : (ws : List Item) (ops : List Op) (key : Key) → map item_key ws ≡ written_keys ops → writes_key ws key ≡ ops_write key ops
+writes_as_asked : (ws : List Item) (ops : List Op) (key : Key) → map item_key ws ≡ written_keys ops
+    → writes_key ws key ≡ ops_write key ops
 writes_as_asked ws ops key e =
     let none : Rows = λ k. None in
     let other = writes_from [] none [] ops in
-    writes_by_keys ws key ∙ ap (λ ks. has_key ks key) (e ∙ sym (map-writes_from [] none [] ops)) ∙ sym (writes_by_keys other key)
+    writes_by_keys ws key ∙ ap (λ ks. has_key ks key) (e ∙ sym (map-writes_from [] none [] ops))
+    ∙ sym (writes_by_keys other key)
     ∙ writes_key-writes_from [] none [] ops key
 
 filter_same : {A : Type 0} (f g : A → Bool) → ((x : A) → f x ≡ g x) → (xs : List A) → filter f xs ≡ filter g xs
@@ -98,13 +101,16 @@ module _ (ws : List Item) (gs : List Key) (ops : List Op) (asked : KeysAsked ws 
     guarded = asked.guarded ∙ sym (rw g at (keys_more key_guarded [] ops op));
   }
 
-  wrote_one : (op : Op) (i : Item) → key_written op ≡ Some (item_key i) → key_guarded op ≡ None → KeysAsked (wrote ws i) gs (ops ++ op ∷ [])
+  wrote_one : (op : Op) (i : Item) → key_written op ≡ Some (item_key i) → key_guarded op ≡ None
+      → KeysAsked (wrote ws i) gs (ops ++ op ∷ [])
   wrote_one op i w g = record {
-    written = map_wrote ws i ∙ ap (λ ks. guarded ks (item_key i)) asked.written ∙ sym (rw w at (keys_more key_written [] ops op));
+    written = map_wrote ws i ∙ ap (λ ks. guarded ks (item_key i)) asked.written
+        ∙ sym (rw w at (keys_more key_written [] ops op));
     guarded = asked.guarded ∙ sym (rw g at (keys_more key_guarded [] ops op));
   }
 
-  guarded_one : (op : Op) (key : Key) → key_written op ≡ None → key_guarded op ≡ Some key → KeysAsked ws (guarded gs key) (ops ++ op ∷ [])
+  guarded_one : (op : Op) (key : Key) → key_written op ≡ None → key_guarded op ≡ Some key
+      → KeysAsked ws (guarded gs key) (ops ++ op ∷ [])
   guarded_one op key w g = record {
     written = asked.written ∙ sym (rw w at (keys_more key_written [] ops op));
     guarded = ap (λ ks. guarded ks key) asked.guarded ∙ sym (rw g at (keys_more key_guarded [] ops op));
@@ -115,7 +121,8 @@ module _ (ws : List Item) (gs : List Key) (ops : List Op) (asked : KeysAsked ws 
   one_more widths (Get t k) value = unchanged (Get t k) refl refl
   one_more widths (Put t k v) value = wrote_one (Put t k v) (item_at (key_at t k) (Some v)) refl refl
   one_more widths (Add t k f up by) value =
-      wrote_one (Add t k f up by) (item_at (key_at t k) (Some (with_field (slice_index widths t) value f (changed up (field_of value f) by))))
+      wrote_one (Add t k f up by)
+      (item_at (key_at t k) (Some (with_field (slice_index widths t) value f (changed up (field_of value f) by))))
       refl refl
   one_more widths (Del t k) value = wrote_one (Del t k) (item_at (key_at t k) None) refl refl
   one_more widths (Need t k f least) value = unchanged (Need t k f least) refl refl
@@ -185,19 +192,24 @@ module _ (shape : Shape) where
         let none = record state { read = None } in
         let finding = at none (Finding op find_begin) in
         let claiming = at none (Claiming op claim_key_begin) in
-        either (Asks ops op) (writes_key state.writes (key_of op)) (with_own shape state' op own) (if reads op then finding else claiming)
-        (either (Asks ops op) (not (passes op (holding own))) (answered state' Declined) (answered (with_op shape state' op own) (answer_of op own))
-        asked (passed (with_op shape state' op own) ops op own (one_more state.writes state.guards ops asked (widths_of shape.tables) op own)))
+        either (Asks ops op) (writes_key state.writes (key_of op)) (with_own shape state' op own)
+        (if reads op then finding else claiming)
+        (either (Asks ops op) (not (passes op (holding own))) (answered state' Declined)
+        (answered (with_op shape state' op own) (answer_of op own))
+        asked (passed (with_op shape state' op own) ops op own
+        (one_more state.writes state.guards ops asked (widths_of shape.tables) op own)))
         (either (Asks ops op) (reads op) finding claiming asked asked)
 
-  pub take_asks : (state : TxnState) (ops : List Op) (op : Op) (place : TxnPlace) (found : ℕ) → HasAsked state ops → IsOfOp op place
+  pub take_asks : (state : TxnState) (ops : List Op) (op : Op) (place : TxnPlace) (found : ℕ) → HasAsked state ops
+      → IsOfOp op place
       → Asks ops op (txn_after shape state place found)
   take_asks state ops op (Finding o passed) found asked e =
       subst (λ p. Asks ops p (txn_after shape state (Finding o passed) found)) e
       (on_find_asks state ops o asked (find_after shape (key_of o).table (key_of o).key passed found))
   take_asks state ops op (Reading o position at) found asked e =
       subst (λ p. Asks ops p (txn_after shape state (Reading o position at) found)) e
-      (on_read_asks state ops o asked position (read_after (sight_of shape (key_of o).table position) state.seen at found))
+      (on_read_asks state ops o asked position
+      (read_after (sight_of shape (key_of o).table position) state.seen at found))
   take_asks state ops op (Claiming o at) found asked e =
       subst (λ p. Asks ops p (txn_after shape state (Claiming o at) found)) e
       (on_claim_asks state ops o asked (claim_key_after shape (key_of o).table (key_of o).key at found))

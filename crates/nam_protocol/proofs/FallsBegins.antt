@@ -47,7 +47,8 @@ module _ (shape : Shape) (limits : FitsLimits shape) where
       → (record_in cs key).place.width ≡ width_of shape key.table
   record_width cs key placed e =
       let p = record_placed shape cs key placed e in
-      ap (λ (p : Place). p.width) p.2 ∙ width_is shape limits (record_in cs key).key.table p.0 p.1.0 p.1.1 ∙ ap (λ (k : Key). width_of shape k.table)
+      ap (λ (p : Place). p.width) p.2 ∙ width_is shape limits (record_in cs key).key.table p.0 p.1.0 p.1.1
+      ∙ ap (λ (k : Key). width_of shape k.table)
       (record_key cs key e)
 
   abbrev places_in : List Record → List Key → List Place
@@ -56,7 +57,8 @@ module _ (shape : Shape) (limits : FitsLimits shape) where
   -- copies, installs, locks and checks of the written records
   writes_take : (cs : List Record) (ws : List Item) (rest : List Key) → AllByRecursion (IsPlaced shape) cs
       → AllByRecursion (λ item. is_claimed cs (item_key item) ≡ true) ws
-      → installs_most (take (length ws) (places_in cs (map item_key ws ++ rest))) + 4 * length ws ≡ writes_bound shape (map item_key ws)
+      → installs_most (take (length ws) (places_in cs (map item_key ws ++ rest)))
+      + 4 * length ws ≡ writes_bound shape (map item_key ws)
   writes_take cs [] rest placed all = refl
   writes_take cs (w ∷ ws) rest placed all =
       let r = writes_take cs ws rest placed all.1 in
@@ -64,23 +66,28 @@ module _ (shape : Shape) (limits : FitsLimits shape) where
       omega arith
 
   commit_figure : (state : TxnState) → StateFits shape state
-      → commit_left (record state { read = None; records = records_of state; held = []; counts = [] }) (Locking lock_begin) ≤ commit_bound shape state
+      → commit_left (record state { read = None; records = records_of state; held = []; counts = [] })
+      (Locking lock_begin) ≤ commit_bound shape state
   commit_figure state fits =
       let w = writes_take state.claims state.writes (unwritten state.writes state.guards) fits.placed fits.written in
       let r = records_length shape state fits in
-      let p : length (map (λ (r : Record). r.place) (records_of state)) ≡ length (records_of state) = length-map (records_of state)
+      let p : length (map (λ (r : Record). r.place) (records_of state)) ≡ length (records_of state) =
+      length-map (records_of state)
       (λ (r : Record). r.place) in
       omega arith
 
-  commit_begins : (state : TxnState) → StateFits shape state → TxnBegins shape (commit_bound shape state) (ask_commit shape state)
+  commit_begins : (state : TxnState) → StateFits shape state
+      → TxnBegins shape (commit_bound shape state) (ask_commit shape state)
   commit_begins state fits =
       let n = commit_bound shape state in
       let state' = record state { read = None; records = records_of state; held = []; counts = [] } in
       let none = record state { read = None } in
       by_test (TxnBegins shape n) (length state.writes == 0) (answered none ReadOnly)
-      (if state.last == greatest_number shape.form then answered none Spent else at state' (Committing (Locking lock_begin)))
+      (if state.last == greatest_number shape.form then answered none Spent
+      else at state' (Committing (Locking lock_begin)))
       (λ e. (fits, tt))
-      (λ e. by_test (TxnBegins shape n) (state.last == greatest_number shape.form) (answered none Spent) (at state' (Committing (Locking lock_begin)))
+      (λ e. by_test (TxnBegins shape n) (state.last == greatest_number shape.form) (answered none Spent)
+      (at state' (Committing (Locking lock_begin)))
       (λ f. (fits, tt))
       (λ f. let some : 1 ≤ length state.writes = grind (arith, nat_tests) in
       let r = records_length shape state fits in

@@ -76,7 +76,8 @@ module _ (workers : ℕ) (least : 1 ≤ workers) where
   abbrev SnapFalls : ℕ → Now SnapPlace SnapEnd → Type 0
   SnapFalls = Falls (snap.SnapFits workers) SnapEnds (snap.left_at workers)
 
-  snap_falls : (at : SnapPlace) (found : ℕ) → snap.SnapFits workers at → SnapFalls (snap.left_at workers at) (snap.after_word workers at found)
+  snap_falls : (at : SnapPlace) (found : ℕ) → snap.SnapFits workers at
+      → SnapFalls (snap.left_at workers at) (snap.after_word workers at found)
   snap_falls (First got) found l =
       let long : length (got ++ found ∷ []) ≡ length got + 1 = length-append got (found ∷ []) in
       or_last (SnapFalls (snap.left_at workers (First got))) workers (length got) (At (Second (got ++ found ∷ []) 0))
@@ -103,8 +104,10 @@ module _ (shape : Shape) (limits : FitsLimits shape) where
 
   -- 3. Calls of a transaction
 
-  on_answer_fits : (client : ClientState) (attempt : Open) (answer : TxnAnswer) → IsOf shape.workers client.worker → StateFits shape attempt.state
-      → IsOf shape.workers (on_answer client attempt answer).worker × OpenFits shape (on_answer client attempt answer).txn
+  on_answer_fits : (client : ClientState) (attempt : Open) (answer : TxnAnswer) → IsOf shape.workers client.worker
+      → StateFits shape attempt.state
+      → IsOf shape.workers (on_answer client attempt answer).worker
+      × OpenFits shape (on_answer client attempt answer).txn
   on_answer_fits client attempt (txn_answer.Value value) w f = (w, f)
   on_answer_fits client attempt txn_answer.Written w f = (w, f)
   on_answer_fits client attempt (txn_answer.Added n) w f = (w, f)
@@ -120,25 +123,31 @@ module _ (shape : Shape) (limits : FitsLimits shape) where
   on_answer_fits client attempt (txn_answer.Full lock) w f = (w, tt)
   on_answer_fits client attempt txn_answer.Astray w f = (w, tt)
 
-  on_call_falls : (client : ClientState) (attempt : Open) (n : ℕ) (now : Now TxnPlace TxnAnswer) → IsOf shape.workers client.worker
+  on_call_falls : (client : ClientState) (attempt : Open) (n : ℕ) (now : Now TxnPlace TxnAnswer)
+      → IsOf shape.workers client.worker
       → StateFits shape attempt.state
-      → Falls (TxnPlaceFits shape attempt.state) Any (txn_left shape attempt.state) n now → ClientFalls n (on_call client attempt now)
+      → Falls (TxnPlaceFits shape attempt.state) Any (txn_left shape attempt.state) n now
+      → ClientFalls n (on_call client attempt now)
   on_call_falls client attempt n (At place) w f h = (w, f, h)
-  on_call_falls client attempt n (Over answer) w f h = let a = on_answer_fits client attempt answer w f in (a.0, a.1, (tt, h.1))
+  on_call_falls client attempt n (Over answer) w f h =
+      let a = on_answer_fits client attempt answer w f in (a.0, a.1, (tt, h.1))
 
-  stepped_falls : (client : ClientState) (attempt : Open) (before n : ℕ) (step : Stepped) → IsOf shape.workers client.worker → TxnFalls shape n step
+  stepped_falls : (client : ClientState) (attempt : Open) (before n : ℕ) (step : Stepped)
+      → IsOf shape.workers client.worker → TxnFalls shape n step
       → ClientFalls n (stepped client attempt before step)
   stepped_falls client attempt before n step w h =
       let locks = new_locks step.state before (taken_now step.state step.call) in
       on_call_falls (record client { log = with_locks client.log locks })
       (record attempt { locks = attempt.locks + length locks; state = step.state }) n step.call w h.0 h.1
 
-  begins_falls : (state : TxnState) (n : ℕ) (now : Now TxnPlace TxnAnswer) → Begins (TxnPlaceFits shape state) Any (txn_left shape state) n now
+  begins_falls : (state : TxnState) (n : ℕ) (now : Now TxnPlace TxnAnswer)
+      → Begins (TxnPlaceFits shape state) Any (txn_left shape state) n now
       → Falls (TxnPlaceFits shape state) Any (txn_left shape state) (n + 1) now
   begins_falls state n (At place) h = (h.0, let m = h.1 in omega arith)
   begins_falls state n (Over answer) h = (h, omega arith)
 
-  take_txn_falls : (client : ClientState) (at : TxnPlace) (opened : Option Open) (found : ℕ) → IsOf shape.workers client.worker
+  take_txn_falls : (client : ClientState) (at : TxnPlace) (opened : Option Open) (found : ℕ)
+      → IsOf shape.workers client.worker
       → OpenFits shape opened → OpenPlaceFits shape opened at
       → ClientFalls (open_left shape opened at) (take_txn shape client at opened found)
   take_txn_falls client at None found w f p = absurd p
@@ -148,7 +157,8 @@ module _ (shape : Shape) (limits : FitsLimits shape) where
 
   -- 4. A scan
 
-  gathered_keeps : (P : ℕ → Option Open → Type 0) (client : ClientState) (position key : ℕ) (value : Option (List ℕ)) → P client.worker client.txn
+  gathered_keeps : (P : ℕ → Option Open → Type 0) (client : ClientState) (position key : ℕ) (value : Option (List ℕ))
+      → P client.worker client.txn
       → P (gathered client position key value).worker (gathered client position key value).txn
   gathered_keeps P client position key None p = p
   gathered_keeps P client position key (Some value) p = p
@@ -156,8 +166,10 @@ module _ (shape : Shape) (limits : FitsLimits shape) where
   abbrev Runs : ℕ → Option Open → Type 0
   Runs worker opened = IsOf shape.workers worker × OpenFits shape opened × IsSome opened
 
-  module _ (attempt : Open) (fits : StateFits shape attempt.state) (table low high : ℕ) (is : IsTableOf shape table) where
-    on_skip_falls : (client : ClientState) (position n : ℕ) (now : Now ScanPlace ScanAnswer) → Runs client.worker client.txn
+  module _ (attempt : Open) (fits : StateFits shape attempt.state) (table low high : ℕ)
+      (is : IsTableOf shape table) where
+    on_skip_falls : (client : ClientState) (position n : ℕ) (now : Now ScanPlace ScanAnswer)
+        → Runs client.worker client.txn
         → ScanFalls shape limits table is position n now → ClientFalls n (on_skip client attempt table low high now)
     on_skip_falls client position n (At place) r h = (r.0, r.1, ((r.2, is, h.0), h.1))
     on_skip_falls client position n (Over end) r h = (r.0, fits, (tt, omega arith))
@@ -165,23 +177,30 @@ module _ (shape : Shape) (limits : FitsLimits shape) where
     skipped : (client : ClientState) (position key n : ℕ) (value : Option (List ℕ)) → Runs client.worker client.txn
         → position < capacity_of shape table
         → positions_left shape table (capacity_of shape table - position - 1) < n
-        → ClientFalls n (on_skip (gathered client position key value) attempt table low high (scan_skip shape table position))
+        → ClientFalls n
+        (on_skip (gathered client position key value) attempt table low high (scan_skip shape table position))
     skipped client position key n value r l m =
-        on_skip_falls (gathered client position key value) position n _ (gathered_keeps Runs client position key value r)
+        on_skip_falls (gathered client position key value) position n _
+        (gathered_keeps Runs client position key value r)
         (scan_skip_falls shape limits table is position n l m)
 
-    on_scan_falls : (client : ClientState) (position n : ℕ) (now : Now ScanPlace ScanAnswer) → Runs client.worker client.txn
+    on_scan_falls : (client : ClientState) (position n : ℕ) (now : Now ScanPlace ScanAnswer)
+        → Runs client.worker client.txn
         → position < capacity_of shape table
-        → ScanFalls shape limits table is position n now → ClientFalls n (on_scan shape client attempt table low high position now)
+        → ScanFalls shape limits table is position n now
+        → ClientFalls n (on_scan shape client attempt table low high position now)
     on_scan_falls client position n (At place) r l h = (r.0, r.1, ((r.2, is, h.0), h.1))
     on_scan_falls client position n (Over (scan_answer.Key key)) r l h =
         let own = key_at table key in
         either (ClientFalls n) (writes_key attempt.state.writes own)
-        (on_skip (gathered client position key (own_value attempt.state.writes own)) attempt table low high (scan_skip shape table position))
+        (on_skip (gathered client position key (own_value attempt.state.writes own)) attempt table low high
+        (scan_skip shape table position))
         (on_skip client attempt table low high (scan_read position key))
         (skipped client position key n (own_value attempt.state.writes own) r l (let m = h.1 in omega arith))
-        (on_skip_falls client position n (scan_read position key) r (scan_read_falls shape limits table is position key n l h.1))
-    on_scan_falls client position n (Over (scan_answer.Row item)) r l h = skipped client position item.key n item.value r l h.1
+        (on_skip_falls client position n (scan_read position key) r
+        (scan_read_falls shape limits table is position key n l h.1))
+    on_scan_falls client position n (Over (scan_answer.Row item)) r l h =
+        skipped client position item.key n item.value r l h.1
     on_scan_falls client position n (Over scan_answer.Done) r l h = (r.0, fits, (tt, h.1))
     on_scan_falls client position n (Over (scan_answer.TooOld worker entry horizon)) r l h = (r.0, tt, (tt, h.1))
     on_scan_falls client position n (Over scan_answer.Astray) r l h = (r.0, tt, (tt, h.1))
@@ -190,7 +209,8 @@ module _ (shape : Shape) (limits : FitsLimits shape) where
   scan_within table (ScanKey position) l = l
   scan_within table (ScanRead position key at) l = l.0
 
-  take_scan_falls : (client : ClientState) (table low high : ℕ) (at : ScanPlace) (opened : Option Open) (found : ℕ) → Runs client.worker client.txn
+  take_scan_falls : (client : ClientState) (table low high : ℕ) (at : ScanPlace) (opened : Option Open) (found : ℕ)
+      → Runs client.worker client.txn
       → Runs client.worker opened
       → IsTableOf shape table → ScanFits shape table at
       → ClientFalls (scan_left shape table at) (take_scan shape client table low high at opened found)
@@ -216,23 +236,28 @@ module _ (shape : Shape) (limits : FitsLimits shape) where
         let e = width_is shape limits table position is h.0 in (w, f, ((is, h.0, tt), let m = h.1 in omega arith))
     on_seek_falls table key n (Over found_key.Absent) is h = (w, f, (tt, omega arith))
 
-    on_snap_falls : (bucket n : ℕ) (now : Now SnapPlace SnapEnd) → bucket < shape.buckets → SnapFalls shape.workers limits.least_workers n now
+    on_snap_falls : (bucket n : ℕ) (now : Now SnapPlace SnapEnd) → bucket < shape.buckets
+        → SnapFalls shape.workers limits.least_workers n now
         → ClientFalls (n + collect_most shape) (on_snap shape client bucket now)
     on_snap_falls bucket n (At place) l h = (w, f, ((l, h.0), let m = h.1 in omega arith))
-    on_snap_falls bucket n (Over (snap_end.Done seen)) l h = let e = limits.least_workers in (w, f, ((l, h.0, e), let m = h.1 in omega arith))
+    on_snap_falls bucket n (Over (snap_end.Done seen)) l h =
+        let e = limits.least_workers in (w, f, ((l, h.0, e), let m = h.1 in omega arith))
     on_snap_falls bucket n (Over (snap_end.Again worker first second)) l h = (w, f, (tt, omega arith))
 
-    move_goes : (table key position n : ℕ) (now : Now MovePlace MoveAnswer) → IsTableOf shape table → position < capacity_of shape table
+    move_goes : (table key position n : ℕ) (now : Now MovePlace MoveAnswer) → IsTableOf shape table
+        → position < capacity_of shape table
         → Falls (MoveFits (place_of shape table position) (cells_by shape (place_of shape table position))) Any
         (move_left (place_of shape table position) (cells_by shape (place_of shape table position))) n now
-        → ClientFalls n (on_move shape client table key position (bucket_of shape (place_of shape table position).row) now)
+        → ClientFalls n
+        (on_move shape client table key position (bucket_of shape (place_of shape table position).row) now)
     move_goes table key position n (At at) is l h = (w, f, ((is, l, h.0), h.1))
     move_goes table key position n (Over (move_end.Moved stamp)) is l h = (w, f, (tt, h.1))
     move_goes table key position n (Over (move_end.Back stamp)) is l h = (w, f, (tt, h.1))
     move_goes table key position n (Over move_end.Nothing) is l h = (w, f, (tt, h.1))
     move_goes table key position n (Over (move_end.NoRoom bucket)) is l h = (w, f, (tt, h.1))
 
-    collect_goes : (bucket prefix : ℕ) (seen : List ℕ) (n : ℕ) (now : Now CollectPlace (List ℕ)) → bucket < shape.buckets
+    collect_goes : (bucket prefix : ℕ) (seen : List ℕ) (n : ℕ) (now : Now CollectPlace (List ℕ))
+        → bucket < shape.buckets
         → length seen ≡ shape.workers
         → Falls (CollectFits (cells_of shape bucket) shape.workers) (CollectEnds shape.workers)
         (collect_left (cells_of shape bucket) shape.workers) n now
@@ -240,7 +265,8 @@ module _ (shape : Shape) (limits : FitsLimits shape) where
     collect_goes bucket prefix seen n (At at) l e h = (w, f, ((l, e, h.0), h.1))
     collect_goes bucket prefix seen n (Over known) l e h = (w, f, (tt, h.1))
 
-  pub call_falls : (client : ClientState) (place : CallPlace) (found : ℕ) → IsOf shape.workers client.worker → OpenFits shape client.txn
+  pub call_falls : (client : ClientState) (place : CallPlace) (found : ℕ) → IsOf shape.workers client.worker
+      → OpenFits shape client.txn
       → CallPlaceFits shape client.txn place
       → ClientFalls (call_left shape client place) (call_after shape client place found)
   call_falls client (Beginning txn nth at) found w f p =
@@ -248,15 +274,19 @@ module _ (shape : Shape) (limits : FitsLimits shape) where
   call_falls client (InTxn at) found w f p = take_txn_falls client at client.txn found w f p
   call_falls client (Scanning table low high at) found w f p =
       take_scan_falls client table low high at client.txn found (w, f, p.0) (w, f, p.0) p.1 p.2
-  call_falls client (Seeking table key passed) found w f p = on_seek_falls client w f table key _ _ p.0 (find_falls shape table key passed found p.1)
+  call_falls client (Seeking table key passed) found w f p =
+      on_seek_falls client w f table key _ _ p.0 (find_falls shape table key passed found p.1)
   call_falls client (Moving table key position at) found w f p = move_goes client w f table key position _ _ p.0 p.1
-      (move_falls (place_of shape table position) (cells_by shape (place_of shape table position)) (place_fits shape limits table position p.0 p.1)
+      (move_falls (place_of shape table position) (cells_by shape (place_of shape table position))
+      (place_fits shape limits table position p.0 p.1)
       (cells_within_limits shape (bucket_of shape (place_of shape table position).row) limits
       (bucket_within shape limits table position p.0 p.1)) at found p.2)
   call_falls client (Snapping bucket at) found w f p =
       on_snap_falls client w f bucket _ _ p.0 (snap_falls shape.workers limits.least_workers at found p.1)
-  call_falls client (Collecting bucket prefix seen at) found w f p = collect_goes client w f bucket prefix seen _ _ p.0 p.1
-      (collect_falls (cells_of shape bucket) shape.workers (cells_within_limits shape bucket limits p.0) seen at found p.2)
+  call_falls client (Collecting bucket prefix seen at) found w f p =
+      collect_goes client w f bucket prefix seen _ _ p.0 p.1
+      (collect_falls (cells_of shape bucket) shape.workers
+      (cells_within_limits shape bucket limits p.0) seen at found p.2)
 
   -- 6. A word is taken
 
@@ -274,9 +304,11 @@ module _ (shape : Shape) (limits : FitsLimits shape) where
   left_within : (client : ClientState) (n : ℕ) → left_of shape client client.call ≤ n → client_left shape client ≤ n
   left_within client n l = unless_cut client.cut (left_of shape client client.call) n l
 
-  pub client_falls : (client : ClientState) (place : CallPlace) (found : ℕ) → ClientFits shape client → client.cut ≡ false
+  pub client_falls : (client : ClientState) (place : CallPlace) (found : ℕ) → ClientFits shape client
+      → client.cut ≡ false
       → client.call ≡ Some (At place)
-      → ClientFits shape (client_after shape client found) × (client_left shape (client_after shape client found) < client_left shape client)
+      → ClientFits shape (client_after shape client found)
+      × (client_left shape (client_after shape client found) < client_left shape client)
   client_falls client place found fits runs e =
       let is : CallPlaceFits shape client.txn place = subst (NowFits shape client.txn) e fits.2 in
       let goes_on : client_left shape client ≡ left_of shape client client.call =
@@ -287,47 +319,59 @@ module _ (shape : Shape) (limits : FitsLimits shape) where
       let t = taken after (call_left shape client place) after.call h.2 in
       let within = left_within after (left_of shape after after.call) (omega arith) in
       let less : client_left shape after < call_left shape client place = let m = t.1 in omega arith in
-      let goes : client_after shape client found ≡ after = ap (λ (call : Option (Now CallPlace Answer)). after_call shape client call found) e in
-      subst (λ (c : ClientState). ClientFits shape c × (client_left shape c < client_left shape client)) (sym goes) ((h.0, h.1, t.0), rw same less)
+      let goes : client_after shape client found ≡ after =
+      ap (λ (call : Option (Now CallPlace Answer)). after_call shape client call found) e in
+      subst (λ (c : ClientState). ClientFits shape c × (client_left shape c < client_left shape client)) (sym goes)
+      ((h.0, h.1, t.0), rw same less)
 
   -- 7. A call is asked
 
   abbrev ClientBegins : ℕ → ClientState → Type 0
   ClientBegins n client =
-      IsOf shape.workers client.worker × OpenFits shape client.txn × NowFits shape client.txn client.call × (client_left shape client ≤ n)
+      IsOf shape.workers client.worker × OpenFits shape client.txn × NowFits shape client.txn client.call
+      × (client_left shape client ≤ n)
 
   begun : (client : ClientState) (n : ℕ) → ClientFalls (n + 1) client → ClientBegins n client
   begun client n h =
       let t = taken client (n + 1) client.call h.2 in
       (h.0, h.1, t.0, left_within client n (let m = t.1 in omega arith))
 
-  ask_falls : (client : ClientState) (call : TxnCall) (attempt : Open) → IsOf shape.workers client.worker → StateFits shape attempt.state
+  ask_falls : (client : ClientState) (call : TxnCall) (attempt : Open) → IsOf shape.workers client.worker
+      → StateFits shape attempt.state
       → TxnCallFits shape call
-      → ClientBegins (txn_call_bound shape attempt.state call) (stepped client attempt 0 (txn_ask shape attempt.state call))
+      → ClientBegins (txn_call_bound shape attempt.state call)
+      (stepped client attempt 0 (txn_ask shape attempt.state call))
   ask_falls client call attempt w f c =
       let step = txn_ask shape attempt.state call in
       let n = txn_call_bound shape attempt.state call in
       let b = txn_begins shape limits attempt.state call f c in
-      begun (stepped client attempt 0 step) n (stepped_falls client attempt 0 (n + 1) step w (b.0, begins_falls step.state n step.call b.1))
+      begun (stepped client attempt 0 step) n
+      (stepped_falls client attempt 0 (n + 1) step w (b.0, begins_falls step.state n step.call b.1))
 
-  counted_falls : (client : ClientState) (call : TxnCall) (attempt : Open) → IsOf shape.workers client.worker → StateFits shape attempt.state
+  counted_falls : (client : ClientState) (call : TxnCall) (attempt : Open) → IsOf shape.workers client.worker
+      → StateFits shape attempt.state
       → TxnCallFits shape call
-      → ClientBegins (txn_call_bound shape attempt.state call) (stepped client (counted attempt call) 0 (txn_ask shape attempt.state call))
+      → ClientBegins (txn_call_bound shape attempt.state call)
+      (stepped client (counted attempt call) 0 (txn_ask shape attempt.state call))
   counted_falls client (Get t k) attempt w f c = ask_falls client (Get t k) (counted attempt (Get t k)) w f c
   counted_falls client (Put t k v) attempt w f c = ask_falls client (Put t k v) (counted attempt (Put t k v)) w f c
-  counted_falls client (Add t k i up by) attempt w f c = ask_falls client (Add t k i up by) (counted attempt (Add t k i up by)) w f c
+  counted_falls client (Add t k i up by) attempt w f c =
+      ask_falls client (Add t k i up by) (counted attempt (Add t k i up by)) w f c
   counted_falls client (Del t k) attempt w f c = ask_falls client (Del t k) (counted attempt (Del t k)) w f c
-  counted_falls client (Need t k i least) attempt w f c = ask_falls client (Need t k i least) (counted attempt (Need t k i least)) w f c
+  counted_falls client (Need t k i least) attempt w f c =
+      ask_falls client (Need t k i least) (counted attempt (Need t k i least)) w f c
   counted_falls client (Guard t k) attempt w f c = ask_falls client (Guard t k) (counted attempt (Guard t k)) w f c
   counted_falls client Commit attempt w f c = ask_falls client Commit attempt w f c
 
-  ask_txn_falls : (client : ClientState) (call : TxnCall) (opened : Option Open) → IsSome opened → IsOf shape.workers client.worker
+  ask_txn_falls : (client : ClientState) (call : TxnCall) (opened : Option Open) → IsSome opened
+      → IsOf shape.workers client.worker
       → OpenFits shape opened → TxnCallFits shape call
       → ClientBegins (open_bound shape opened call) (ask_txn shape client call opened)
   ask_txn_falls client call None some w f c = absurd (cc)
   ask_txn_falls client call (Some attempt) some w f c = counted_falls client call attempt w f c
 
-  ask_scan_falls : (client : ClientState) (table low high : ℕ) (opened : Option Open) → IsSome opened → IsOf shape.workers client.worker
+  ask_scan_falls : (client : ClientState) (table low high : ℕ) (opened : Option Open) → IsSome opened
+      → IsOf shape.workers client.worker
       → OpenFits shape opened → IsTableOf shape table
       → ClientBegins (scan_bound shape table) (ask_scan shape client table low high opened)
   ask_scan_falls client table low high None some w f is = absurd (cc)
@@ -336,11 +380,15 @@ module _ (shape : Shape) (limits : FitsLimits shape) where
 
   -- the call needs an open transaction, and one is open
   pub client_begins : (client : ClientState) (call : Call) → ClientFits shape client → CallFits shape client.txn call
-      → ClientFits shape (client_ask shape client call) × (client_left shape (client_ask shape client call) ≤ call_bound shape client call)
-  client_begins client (Begin txn nth) fits c = let l = limits.least_workers in ((fits.0, fits.1, l), unless_cut client.cut _ _ (omega arith))
-  client_begins client (Txn call) fits c = let b = ask_txn_falls client call client.txn c.0 fits.0 fits.1 c.1 in ((b.0, b.1, b.2), b.3)
+      → ClientFits shape (client_ask shape client call)
+      × (client_left shape (client_ask shape client call) ≤ call_bound shape client call)
+  client_begins client (Begin txn nth) fits c =
+      let l = limits.least_workers in ((fits.0, fits.1, l), unless_cut client.cut _ _ (omega arith))
+  client_begins client (Txn call) fits c =
+      let b = ask_txn_falls client call client.txn c.0 fits.0 fits.1 c.1 in ((b.0, b.1, b.2), b.3)
   client_begins client (Scan table low high) fits c =
       let b = ask_scan_falls client table low high client.txn c.0 fits.0 fits.1 c.1 in ((b.0, b.1, b.2), b.3)
   client_begins client (Tidy table key) fits c =
       let l = has_capacity shape limits table c in ((fits.0, fits.1, (c, l)), unless_cut client.cut _ _ (omega arith))
-  client_begins client (Collect bucket) fits c = let l = limits.least_workers in ((fits.0, fits.1, (c, l)), unless_cut client.cut _ _ (omega arith))
+  client_begins client (Collect bucket) fits c =
+      let l = limits.least_workers in ((fits.0, fits.1, (c, l)), unless_cut client.cut _ _ (omega arith))

@@ -61,15 +61,18 @@ installs_least (x ∷ xs) = let r = installs_least xs in omega arith
 
 -- 2. A commit goes on, or is answered
 
-goes : (shape : Shape) (state : TxnState) (n : ℕ) (place : CommitPlace) → StateFits shape state → state.records ≡ records_of state
+goes : (shape : Shape) (state : TxnState) (n : ℕ) (place : CommitPlace) → StateFits shape state
+    → state.records ≡ records_of state
     → 1 ≤ length state.writes
     → CommitPlaceFits shape state place → commit_left state place < n → TxnFalls shape n (go state place)
 goes shape state n place fits are some at l = (fits, ((are, some, at), l))
 
-ends : (shape : Shape) (state : TxnState) (n : ℕ) (answer : TxnAnswer) → StateFits shape state → 0 < n → TxnFalls shape n (answered state answer)
+ends : (shape : Shape) (state : TxnState) (n : ℕ) (answer : TxnAnswer) → StateFits shape state → 0 < n
+    → TxnFalls shape n (answered state answer)
 ends shape state n answer fits l = (fits, (tt, l))
 
-module _ (shape : Shape) (limits : FitsLimits shape) (state : TxnState) (fits : StateFits shape state) (are : state.records ≡ records_of state)
+module _ (shape : Shape) (limits : FitsLimits shape) (state : TxnState) (fits : StateFits shape state)
+    (are : state.records ≡ records_of state)
     (some : 1 ≤ length state.writes) where
   abbrev writes : ℕ
   writes = length state.writes
@@ -87,7 +90,8 @@ module _ (shape : Shape) (limits : FitsLimits shape) (state : TxnState) (fits : 
   taken_length = let w = within in let e = as_many in let t = length-take writes (places state) in omega arith
 
   -- the nth written record is copied and installed before the others
-  rest_is : (nth : ℕ) → nth < writes → rest_from state nth ≡ 3 * (place_at state nth).width + 5 + rest_from state (nth + 1)
+  rest_is : (nth : ℕ) → nth < writes
+      → rest_from state nth ≡ 3 * (place_at state nth).width + 5 + rest_from state (nth + 1)
   rest_is nth l =
       let t = taken_length in
       let one = one_install (take writes (places state)) nth (omega arith) in
@@ -111,66 +115,87 @@ module _ (shape : Shape) (limits : FitsLimits shape) (state : TxnState) (fits : 
   enough : length (places state) ≤ after_locks
   enough = let w = within in let e = as_many in let l = rest_least in omega arith
 
-  on_lock_falls : (n : ℕ) (now : Now LockPlace LockEnd) → length state.counts ≡ 0 → LockFalls (places state) after_locks enough n now
+  on_lock_falls : (n : ℕ) (now : Now LockPlace LockEnd) → length state.counts ≡ 0
+      → LockFalls (places state) after_locks enough n now
       → TxnFalls shape n (on_lock state now)
-  on_lock_falls n (At place) none h = goes shape state n (Locking place) fits are some (subst (λ m. LockFits m place) as_many h.0, none) h.1
+  on_lock_falls n (At place) none h =
+      goes shape state n (Locking place) fits are some (subst (λ m. LockFits m place) as_many h.0, none) h.1
   on_lock_falls n (Over (lock_end.Held headers)) none h =
-      goes shape (record state { held = headers }) n (Checking slot_begin) fits are some (h.0 ∙ as_many, omega arith) (let m = h.1 in omega arith)
-  on_lock_falls n (Over (lock_end.Locked nth found)) none h = ends shape state n (Locked (lock_at state nth found)) fits h.1
-  on_lock_falls n (Over (lock_end.Newer nth found)) none h = ends shape state n (Newer (lock_at state nth found)) fits h.1
+      goes shape (record state { held = headers }) n (Checking slot_begin) fits are some (h.0 ∙ as_many, omega arith)
+      (let m = h.1 in omega arith)
+  on_lock_falls n (Over (lock_end.Locked nth found)) none h =
+      ends shape state n (Locked (lock_at state nth found)) fits h.1
+  on_lock_falls n (Over (lock_end.Newer nth found)) none h =
+      ends shape state n (Newer (lock_at state nth found)) fits h.1
 
   -- the words of a written record are to be read
-  saving : (nth n : ℕ) → length state.held ≡ records → length state.counts ≡ writes → nth < writes → rest_from state nth < n
+  saving : (nth n : ℕ) → length state.held ≡ records → length state.counts ≡ writes → nth < writes
+      → rest_from state nth < n
       → TxnFalls shape n (go state (Saving nth words_begin))
   saving nth n held counts l m =
       let w = (nth_is nth l).least_width in
       let r = rest_is nth l in
       goes shape state n (Saving nth words_begin) fits are some (held, counts, l, omega arith) (omega arith)
 
-  on_words_falls : (nth n : ℕ) (now : Now (List ℕ) (List ℕ)) → length state.held ≡ records → length state.counts ≡ writes → (l : nth < writes)
+  on_words_falls : (nth n : ℕ) (now : Now (List ℕ) (List ℕ)) → length state.held ≡ records
+      → length state.counts ≡ writes → (l : nth < writes)
       → WordsFall (place_at state nth) (nth_is nth l) n now
       → TxnFalls shape (n + (2 * (place_at state nth).width + 5) + rest_from state (nth + 1)) (on_words state nth now)
   on_words_falls nth n (At got) held counts l h =
       goes shape state _ (Saving nth got) fits are some (held, counts, l, h.0) (let m = h.1 in omega arith)
   on_words_falls nth n (Over old) held counts l h =
-      goes shape state _ (Copying nth old copy_begin) fits are some (held, counts, l, h.0, tt) (let m = h.1 in omega arith)
+      goes shape state _ (Copying nth old copy_begin) fits are some (held, counts, l, h.0, tt)
+      (let m = h.1 in omega arith)
 
-  install_begins : (nth n : ℕ) (value : Option (List ℕ)) → length state.held ≡ records → length state.counts ≡ writes → nth < writes
-      → (place_at state nth).width + 2 + rest_from state (nth + 1) < n → TxnFalls shape n (go state (Installing nth (install_begin value)))
-  install_begins nth n None held counts l m = goes shape state n (Installing nth InstallCount) fits are some (held, counts, l, tt) (omega arith)
+  install_begins : (nth n : ℕ) (value : Option (List ℕ)) → length state.held ≡ records → length state.counts ≡ writes
+      → nth < writes
+      → (place_at state nth).width + 2 + rest_from state (nth + 1) < n
+      → TxnFalls shape n (go state (Installing nth (install_begin value)))
+  install_begins nth n None held counts l m =
+      goes shape state n (Installing nth InstallCount) fits are some (held, counts, l, tt) (omega arith)
   install_begins nth n (Some value) held counts l m =
       let w = (nth_is nth l).least_width in
       goes shape state n (Installing nth (InstallWord 0)) fits are some (held, counts, l, omega arith) (omega arith)
 
-  on_copy_falls : (nth n : ℕ) (old : List ℕ) (now : Now CopyPlace (Unit {0})) → length state.held ≡ records → length state.counts ≡ writes
+  on_copy_falls : (nth n : ℕ) (old : List ℕ) (now : Now CopyPlace (Unit {0})) → length state.held ≡ records
+      → length state.counts ≡ writes
       → (l : nth < writes)
       → length old ≡ (place_at state nth).width → CopyFalls (place_at state nth) (nth_is nth l) n now
       → TxnFalls shape (n + ((place_at state nth).width + 2) + rest_from state (nth + 1)) (on_copy state nth old now)
   on_copy_falls nth n old (At place) held counts l wide h =
       goes shape state _ (Copying nth old place) fits are some (held, counts, l, wide, h.0) (let m = h.1 in omega arith)
-  on_copy_falls nth n old (Over done) held counts l wide h = install_begins nth _ (value_at state nth) held counts l (let m = h.1 in omega arith)
+  on_copy_falls nth n old (Over done) held counts l wide h =
+      install_begins nth _ (value_at state nth) held counts l (let m = h.1 in omega arith)
 
-  publishing : (n : ℕ) → length state.held ≡ records → length state.counts ≡ writes → publish_most state < n → TxnFalls shape n (go state Publishing)
+  publishing : (n : ℕ) → length state.held ≡ records → length state.counts ≡ writes → publish_most state < n
+      → TxnFalls shape n (go state Publishing)
   publishing n held counts m = goes shape state n Publishing fits are some (held, counts) m
 
-  on_install_falls : (nth n : ℕ) (now : Now InstallPlace (Unit {0})) → length state.held ≡ records → length state.counts ≡ writes → (l : nth < writes)
-      → InstallFalls (place_at state nth) (nth_is nth l) n now → TxnFalls shape (n + rest_from state (nth + 1)) (on_install state nth now)
+  on_install_falls : (nth n : ℕ) (now : Now InstallPlace (Unit {0})) → length state.held ≡ records
+      → length state.counts ≡ writes → (l : nth < writes)
+      → InstallFalls (place_at state nth) (nth_is nth l) n now
+      → TxnFalls shape (n + rest_from state (nth + 1)) (on_install state nth now)
   on_install_falls nth n (At place) held counts l h =
       goes shape state _ (Installing nth place) fits are some (held, counts, l, h.0) (let m = h.1 in omega arith)
   on_install_falls nth n (Over done) held counts l h =
-      by_test (TxnFalls shape (n + rest_from state (nth + 1))) (nth + 1 == writes) (go state Publishing) (go state (Saving (nth + 1) words_begin))
+      by_test (TxnFalls shape (n + rest_from state (nth + 1))) (nth + 1 == writes) (go state Publishing)
+      (go state (Saving (nth + 1) words_begin))
       (λ e. publishing _ held counts (let m = h.1 in omega arith))
-      (λ e. let m : nth + 1 < writes = grind (arith, nat_tests) in saving (nth + 1) _ held counts m (let k = h.1 in omega arith))
+      (λ e. let m : nth + 1 < writes = grind (arith, nat_tests) in
+      saving (nth + 1) _ held counts m (let k = h.1 in omega arith))
 
-  next_free_falls : (nth n : ℕ) → length state.held ≡ records → length state.counts ≡ writes → writes ≤ nth → nth ≤ records → records - nth < n
+  next_free_falls : (nth n : ℕ) → length state.held ≡ records → length state.counts ≡ writes → writes ≤ nth
+      → nth ≤ records → records - nth < n
       → TxnFalls shape n (next_free state nth)
   next_free_falls nth n held counts l m r =
       by_test (TxnFalls shape n) (nth == records) (answered state (Committed (state.last + 1))) (go state (Freeing nth))
       (λ e. ends shape state n (Committed (state.last + 1)) fits (omega arith))
-      (λ e. let k : nth < records = grind (arith, nat_tests) in let a = as_many in goes shape state n (Freeing nth) fits are some
+      (λ e. let k : nth < records = grind (arith, nat_tests) in let a = as_many in
+      goes shape state n (Freeing nth) fits are some
       (held, counts, l, k) (omega arith))
 
-  on_return_falls : (full : Lock) (n : ℕ) (now : Now ℕ (Unit {0})) → length state.held ≡ records → UnlockFalls (places state) n now
+  on_return_falls : (full : Lock) (n : ℕ) (now : Now ℕ (Unit {0})) → length state.held ≡ records
+      → UnlockFalls (places state) n now
       → TxnFalls shape n (on_return state full now)
   on_return_falls full n (At given) held h =
       goes shape state n (Returning given full) fits are some (held, let e = as_many in let l = h.0 in omega arith) h.1
@@ -178,9 +203,11 @@ module _ (shape : Shape) (limits : FitsLimits shape) (state : TxnState) (fits : 
 
 -- 4. The slots: each that is free brings a count
 
-module _ (shape : Shape) (limits : FitsLimits shape) (state : TxnState) (fits : StateFits shape state) (are : state.records ≡ records_of state)
+module _ (shape : Shape) (limits : FitsLimits shape) (state : TxnState) (fits : StateFits shape state)
+    (are : state.records ≡ records_of state)
     (some : 1 ≤ length state.writes) where
-  checked_falls : (n count : ℕ) → length state.held ≡ length state.records → length state.counts < length state.writes → 0 < n
+  checked_falls : (n count : ℕ) → length state.held ≡ length state.records → length state.counts < length state.writes
+      → 0 < n
       → TxnFalls shape (n + (2 * (length state.writes - length state.counts - 1) + rest_from state 0))
       (next_check (record state { counts = state.counts ++ count ∷ [] }))
   checked_falls n count held l m =
@@ -188,38 +215,49 @@ module _ (shape : Shape) (limits : FitsLimits shape) (state : TxnState) (fits : 
       let long : length all ≡ length state.counts + 1 = length-append state.counts (count ∷ []) in
       let state' = record state { counts = all } in
       let most = n + (2 * (length state.writes - length state.counts - 1) + rest_from state 0) in
-      by_test (TxnFalls shape most) (length all == length state.writes) (go state' (Saving 0 words_begin)) (go state' (Checking slot_begin))
-      (λ e. let f : length all ≡ length state.writes = grind (arith, nat_tests) in saving shape limits state' fits are some 0 most held f some
+      by_test (TxnFalls shape most) (length all == length state.writes) (go state' (Saving 0 words_begin))
+      (go state' (Checking slot_begin))
+      (λ e. let f : length all ≡ length state.writes = grind (arith, nat_tests) in
+      saving shape limits state' fits are some 0 most held f some
       (omega arith))
-      (λ e. let f : length all < length state.writes = grind (arith, nat_tests) in goes shape state' most (Checking slot_begin) fits are some
+      (λ e. let f : length all < length state.writes = grind (arith, nat_tests) in
+      goes shape state' most (Checking slot_begin) fits are some
       (held, f) (omega arith))
 
-  on_slot_falls : (place : Place) (is : FitsPlace place) (n : ℕ) (now : Now SlotPlace SlotEnd) → length state.held ≡ length state.records
+  on_slot_falls : (place : Place) (is : FitsPlace place) (n : ℕ) (now : Now SlotPlace SlotEnd)
+      → length state.held ≡ length state.records
       → length state.counts < length state.writes → SlotFalls place is n now
-      → TxnFalls shape (n + (2 * (length state.writes - length state.counts - 1) + rest_from state 0)) (on_slot state now)
-  on_slot_falls place is n (At at) held l h = goes shape state _ (Checking at) fits are some (held, l) (let m = h.1 in omega arith)
+      → TxnFalls shape (n + (2 * (length state.writes - length state.counts - 1) + rest_from state 0))
+      (on_slot state now)
+  on_slot_falls place is n (At at) held l h =
+      goes shape state _ (Checking at) fits are some (held, l) (let m = h.1 in omega arith)
   on_slot_falls place is n (Over (Free count)) held l h = checked_falls n count held l h.1
   on_slot_falls place is n (Over (NotMoved slot found)) held l h =
       let w = within shape limits state fits are some in
       let e = as_many shape limits state fits are some in
       let r = rest_least shape limits state fits are some in
       let m = h.1 in
-      goes shape state _ (Returning 0 (lock_at state (length state.counts) found)) fits are some (held, omega arith) (omega arith)
+      goes shape state _ (Returning 0 (lock_at state (length state.counts) found)) fits are some (held, omega arith)
+      (omega arith)
 
 -- 5. A commit
 
 module _ (shape : Shape) (limits : FitsLimits shape) (state : TxnState) (fits : StateFits shape state) where
-  pub commit_falls : (at : CommitPlace) (found : ℕ) → CommitFits shape state at → TxnFalls shape (commit_left state at) (commit_after state at found)
+  pub commit_falls : (at : CommitPlace) (found : ℕ) → CommitFits shape state at
+      → TxnFalls shape (commit_left state at) (commit_after state at found)
   commit_falls (Locking at) found c =
       let e = as_many shape limits state fits c.0 c.1 in
       on_lock_falls shape limits state fits c.0 c.1 _ _ c.2.1
-      (lock_falls (places state) _ (enough shape limits state fits c.0 c.1) state.seen at found (subst (λ m. LockFits m at) (sym e) c.2.0))
+      (lock_falls (places state) _ (enough shape limits state fits c.0 c.1) state.seen at found
+      (subst (λ m. LockFits m at) (sym e) c.2.0))
   commit_falls (Checking at) found c =
       let is = nth_is shape limits state fits c.0 c.1 (length state.counts) c.2.1 in
-      on_slot_falls shape limits state fits c.0 c.1 _ is _ _ c.2.0 c.2.1 (slot_falls (place_at state (length state.counts)) is at found)
+      on_slot_falls shape limits state fits c.0 c.1 _ is _ _ c.2.0 c.2.1
+      (slot_falls (place_at state (length state.counts)) is at found)
   commit_falls (Returning given full) found c =
       let e = as_many shape limits state fits c.0 c.1 in
-      on_return_falls shape limits state fits c.0 c.1 full _ _ c.2.0 (unlock_falls (places state) given (let l = c.2.1 in omega arith))
+      on_return_falls shape limits state fits c.0 c.1 full _ _ c.2.0
+      (unlock_falls (places state) given (let l = c.2.1 in omega arith))
   commit_falls (Saving nth got) found c =
       on_words_falls shape limits state fits c.0 c.1 nth _ _ c.2.0 c.2.1 c.2.2
       (words_fall (place_at state nth) (nth_is shape limits state fits c.0 c.1 nth c.2.2) got found c.2.3)
@@ -235,4 +273,5 @@ module _ (shape : Shape) (limits : FitsLimits shape) (state : TxnState) (fits : 
   commit_falls (Freeing nth) found c =
       let e = as_many shape limits state fits c.0 c.1 in
       let l = c.2.3 in
-      next_free_falls shape limits state fits c.0 c.1 (nth + 1) _ c.2.0 c.2.1 (let m = c.2.2 in omega arith) (omega arith) (omega arith)
+      next_free_falls shape limits state fits c.0 c.1 (nth + 1) _ c.2.0 c.2.1 (let m = c.2.2 in omega arith)
+      (omega arith) (omega arith)

@@ -42,7 +42,8 @@ module _ {A : Type 0} (P : A → Type 0) where
   pub all_filter : (f : A → Bool) (xs : List A) → AllByRecursion P xs → AllByRecursion P (filter f xs)
   all_filter f [] all = tt
   all_filter f (x ∷ xs) all =
-      by_test (AllByRecursion P) (f x) (x ∷ filter f xs) (filter f xs) (λ e. (all.0, all_filter f xs all.1)) (λ e. all_filter f xs all.1)
+      by_test (AllByRecursion P) (f x) (x ∷ filter f xs) (filter f xs) (λ e. (all.0, all_filter f xs all.1))
+      (λ e. all_filter f xs all.1)
 
 pub place_of_nth : (rs : List Record) (nth : ℕ)
     → slice_index_or (map (λ (r : Record). r.place) rs) nth no_place ≡ (slice_index_or rs nth no_record).place
@@ -56,11 +57,14 @@ module _ (shape : Shape) (limits : FitsLimits shape) where
   pub op_table : (op : Op) → OpStands shape op → IsTableOf shape (key_of op).table
   op_table (Get t k) s = let e = length-map shape.tables (λ (t : Table). t.width) in let l = s.0.0 in omega arith
   op_table (Put t k v) s = let e = length-map shape.tables (λ (t : Table). t.width) in let l = s.0.0.0 in omega arith
-  op_table (Add t k f up by) s = let e = length-map shape.tables (λ (t : Table). t.width) in let l = s.0.0.0 in omega arith
+  op_table (Add t k f up by) s =
+      let e = length-map shape.tables (λ (t : Table). t.width) in let l = s.0.0.0 in omega arith
   op_table (Del t k) s = let e = length-map shape.tables (λ (t : Table). t.width) in let l = s.0.0 in omega arith
-  op_table (Need t k f least) s = let e = length-map shape.tables (λ (t : Table). t.width) in let l = s.0.0.0 in omega arith
+  op_table (Need t k f least) s =
+      let e = length-map shape.tables (λ (t : Table). t.width) in let l = s.0.0.0 in omega arith
   op_table (Guard t k) s = let e = length-map shape.tables (λ (t : Table). t.width) in let l = s.0.0 in omega arith
-  op_table (Scan t low high) s = let e = length-map shape.tables (λ (t : Table). t.width) in let l = s.0.0 in omega arith
+  op_table (Scan t low high) s =
+      let e = length-map shape.tables (λ (t : Table). t.width) in let l = s.0.0 in omega arith
 
 -- 3. Claimed keys
 
@@ -68,7 +72,8 @@ or_else : (b x y : Bool) → (x ≡ true → y ≡ true) → (if b then true els
 or_else true x y f e = refl
 or_else false x y f e = f e
 
-claimed_more : (cs : List Record) (r : Record) (key : Key) → is_claimed cs key ≡ true → is_claimed (with_claim cs r) key ≡ true
+claimed_more : (cs : List Record) (r : Record) (key : Key) → is_claimed cs key ≡ true
+    → is_claimed (with_claim cs r) key ≡ true
 claimed_more [] r key e = absurd (false≢true e)
 claimed_more (c ∷ cs) r key e =
     either (λ (all : List Record). is_claimed all key ≡ true) (same_key c.key r.key) (c ∷ cs) (c ∷ with_claim cs r) e
@@ -90,7 +95,8 @@ claimed_now (c ∷ cs) r =
     (λ e. if_later (same_key c.key r.key) (is_claimed (with_claim cs r) r.key) (claimed_now cs r))
 
 -- a key that the write set writes is claimed where all of its keys are
-written_claimed : (cs : List Record) (ws : List Item) (key : Key) → AllByRecursion (λ item. is_claimed cs (item_key item) ≡ true) ws
+written_claimed : (cs : List Record) (ws : List Item) (key : Key)
+    → AllByRecursion (λ item. is_claimed cs (item_key item) ≡ true) ws
     → writes_key ws key ≡ true
     → is_claimed cs key ≡ true
 written_claimed cs [] key all e = absurd (false≢true e)
@@ -102,19 +108,23 @@ written_claimed cs (w ∷ ws) key all e = elim (cases_Bool (same_key (item_key w
 all_wrote : (P : Item → Type 0) (ws : List Item) (i : Item) → AllByRecursion P ws → P i → AllByRecursion P (wrote ws i)
 all_wrote P [] i all new = (new, tt)
 all_wrote P (w ∷ ws) i all new =
-    either (AllByRecursion P) (same_key (item_key w) (item_key i)) (i ∷ ws) (w ∷ wrote ws i) (new, all.1) (all.0, all_wrote P ws i all.1 new)
+    either (AllByRecursion P) (same_key (item_key w) (item_key i)) (i ∷ ws) (w ∷ wrote ws i) (new, all.1)
+    (all.0, all_wrote P ws i all.1 new)
 
-all_guarded : (P : Key → Type 0) (gs : List Key) (key : Key) → AllByRecursion P gs → P key → AllByRecursion P (guarded gs key)
+all_guarded : (P : Key → Type 0) (gs : List Key) (key : Key) → AllByRecursion P gs → P key
+    → AllByRecursion P (guarded gs key)
 all_guarded P [] key all new = (new, tt)
 all_guarded P (g ∷ gs) key all new =
     either (AllByRecursion P) (same_key g key) (g ∷ gs) (g ∷ guarded gs key) all (all.0, all_guarded P gs key all.1 new)
 
-all_claimed : {A : Type 0} (key : A → Key) (cs : List Record) (r : Record) (xs : List A) → AllByRecursion (λ x. is_claimed cs (key x) ≡ true) xs
+all_claimed : {A : Type 0} (key : A → Key) (cs : List Record) (r : Record) (xs : List A)
+    → AllByRecursion (λ x. is_claimed cs (key x) ≡ true) xs
     → AllByRecursion (λ x. is_claimed (with_claim cs r) (key x) ≡ true) xs
 all_claimed key cs r [] all = tt
 all_claimed key cs r (x ∷ xs) all = (claimed_more cs r (key x) all.0, all_claimed key cs r xs all.1)
 
-field_width : (width f n : ℕ) (value : Option (List ℕ)) → HasWidth width value → length (with_field width value f n) ≡ width
+field_width : (width f n : ℕ) (value : Option (List ℕ)) → HasWidth width value
+    → length (with_field width value f n) ≡ width
 field_width width f n None wide = length-set (replicate width 0) (f - 1) n ∙ length-replicate width 0
 field_width width f n (Some v) wide = length-set v (f - 1) n ∙ wide
 
@@ -123,10 +133,12 @@ module _ (shape : Shape) where
       → AllByRecursion (IsPlaced shape) (with_claim cs r)
   placed_more [] r all new = (new, tt)
   placed_more (c ∷ cs) r all new =
-      either (AllByRecursion (IsPlaced shape)) (same_key c.key r.key) (c ∷ cs) (c ∷ with_claim cs r) all (all.0, placed_more cs r all.1 new)
+      either (AllByRecursion (IsPlaced shape)) (same_key c.key r.key) (c ∷ cs) (c ∷ with_claim cs r) all
+      (all.0, placed_more cs r all.1 new)
 
   -- one more key is claimed
-  pub claim_fits : (worker : ℕ) (cs : List Record) (ws : List Item) (gs : List Key) (r : Record) → KeysFit shape worker cs ws gs → IsPlaced shape r
+  pub claim_fits : (worker : ℕ) (cs : List Record) (ws : List Item) (gs : List Key) (r : Record)
+      → KeysFit shape worker cs ws gs → IsPlaced shape r
       → KeysFit shape worker (with_claim cs r) ws gs × (is_claimed (with_claim cs r) r.key ≡ true)
   claim_fits worker cs ws gs r fits new = (
     record {
@@ -140,7 +152,8 @@ module _ (shape : Shape) where
   )
 
   module _ (worker : ℕ) (cs : List Record) (ws : List Item) (gs : List Key) (fits : KeysFit shape worker cs ws gs) where
-    write_fits : (key : Key) (value : Option (List ℕ)) → is_claimed cs key ≡ true → HasWidth (width_of shape key.table) value
+    write_fits : (key : Key) (value : Option (List ℕ)) → is_claimed cs key ≡ true
+        → HasWidth (width_of shape key.table) value
         → KeysFit shape worker cs (wrote ws (item_at key value)) gs
     write_fits key value claimed wide = record {
       worker_is = fits.worker_is;
@@ -166,7 +179,8 @@ module _ (shape : Shape) where
     op_fits (Get t k) value stands claimed wide = fits
     op_fits (Put t k v) value stands claimed wide = write_fits (key_at t k) (Some v) claimed stands.0.1
     op_fits (Add t k f up by) value stands claimed wide =
-        write_fits (key_at t k) (Some (with_field (width_of shape t) value f (changed up (field_of value f) by))) claimed
+        write_fits (key_at t k)
+        (Some (with_field (width_of shape t) value f (changed up (field_of value f) by))) claimed
         (field_width (width_of shape t) f (changed up (field_of value f) by) value wide)
     op_fits (Del t k) value stands claimed wide = write_fits (key_at t k) None claimed tt
     op_fits (Need t k f least) value stands claimed wide = fits
@@ -194,7 +208,8 @@ module _ (shape : Shape) where
       by_test (IsPlaced shape) (same_key c.key key) c (record_in cs key) (λ f. all.0)
       (λ f. record_placed cs key all.1 (rw f at e))
 
-  each_placed : (cs : List Record) → AllByRecursion (IsPlaced shape) cs → (keys : List Key) → AllByRecursion (λ key. is_claimed cs key ≡ true) keys
+  each_placed : (cs : List Record) → AllByRecursion (IsPlaced shape) cs → (keys : List Key)
+      → AllByRecursion (λ key. is_claimed cs key ≡ true) keys
       → AllByRecursion (λ key. IsPlaced shape (record_in cs key)) keys
   each_placed cs placed [] all = tt
   each_placed cs placed (k ∷ ks) all = (record_placed cs k placed all.0, each_placed cs placed ks all.1)
@@ -204,14 +219,17 @@ module _ (shape : Shape) where
     records_placed =
         let P : Key → Type 0 = λ key. is_claimed state.claims key ≡ true in
         let keys : AllByRecursion P (commit_keys state) =
-        All-append P (map item_key state.writes) (unwritten state.writes state.guards) (All-map item_key P state.writes fits.written)
+        All-append P (map item_key state.writes) (unwritten state.writes state.guards)
+        (All-map item_key P state.writes fits.written)
         (all_filter P (λ key. not (writes_key state.writes key)) state.guards fits.guarded) in
-        All-map (record_in state.claims) (IsPlaced shape) (commit_keys state) (each_placed state.claims fits.placed (commit_keys state) keys)
+        All-map (record_in state.claims) (IsPlaced shape) (commit_keys state)
+        (each_placed state.claims fits.placed (commit_keys state) keys)
 
     -- how many records there are
     pub records_length : length (records_of state) ≡ length state.writes + length (unwritten state.writes state.guards)
     records_length =
-        length-map (commit_keys state) (record_in state.claims) ∙ length-append (map item_key state.writes) (unwritten state.writes state.guards)
+        length-map (commit_keys state) (record_in state.claims)
+        ∙ length-append (map item_key state.writes) (unwritten state.writes state.guards)
         ∙ ap (λ n. n + length (unwritten state.writes state.guards)) (length-map state.writes item_key)
 
     module _ (are : state.records ≡ records_of state) where
@@ -223,9 +241,11 @@ module _ (shape : Shape) where
 
       pub record_is_placed : (nth : ℕ) → nth < length state.records → IsPlaced shape (record_at state nth)
       record_is_placed nth l =
-          all_at (IsPlaced shape) no_record state.records nth (subst (AllByRecursion (IsPlaced shape)) (sym are) records_placed) l
+          all_at (IsPlaced shape) no_record state.records nth
+          (subst (AllByRecursion (IsPlaced shape)) (sym are) records_placed) l
 
       pub nth_fits : FitsLimits shape → (nth : ℕ) → nth < length state.records → FitsPlace (place_at state nth)
       nth_fits limits nth l =
           let p = record_is_placed nth l in
-          subst FitsPlace (sym (place_of_nth state.records nth ∙ p.2)) (place_fits shape limits (record_at state nth).key.table p.0 p.1.0 p.1.1)
+          subst FitsPlace (sym (place_of_nth state.records nth ∙ p.2))
+          (place_fits shape limits (record_at state nth).key.table p.0 p.1.0 p.1.1)

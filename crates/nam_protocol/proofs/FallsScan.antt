@@ -29,33 +29,41 @@ first_row r k m q e f = rw (← f, e, suc-mul) refl
 
 module _ (shape : Shape) (limits : FitsLimits shape) (table : ℕ) (is : IsTableOf shape table) where
   abbrev pub ScanFalls : ℕ → ℕ → Now ScanPlace ScanAnswer → Type 0
-  ScanFalls position = FallsTo (ScanFits shape table) (ScanEnds shape table) (scan_left shape table) (after_scan shape table position)
+  ScanFalls position =
+      FallsTo (ScanFits shape table) (ScanEnds shape table) (scan_left shape table) (after_scan shape table position)
 
   position_figure : (position : ℕ) → position < capacity_of shape table
       → positions_left shape table (capacity_of shape table - position - 1) + (1 + read_most shape table)
       ≡ positions_left shape table (capacity_of shape table - position)
   position_figure position l =
-      first_row (capacity_of shape table - position) (1 + read_most shape table) (capacity_of shape table - position - 1) _ (omega arith) refl
+      first_row (capacity_of shape table - position) (1 + read_most shape table)
+      (capacity_of shape table - position - 1) _ (omega arith) refl
 
   -- the position is left
   pub scan_skip_falls : (position n : ℕ) → position < capacity_of shape table
-      → positions_left shape table (capacity_of shape table - position - 1) < n → ScanFalls position n (scan_skip shape table position)
+      → positions_left shape table (capacity_of shape table - position - 1) < n
+      → ScanFalls position n (scan_skip shape table position)
   scan_skip_falls position n l m =
-      or_last (ScanFalls position n) (capacity_of shape table) position (Over Done) (At (ScanKey (position + 1))) l (λ e. (tt, omega arith))
-      (λ e. let f : capacity_of shape table - (position + 1) ≡ capacity_of shape table - position - 1 = omega arith in (e, rw f m))
+      or_last (ScanFalls position n) (capacity_of shape table) position (Over Done) (At (ScanKey (position + 1))) l
+      (λ e. (tt, omega arith))
+      (λ e. let f : capacity_of shape table - (position + 1) ≡ capacity_of shape table - position - 1 = omega arith in
+      (e, rw f m))
 
   -- the position is read
-  pub scan_read_falls : (position key n : ℕ) → position < capacity_of shape table → scan_left shape table (ScanRead position key read_begin) < n
+  pub scan_read_falls : (position key n : ℕ) → position < capacity_of shape table
+      → scan_left shape table (ScanRead position key read_begin) < n
       → ScanFalls position n (scan_read position key)
   scan_read_falls position key n l m = ((l, tt), m)
 
   on_scan_read_falls : (position key n : ℕ) (now : Now ReadPlace ReadingEnd) (l : position < capacity_of shape table)
       → ReadFalls (sight_of shape table position) (sight_fits shape limits table position is l) n now
-      → ScanFalls position (n + positions_left shape table (capacity_of shape table - position - 1)) (on_scan_read table position key now)
+      → ScanFalls position (n + positions_left shape table (capacity_of shape table - position - 1))
+      (on_scan_read table position key now)
   on_scan_read_falls position key n (At at) l h = ((l, h.0), let m = h.1 in omega arith)
   on_scan_read_falls position key n (Over (read_end.Got value)) l h =
       (subst (λ w. HasWidth w value) (width_is shape limits table position is l) h.0, let m = h.1 in omega arith)
-  on_scan_read_falls position key n (Over (read_end.Passed worker entry horizon)) l h = (h.0, let m = h.1 in omega arith)
+  on_scan_read_falls position key n (Over (read_end.Passed worker entry horizon)) l h =
+      (h.0, let m = h.1 in omega arith)
   on_scan_read_falls position key n (Over read_end.Astray) l h = (tt, let m = h.1 in omega arith)
 
   -- a word is taken
@@ -64,7 +72,8 @@ module _ (shape : Shape) (limits : FitsLimits shape) (table : ℕ) (is : IsTable
   scan_falls low high seen (ScanKey position) found l =
       let f = position_figure position l in
       let r = read_figure shape limits table position is l in
-      either (ScanFalls position (scan_left shape table (ScanKey position))) (in_range low high found) (Over (Key (found - 1)))
+      either (ScanFalls position (scan_left shape table (ScanKey position))) (in_range low high found)
+      (Over (Key (found - 1)))
       (scan_skip shape table position)
       (tt, omega arith) (scan_skip_falls position _ l (omega arith))
   scan_falls low high seen (ScanRead position key at) found l =

@@ -41,7 +41,8 @@ use Rattle.nam_protocol.proofs.FallsKeys.{op_table, claim_fits, op_fits, own_cla
 use Rattle.nam_protocol.proofs.FallsCommit.{commit_falls}
 
 -- what an operation reads has its table's width
-read_wide : (shape : Shape) (op : Op) (value : Option (List ℕ)) → OpStands shape op → HasWidth (width_of shape (key_of op).table) value
+read_wide : (shape : Shape) (op : Op) (value : Option (List ℕ)) → OpStands shape op
+    → HasWidth (width_of shape (key_of op).table) value
     → HasWidth (width_of shape (key_of op).table) (value_in (read_of op value))
 read_wide shape (op.Get t k) value stands wide = wide
 read_wide shape (op.Put t k v) value stands wide = tt
@@ -74,15 +75,18 @@ module _ (shape : Shape) (limits : FitsLimits shape) where
         either (TxnFalls shape n) (not (passes op (holding value))) (answered state' Declined)
         (if claims op then at state' (Claiming op claim_key_begin) else answered state' (answer_of op value))
         (fits, (tt, omega arith))
-        (by_test (TxnFalls shape n) (claims op) (at state' (Claiming op claim_key_begin)) (answered state' (answer_of op value))
-        (λ e. let m = claims_take shape op (claims op) e in let c = least in (fits, ((stands, c, read_wide shape op value stands wide), omega arith)))
+        (by_test (TxnFalls shape n) (claims op) (at state' (Claiming op claim_key_begin))
+        (answered state' (answer_of op value))
+        (λ e. let m = claims_take shape op (claims op) e in let c = least in
+        (fits, ((stands, c, read_wide shape op value stands wide), omega arith)))
         (λ e. (fits, (tt, omega arith))))
 
     on_find_falls : (n : ℕ) (now : Now ℕ FindEnd) → FindFalls shape table (key_of op).key n now
         → TxnFalls shape (n + (read_most shape table + claim_most shape op)) (on_find shape state op now)
     on_find_falls n (At passed) h = (fits, ((stands, h.0), let m = h.1 in omega arith))
     on_find_falls n (Over (found_key.At position)) h =
-        let f = read_figure shape limits table position is_table h.0 in (fits, ((stands, h.0, tt), let m = h.1 in omega arith))
+        let f = read_figure shape limits table position is_table h.0 in
+        (fits, ((stands, h.0, tt), let m = h.1 in omega arith))
     on_find_falls n (Over found_key.Absent) h = valued_falls _ None tt (let m = h.1 in omega arith)
 
     on_read_falls : (position n : ℕ) (now : Now ReadPlace ReadingEnd) (l : position < capacity_of shape table)
@@ -90,21 +94,29 @@ module _ (shape : Shape) (limits : FitsLimits shape) where
         → TxnFalls shape (n + claim_most shape op) (on_read shape state op position now)
     on_read_falls position n (At place) l h = (fits, ((stands, l, h.0), let m = h.1 in omega arith))
     on_read_falls position n (Over (read_end.Got value)) l h =
-        valued_falls _ value (subst (λ w. HasWidth w value) (width_is shape limits table position is_table l) h.0) (let m = h.1 in omega arith)
-    on_read_falls position n (Over (read_end.Passed worker entry horizon)) l h = (fits, (tt, let m = h.1 in omega arith))
+        valued_falls _ value (subst (λ w. HasWidth w value) (width_is shape limits table position is_table l) h.0)
+        (let m = h.1 in omega arith)
+    on_read_falls position n (Over (read_end.Passed worker entry horizon)) l h =
+        (fits, (tt, let m = h.1 in omega arith))
     on_read_falls position n (Over read_end.Astray) l h = (fits, (tt, let m = h.1 in omega arith))
 
-    on_claim_falls : (n : ℕ) (now : Now ClaimKeyPlace ClaimKeyEnd) → HasWidth (width_of shape table) (value_in state.read)
+    on_claim_falls : (n : ℕ) (now : Now ClaimKeyPlace ClaimKeyEnd)
+        → HasWidth (width_of shape table) (value_in state.read)
         → ClaimKeyFalls shape table (key_of op).key n now → TxnFalls shape n (on_claim shape state op now)
     on_claim_falls n (At place) wide h = (fits, ((stands, h.0, wide), h.1))
     on_claim_falls n (Over claimed_key.NoSpace) wide h = (fits, (tt, h.1))
     on_claim_falls n (Over (claimed_key.At position)) wide h =
         let r = record_of shape op position in
-        let c = claim_fits shape state.worker state.claims state.writes state.guards r fits (position, (is_table, h.0), refl) in
-        (op_fits shape state.worker (with_claim state.claims r) state.writes state.guards c.0 op (value_in state.read) stands c.1 wide, (tt, h.1))
+        let c = claim_fits shape state.worker state.claims state.writes state.guards r fits
+        (position, (is_table, h.0), refl) in (
+          op_fits shape state.worker (with_claim state.claims r) state.writes state.guards c.0 op
+              (value_in state.read) stands c.1 wide,
+          (tt, h.1),
+        )
 
   -- a word is taken
-  pub txn_falls : (state : TxnState) (place : TxnPlace) (found : ℕ) → StateFits shape state → TxnPlaceFits shape state place
+  pub txn_falls : (state : TxnState) (place : TxnPlace) (found : ℕ) → StateFits shape state
+      → TxnPlaceFits shape state place
       → TxnFalls shape (txn_left shape state place) (txn_after shape state place found)
   txn_falls state (Finding op passed) found fits p =
       on_find_falls state fits op p.0 _ _ (find_falls shape (key_of op).table (key_of op).key passed found p.1)
@@ -119,25 +131,32 @@ module _ (shape : Shape) (limits : FitsLimits shape) where
   -- an operation is asked
   op_begins_at : (state : TxnState) (op : Op) → StateFits shape state → OpStands shape op → (e : reads op ≡ true)
       → TxnBegins shape (op_bound shape op) (at state (Finding op find_begin))
-  op_begins_at state (op.Get t k) fits stands e = let c = least state fits (op.Get t k) stands in (fits, ((stands, c), omega arith))
+  op_begins_at state (op.Get t k) fits stands e =
+      let c = least state fits (op.Get t k) stands in (fits, ((stands, c), omega arith))
   op_begins_at state (op.Put t k v) fits stands e = absurd (false≢true e)
-  op_begins_at state (op.Add t k f up by) fits stands e = let c = least state fits (op.Add t k f up by) stands in (fits, ((stands, c), omega arith))
+  op_begins_at state (op.Add t k f up by) fits stands e =
+      let c = least state fits (op.Add t k f up by) stands in (fits, ((stands, c), omega arith))
   op_begins_at state (op.Del t k) fits stands e = absurd (false≢true e)
-  op_begins_at state (op.Need t k f m) fits stands e = let c = least state fits (op.Need t k f m) stands in (fits, ((stands, c), omega arith))
-  op_begins_at state (op.Guard t k) fits stands e = let c = least state fits (op.Guard t k) stands in (fits, ((stands, c), omega arith))
+  op_begins_at state (op.Need t k f m) fits stands e =
+      let c = least state fits (op.Need t k f m) stands in (fits, ((stands, c), omega arith))
+  op_begins_at state (op.Guard t k) fits stands e =
+      let c = least state fits (op.Guard t k) stands in (fits, ((stands, c), omega arith))
   op_begins_at state (op.Scan t low high) fits stands e = absurd (false≢true e)
 
   op_claims_at : (state : TxnState) (op : Op) → StateFits shape state → OpStands shape op → reads op ≡ false
       → TxnBegins shape (op_bound shape op) (at (record state { read = None }) (Claiming op claim_key_begin))
   op_claims_at state (op.Get t k) fits stands e = absurd (false≢true (sym e))
-  op_claims_at state (op.Put t k v) fits stands e = let c = least state fits (op.Put t k v) stands in (fits, ((stands, c, tt), omega arith))
+  op_claims_at state (op.Put t k v) fits stands e =
+      let c = least state fits (op.Put t k v) stands in (fits, ((stands, c, tt), omega arith))
   op_claims_at state (op.Add t k f up by) fits stands e = absurd (false≢true (sym e))
-  op_claims_at state (op.Del t k) fits stands e = let c = least state fits (op.Del t k) stands in (fits, ((stands, c, tt), omega arith))
+  op_claims_at state (op.Del t k) fits stands e =
+      let c = least state fits (op.Del t k) stands in (fits, ((stands, c, tt), omega arith))
   op_claims_at state (op.Need t k f m) fits stands e = absurd (false≢true (sym e))
   op_claims_at state (op.Guard t k) fits stands e = absurd (false≢true (sym e))
   op_claims_at state (op.Scan t low high) fits stands e = absurd (false≢true (sym stands.1))
 
-  own_begins : (n : ℕ) (state : TxnState) (op : Op) (value : Option (List ℕ)) → StateFits shape state → OpStands shape op
+  own_begins : (n : ℕ) (state : TxnState) (op : Op) (value : Option (List ℕ)) → StateFits shape state
+      → OpStands shape op
       → writes_key state.writes (key_of op) ≡ true
       → HasWidth (width_of shape (key_of op).table) value → TxnBegins shape n (with_own shape state op value)
   own_begins n state op value fits stands e wide =
@@ -157,8 +176,10 @@ module _ (shape : Shape) (limits : FitsLimits shape) where
       let state' = record state { read = None } in
       let finding = at state' (Finding op find_begin) in
       let claiming = at state' (Claiming op claim_key_begin) in
-      by_test (TxnBegins shape n) (writes_key state.writes (key_of op)) (with_own shape (record state { read = read_of op own }) op own)
+      by_test (TxnBegins shape n) (writes_key state.writes (key_of op))
+      (with_own shape (record state { read = read_of op own }) op own)
       (if reads op then finding else claiming)
-      (λ e. own_begins n (record state { read = read_of op own }) op own fits stands e (own_wide shape state.writes (key_of op) fits.wide))
+      (λ e. own_begins n (record state { read = read_of op own }) op own fits stands e
+      (own_wide shape state.writes (key_of op) fits.wide))
       (λ e. by_test (TxnBegins shape n) (reads op) finding claiming (λ f. op_begins_at state' op fits stands f)
       (λ f. op_claims_at state op fits stands f))

@@ -49,7 +49,11 @@ use Rattle.nam_protocol.specs.Client.{on_begin, on_seek, on_move, on_snap, on_co
 -- the client that has begun a transaction on this snapshot
 abbrev pub begun : ClientState → ℕ → ℕ → List ℕ → ClientState
 begun client txn nth seen =
-    record client { log = with_snap client.log seen; txn = Some (opened client txn nth (prefix_of client.start seen) seen) }
+    record client {
+      log = with_snap client.log seen;
+      txn = Some
+          (opened client txn nth (prefix_of client.start seen) seen);
+    }
 
 -- the client with these rows of a scan
 abbrev pub with_rows : ClientState → List Scanned → ClientState
@@ -57,7 +61,8 @@ with_rows client rows = record client { scanned = rows }
 
 -- a step of the transaction, and how many new locks it lists
 abbrev pub step_lists : ClientState → ℕ → Stepped → ClientState
-step_lists client before step = record client { log = with_locks client.log (new_locks step.state before (taken_now step.state step.call)) }
+step_lists client before step =
+    record client { log = with_locks client.log (new_locks step.state before (taken_now step.state step.call)) }
 
 abbrev pub step_opens : Open → ℕ → Stepped → Open
 step_opens attempt before step = record attempt {
@@ -70,7 +75,8 @@ module _ (P : ClientState → Type 0) where
 
   pub on_call_goes : (client : ClientState) (attempt : Open) (call : Now TxnPlace TxnAnswer)
       → ((place : TxnPlace) → call ≡ At place → P (go (record client { txn = Some attempt }) (InTxn place)))
-      → ((answer : TxnAnswer) → call ≡ Over answer → P (answered (on_answer client attempt answer) (client_answer.Txn answer)))
+      → ((answer : TxnAnswer) → call ≡ Over answer
+      → P (answered (on_answer client attempt answer) (client_answer.Txn answer)))
       → P (on_call client attempt call)
   on_call_goes client attempt (At place) stays over = stays place refl
   on_call_goes client attempt (Over answer) stays over = over answer refl
@@ -79,7 +85,8 @@ module _ (P : ClientState → Type 0) where
       → ((place : TxnPlace) → step.call ≡ At place
       → P (go (record (step_lists client before step) { txn = Some (step_opens attempt before step) }) (InTxn place)))
       → ((answer : TxnAnswer) → step.call ≡ Over answer
-      → P (answered (on_answer (step_lists client before step) (step_opens attempt before step) answer) (client_answer.Txn answer)))
+      → P (answered (on_answer (step_lists client before step) (step_opens attempt before step) answer)
+      (client_answer.Txn answer)))
       → P (stepped client attempt before step)
   stepped_goes client attempt before step stays over =
       on_call_goes (step_lists client before step) (step_opens attempt before step) step.call stays over
@@ -98,9 +105,12 @@ module _ (P : ClientState → Type 0) where
   on_answer_goes client attempt txn_answer.Met stays over read_over commits = stays
   on_answer_goes client attempt (txn_answer.Committed number) stays over read_over commits = commits number refl
   on_answer_goes client attempt txn_answer.ReadOnly stays over read_over commits = over outcome.ReadOnly
-  on_answer_goes client attempt (txn_answer.TooOld worker entry horizon) stays over read_over commits = over (outcome.TooOld worker entry horizon)
-  on_answer_goes client attempt (txn_answer.NoSpace table) stays over read_over commits = read_over (outcome.NoSpace table)
-  on_answer_goes client attempt txn_answer.Declined stays over read_over commits = read_over (outcome.Declined attempt.ops)
+  on_answer_goes client attempt (txn_answer.TooOld worker entry horizon) stays over read_over commits =
+      over (outcome.TooOld worker entry horizon)
+  on_answer_goes client attempt (txn_answer.NoSpace table) stays over read_over commits =
+      read_over (outcome.NoSpace table)
+  on_answer_goes client attempt txn_answer.Declined stays over read_over commits =
+      read_over (outcome.Declined attempt.ops)
   on_answer_goes client attempt txn_answer.Spent stays over read_over commits = over outcome.Spent
   on_answer_goes client attempt (txn_answer.Locked lock) stays over read_over commits = over (outcome.Locked lock)
   on_answer_goes client attempt (txn_answer.Newer lock) stays over read_over commits = over (outcome.Newer lock)
@@ -128,7 +138,8 @@ module _ (P : ClientState → Type 0) where
         let rows = client.scanned ++ record { position = position; key = key; value = value } ∷ [] in
         on_skip_goes (with_rows client rows) attempt table low high now (stays rows) (listed rows)
 
-    pub scan_goes : (client : ClientState) (attempt : Open) (table low high position : ℕ) (now : Now ScanPlace ScanAnswer)
+    pub scan_goes : (client : ClientState) (attempt : Open) (table low high position : ℕ)
+        (now : Now ScanPlace ScanAnswer)
         → ((rows : List Scanned) (place : ScanPlace) → P (go (with_rows client rows) (Scanning table low high place)))
         → ((rows : List Scanned) → P (scan_listed (with_rows client rows) attempt table))
         → ((outcome : Outcome) (end : TxnAnswer) → P (scan_ended client attempt outcome end))
@@ -139,13 +150,17 @@ module _ (P : ClientState → Type 0) where
         cond_both (writes_key attempt.state.writes own) _ _ P
         (λ e. gathered_goes client attempt table low high position key (own_value attempt.state.writes own)
         (scan_skip shape table position) stays listed)
-        (λ e. on_skip_goes client attempt table low high (scan_read position key) (stays client.scanned) (listed client.scanned))
+        (λ e. on_skip_goes client attempt table low high (scan_read position key) (stays client.scanned)
+        (listed client.scanned))
     scan_goes client attempt table low high position (Over (scan_answer.Row item)) stays listed over =
-        gathered_goes client attempt table low high position item.key item.value (scan_skip shape table position) stays listed
+        gathered_goes client attempt table low high position item.key item.value
+        (scan_skip shape table position) stays listed
     scan_goes client attempt table low high position (Over scan_answer.Done) stays listed over = listed client.scanned
-    scan_goes client attempt table low high position (Over (scan_answer.TooOld worker entry horizon)) stays listed over =
+    scan_goes client attempt table low high position
+        (Over (scan_answer.TooOld worker entry horizon)) stays listed over =
         over (outcome.TooOld worker entry horizon) (txn_answer.TooOld worker entry horizon)
-    scan_goes client attempt table low high position (Over scan_answer.Astray) stays listed over = over outcome.Left txn_answer.Astray
+    scan_goes client attempt table low high position (Over scan_answer.Astray) stays listed over =
+        over outcome.Left txn_answer.Astray
 
     -- 4. Begin, tidy, collect
 
@@ -154,11 +169,13 @@ module _ (P : ClientState → Type 0) where
         → ((seen : List ℕ) → now ≡ Over (snap_end.Done seen)
         → P (answered (begun client txn nth seen) (client_answer.Begun (prefix_of client.start seen))))
         → ((worker first second : ℕ) → now ≡ Over (snap_end.Again worker first second)
-        → P (answered (told client (unbegun txn nth (outcome.Again worker first second))) (client_answer.Again worker first second)))
+        → P (answered (told client (unbegun txn nth (outcome.Again worker first second)))
+        (client_answer.Again worker first second)))
         → P (on_begin shape client txn nth now)
     begin_goes client txn nth (At place) stays done again = stays place refl
     begin_goes client txn nth (Over (snap_end.Done seen)) stays done again = done seen refl
-    begin_goes client txn nth (Over (snap_end.Again worker first second)) stays done again = again worker first second refl
+    begin_goes client txn nth (Over (snap_end.Again worker first second)) stays done again =
+        again worker first second refl
 
     pub seek_goes : (client : ClientState) (table key : ℕ) (now : Now ℕ FindEnd)
         → ((passed : ℕ) → now ≡ At passed → P (go client (Seeking table key passed)))
@@ -176,24 +193,31 @@ module _ (P : ClientState → Type 0) where
         → ((stamp : Stamp) → now ≡ Over (move_end.Back stamp)
         → P (answered (told client (event.Moved bucket table key stamp moved.Back)) client_answer.Back))
         → (now ≡ Over move_end.Nothing → P (answered client client_answer.Nothing))
-        → ((full : ℕ) → now ≡ Over (move_end.NoRoom full) → P (answered (told client (event.NoRoom full)) (client_answer.NoRoom full)))
+        → ((full : ℕ) → now ≡ Over (move_end.NoRoom full)
+        → P (answered (told client (event.NoRoom full)) (client_answer.NoRoom full)))
         → P (on_move shape client table key position bucket now)
     move_goes client table key position bucket (At place) stays done back nothing full = stays place refl
-    move_goes client table key position bucket (Over (move_end.Moved stamp)) stays done back nothing full = done stamp refl
-    move_goes client table key position bucket (Over (move_end.Back stamp)) stays done back nothing full = back stamp refl
+    move_goes client table key position bucket (Over (move_end.Moved stamp)) stays done back nothing full =
+        done stamp refl
+    move_goes client table key position bucket (Over (move_end.Back stamp)) stays done back nothing full =
+        back stamp refl
     move_goes client table key position bucket (Over move_end.Nothing) stays done back nothing full = nothing refl
-    move_goes client table key position bucket (Over (move_end.NoRoom none)) stays done back nothing full = full none refl
+    move_goes client table key position bucket (Over (move_end.NoRoom none)) stays done back nothing full =
+        full none refl
 
     pub snap_goes : (client : ClientState) (bucket : ℕ) (now : Now SnapPlace SnapEnd)
         → ((place : SnapPlace) → now ≡ At place → P (go client (Snapping bucket place)))
         → ((seen : List ℕ) → now ≡ Over (snap_end.Done seen)
-        → P (go (record client { log = with_snap client.log seen }) (Collecting bucket (prefix_of client.start seen) seen collect_begin)))
+        → P (go (record client { log = with_snap client.log seen })
+        (Collecting bucket (prefix_of client.start seen) seen collect_begin)))
         → ((worker first second : ℕ) → now ≡ Over (snap_end.Again worker first second)
-        → P (answered (told client (event.CollectAgain bucket worker first second)) (client_answer.Again worker first second)))
+        → P (answered (told client (event.CollectAgain bucket worker first second))
+        (client_answer.Again worker first second)))
         → P (on_snap shape client bucket now)
     snap_goes client bucket (At place) stays done again = stays place refl
     snap_goes client bucket (Over (snap_end.Done seen)) stays done again = done seen refl
-    snap_goes client bucket (Over (snap_end.Again worker first second)) stays done again = again worker first second refl
+    snap_goes client bucket (Over (snap_end.Again worker first second)) stays done again =
+        again worker first second refl
 
     pub collect_goes : (client : ClientState) (bucket prefix : ℕ) (seen : List ℕ) (now : Now CollectPlace (List ℕ))
         → ((place : CollectPlace) → now ≡ At place → P (go client (Collecting bucket prefix seen place)))

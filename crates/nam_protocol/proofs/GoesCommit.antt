@@ -42,8 +42,10 @@ module _ (P : Stepped → Type 0) (state : TxnState) where
 
   pub ask_commit_goes : (shape : Shape)
       → ((length state.writes == 0) ≡ true → P (answered (record state { read = None }) ReadOnly))
-      → ((length state.writes == 0) ≡ false → (state.last == greatest_number shape.form) ≡ true → P (answered (record state { read = None }) Spent))
-      → ((length state.writes == 0) ≡ false → (state.last == greatest_number shape.form) ≡ false → P (go (committing state) (Locking (Peek []))))
+      → ((length state.writes == 0) ≡ false → (state.last == greatest_number shape.form) ≡ true
+      → P (answered (record state { read = None }) Spent))
+      → ((length state.writes == 0) ≡ false → (state.last == greatest_number shape.form) ≡ false
+      → P (go (committing state) (Locking (Peek []))))
       → P (ask_commit shape state)
   ask_commit_goes shape read_only spent locking =
       cond_both (length state.writes == 0) _ _ P read_only
@@ -53,8 +55,10 @@ module _ (P : Stepped → Type 0) (state : TxnState) where
 
   pub on_lock_goes : (now : Now LockPlace LockEnd)
       → ((place : LockPlace) → now ≡ At place → P (go state (Locking place)))
-      → ((headers : List ℕ) → now ≡ Over (lock_end.Held headers) → P (go (holding_locks state headers) (Checking CheckCount)))
-      → ((nth found : ℕ) → now ≡ Over (lock_end.Locked nth found) → P (answered state (Locked (lock_at state nth found))))
+      → ((headers : List ℕ) → now ≡ Over (lock_end.Held headers)
+      → P (go (holding_locks state headers) (Checking CheckCount)))
+      → ((nth found : ℕ) → now ≡ Over (lock_end.Locked nth found)
+      → P (answered state (Locked (lock_at state nth found))))
       → ((nth found : ℕ) → now ≡ Over (lock_end.Newer nth found) → P (answered state (Newer (lock_at state nth found))))
       → P (on_lock state now)
   on_lock_goes (At place) stays held locked newer = stays place refl
@@ -68,7 +72,8 @@ module _ (P : Stepped → Type 0) (state : TxnState) where
       → P (go (with_count state count) (Saving 0 [])))
       → ((count : ℕ) → now ≡ Over (Free count) → (length (state.counts ++ count ∷ []) == length state.writes) ≡ false
       → P (go (with_count state count) (Checking CheckCount)))
-      → ((slot found : ℕ) → now ≡ Over (NotMoved slot found) → P (go state (Returning 0 (lock_at state (length state.counts) found))))
+      → ((slot found : ℕ) → now ≡ Over (NotMoved slot found)
+      → P (go state (Returning 0 (lock_at state (length state.counts) found))))
       → P (on_slot state now)
   on_slot_goes (At place) stays last next full = stays place refl
   on_slot_goes (Over (Free count)) stays last next full =
@@ -102,7 +107,8 @@ module _ (P : Stepped → Type 0) (state : TxnState) where
       → (now ≡ Over tt → (nth + 1 == length state.writes) ≡ false → P (go state (Saving (nth + 1) [])))
       → P (on_install state nth now)
   on_install_goes nth (At place) stays last next = stays place refl
-  on_install_goes nth (Over tt) stays last next = cond_both (nth + 1 == length state.writes) _ _ P (last refl) (next refl)
+  on_install_goes nth (Over tt) stays last next =
+      cond_both (nth + 1 == length state.writes) _ _ P (last refl) (next refl)
 
   pub next_free_goes : (nth : ℕ)
       → ((nth == length state.records) ≡ true → P (answered state (Committed (state.last + 1))))
@@ -122,17 +128,21 @@ module _ (P : Stepped → Type 0) (state : TxnState) where
       on_lock_goes _ (λ next e. stays (Locking next)) (λ headers e. held headers)
       (λ nth word e. answer (Locked (lock_at state nth word))) (λ nth word e. answer (Newer (lock_at state nth word)))
   commit_goes (Checking at) found stays held counted answer =
-      on_slot_goes _ (λ next e. stays (Checking next)) (λ count e f. counted count (Saving 0 [])) (λ count e f. counted count (Checking CheckCount))
+      on_slot_goes _ (λ next e. stays (Checking next)) (λ count e f. counted count (Saving 0 []))
+      (λ count e f. counted count (Checking CheckCount))
       (λ slot word e. stays (Returning 0 (lock_at state (length state.counts) word)))
   commit_goes (Returning given full) found stays held counted answer =
       on_return_goes full _ (λ next e. stays (Returning next full)) (λ e. answer (Full full))
   commit_goes (Saving nth got) found stays held counted answer =
       on_words_goes nth _ (λ next e. stays (Saving nth next)) (λ old e. stays (Copying nth old CopyMark))
   commit_goes (Copying nth old at) found stays held counted answer =
-      on_copy_goes nth old _ (λ next e. stays (Copying nth old next)) (λ e. stays (Installing nth (install_begin (value_at state nth))))
+      on_copy_goes nth old _ (λ next e. stays (Copying nth old next))
+      (λ e. stays (Installing nth (install_begin (value_at state nth))))
   commit_goes (Installing nth at) found stays held counted answer =
-      on_install_goes nth _ (λ next e. stays (Installing nth next)) (λ e f. stays Publishing) (λ e f. stays (Saving (nth + 1) []))
+      on_install_goes nth _ (λ next e. stays (Installing nth next)) (λ e f. stays Publishing)
+      (λ e f. stays (Saving (nth + 1) []))
   commit_goes Publishing found stays held counted answer =
-      next_free_goes (length state.writes) (λ e. answer (Committed (state.last + 1))) (λ e. stays (Freeing (length state.writes)))
+      next_free_goes (length state.writes) (λ e. answer (Committed (state.last + 1)))
+      (λ e. stays (Freeing (length state.writes)))
   commit_goes (Freeing nth) found stays held counted answer =
       next_free_goes (nth + 1) (λ e. answer (Committed (state.last + 1))) (λ e. stays (Freeing (nth + 1)))

@@ -47,7 +47,8 @@ module _ (P : Now ReadPlace ReadingEnd → Type 0) where
   pub current_goes : (now : Now CurrentPlace CurrentEnd)
       → ((place : CurrentPlace) → now ≡ At place → P (At (ReadCurrent place)))
       → ((value : Option (List ℕ)) → now ≡ Over (current.Found value) → P (Over (read_end.Got value)))
-      → ((value : List ℕ) (header : ℕ) → now ≡ Over (current.Unsure value header) → P (At (ReadUnsure value header ring_begin)))
+      → ((value : List ℕ) (header : ℕ) → now ≡ Over (current.Unsure value header)
+      → P (At (ReadUnsure value header ring_begin)))
       → (now ≡ Over current.GoOld → P (At (ReadRing ring_begin)))
       → P (on_current now)
   current_goes (At place) stays found unsure old = stays place refl
@@ -90,7 +91,8 @@ module _ (P : Now ReadPlace ReadingEnd → Type 0) where
 
   pub horizon_goes : (now : Now ℕ OldEnd)
       → ((worker : ℕ) → now ≡ At worker → P (At (ReadHorizon worker)))
-      → ((worker entry horizon : ℕ) → now ≡ Over (TooOld worker entry horizon) → P (Over (read_end.Passed worker entry horizon)))
+      → ((worker entry horizon : ℕ) → now ≡ Over (TooOld worker entry horizon)
+      → P (Over (read_end.Passed worker entry horizon)))
       → (now ≡ Over NotPassed → P (Over read_end.Astray))
       → P (on_horizon now)
   horizon_goes (At worker) stays passed none = stays worker refl
@@ -121,11 +123,14 @@ module _ (P : Now MovePlace MoveAnswer → Type 0) where
 module _ (table : ℕ) (P : Now ScanPlace ScanAnswer → Type 0) where
   pub scan_read_goes : (position key : ℕ) (now : Now ReadPlace ReadingEnd)
       → ((place : ReadPlace) → now ≡ At place → P (At (ScanRead position key place)))
-      → ((value : Option (List ℕ)) → now ≡ Over (read_end.Got value) → P (Over (scan_answer.Row (item_at (key_at table key) value))))
-      → ((worker entry horizon : ℕ) → now ≡ Over (read_end.Passed worker entry horizon) → P (Over (scan_answer.TooOld worker entry horizon)))
+      → ((value : Option (List ℕ)) → now ≡ Over (read_end.Got value)
+      → P (Over (scan_answer.Row (item_at (key_at table key) value))))
+      → ((worker entry horizon : ℕ) → now ≡ Over (read_end.Passed worker entry horizon)
+      → P (Over (scan_answer.TooOld worker entry horizon)))
       → (now ≡ Over read_end.Astray → P (Over scan_answer.Astray))
       → P (on_scan_read table position key now)
   scan_read_goes position key (At place) stays found passed astray = stays place refl
   scan_read_goes position key (Over (read_end.Got value)) stays found passed astray = found value refl
-  scan_read_goes position key (Over (read_end.Passed worker entry horizon)) stays found passed astray = passed worker entry horizon refl
+  scan_read_goes position key (Over (read_end.Passed worker entry horizon)) stays found passed astray =
+      passed worker entry horizon refl
   scan_read_goes position key (Over read_end.Astray) stays found passed astray = astray refl

@@ -1,5 +1,6 @@
--- Where a transaction's call goes on. For any property of what comes out: if it holds at each place that may follow, and at
--- each answer, then it holds after the word. First by what the call's part has come to, then of each place whole.
+-- Where a transaction's call goes on. For any property of what comes out: if it holds at each place that may follow,
+-- and at each answer, then it holds after the word. First by what the call's part has come to, then of each place
+-- whole.
 use Rattle.std.proofs.Common.{◌≡◌, ℕ, Bool, true, false, not, List, Option, None, refl}
 use Rattle.std.specs.Prelude.{if◌then◌else◌}
 use Rattle.std.proofs.lemmas.Bool.{cond_both}
@@ -32,7 +33,8 @@ use Rattle.nam_protocol.specs.TxnCalls.{txn_after}
 abbrev pub knowing : TxnState → Op → Option (List ℕ) → TxnState
 knowing state op value = record state { read = read_of op value }
 
-by_not : {A : Type 0} (P : A → Type 0) (b : Bool) (x y : A) → (b ≡ false → P x) → (b ≡ true → P y) → P (if not b then x else y)
+by_not : {A : Type 0} (P : A → Type 0) (b : Bool) (x y : A) → (b ≡ false → P x) → (b ≡ true → P y)
+    → P (if not b then x else y)
 by_not P true x y f g = g refl
 by_not P false x y f g = f refl
 
@@ -53,7 +55,8 @@ module _ (shape : Shape) (P : Stepped → Type 0) (op : Op) where
       → ((answer : TxnAnswer) → P (answered (knowing state op value) answer))
       → P (valued shape state op value)
   valued_goes state value claiming answer =
-      decided_goes (knowing state op value) value (λ e. answer Declined) (λ e. claiming) (λ e f. answer (answer_of op value))
+      decided_goes (knowing state op value) value (λ e. answer Declined) (λ e. claiming)
+      (λ e f. answer (answer_of op value))
 
   -- 2. An operation is asked
 
@@ -62,8 +65,10 @@ module _ (shape : Shape) (P : Stepped → Type 0) (op : Op) where
       passes op (holding own) ≡ false → P (answered (knowing state op own) Declined))
       → (writes_key state.writes (key_of op) ≡ true → let own = own_value state.writes (key_of op) in
       passes op (holding own) ≡ true → P (answered (with_op shape (knowing state op own) op own) (answer_of op own)))
-      → (writes_key state.writes (key_of op) ≡ false → reads op ≡ true → P (at (record state { read = None }) (Finding op 0)))
-      → (writes_key state.writes (key_of op) ≡ false → reads op ≡ false → P (at (record state { read = None }) (Claiming op (KeyLook 0))))
+      → (writes_key state.writes (key_of op) ≡ false → reads op ≡ true
+      → P (at (record state { read = None }) (Finding op 0)))
+      → (writes_key state.writes (key_of op) ≡ false → reads op ≡ false
+      → P (at (record state { read = None }) (Claiming op (KeyLook 0))))
       → P (ask_op shape state op)
   ask_goes state declined own finding claiming =
       cond_both (writes_key state.writes (key_of op)) _ _ P
@@ -84,18 +89,21 @@ module _ (shape : Shape) (P : Stepped → Type 0) (op : Op) where
   pub on_read_goes : (state : TxnState) (position : ℕ) (now : Now ReadPlace ReadingEnd)
       → ((place : ReadPlace) → now ≡ At place → P (at state (Reading op position place)))
       → ((value : Option (List ℕ)) → now ≡ Over (read_end.Got value) → P (valued shape state op value))
-      → ((worker entry horizon : ℕ) → now ≡ Over (read_end.Passed worker entry horizon) → P (answered state (TooOld worker entry horizon)))
+      → ((worker entry horizon : ℕ) → now ≡ Over (read_end.Passed worker entry horizon)
+      → P (answered state (TooOld worker entry horizon)))
       → (now ≡ Over read_end.Astray → P (answered state Astray))
       → P (on_read shape state op position now)
   on_read_goes state position (At place) stays found passed astray = stays place refl
   on_read_goes state position (Over (read_end.Got value)) stays found passed astray = found value refl
-  on_read_goes state position (Over (read_end.Passed worker entry horizon)) stays found passed astray = passed worker entry horizon refl
+  on_read_goes state position (Over (read_end.Passed worker entry horizon)) stays found passed astray =
+      passed worker entry horizon refl
   on_read_goes state position (Over read_end.Astray) stays found passed astray = astray refl
 
   pub on_claim_goes : (state : TxnState) (now : Now ClaimKeyPlace ClaimKeyEnd)
       → ((place : ClaimKeyPlace) → now ≡ At place → P (at state (Claiming op place)))
       → (now ≡ Over claimed_key.NoSpace → P (answered state (NoSpace (key_of op).table)))
-      → ((position : ℕ) → now ≡ Over (claimed_key.At position) → P (answered (claimed shape state op position) (answer_of op (value_in state.read))))
+      → ((position : ℕ) → now ≡ Over (claimed_key.At position)
+      → P (answered (claimed shape state op position) (answer_of op (value_in state.read))))
       → P (on_claim shape state op now)
   on_claim_goes state (At place) stays none found = stays place refl
   on_claim_goes state (Over claimed_key.NoSpace) stays none found = none refl
@@ -110,7 +118,8 @@ module _ (shape : Shape) (P : Stepped → Type 0) (op : Op) where
       → ((answer : TxnAnswer) → P (answered (knowing state op None) answer))
       → P (txn_after shape state (Finding op passed) found)
   finding_goes state passed found stays reading claiming answer =
-      on_find_goes state _ (λ next e. stays next) (λ position e. reading position) (λ e. valued_goes state None claiming answer)
+      on_find_goes state _ (λ next e. stays next) (λ position e. reading position)
+      (λ e. valued_goes state None claiming answer)
 
   pub reading_goes : (state : TxnState) (position : ℕ) (place : ReadPlace) (found : ℕ)
       → ((next : ReadPlace) → P (at state (Reading op position next)))
@@ -119,7 +128,8 @@ module _ (shape : Shape) (P : Stepped → Type 0) (op : Op) where
       → ((answer : TxnAnswer) → P (answered state answer))
       → P (txn_after shape state (Reading op position place) found)
   reading_goes state position place found stays claiming answer ended =
-      on_read_goes state position _ (λ next e. stays next) (λ value e. valued_goes state value (claiming value) (answer value))
+      on_read_goes state position _ (λ next e. stays next)
+      (λ value e. valued_goes state value (claiming value) (answer value))
       (λ worker entry horizon e. ended (TooOld worker entry horizon)) (λ e. ended Astray)
 
   pub claiming_goes : (state : TxnState) (place : ClaimKeyPlace) (found : ℕ)
@@ -127,4 +137,5 @@ module _ (shape : Shape) (P : Stepped → Type 0) (op : Op) where
       → P (answered state (NoSpace (key_of op).table))
       → ((position : ℕ) → P (answered (claimed shape state op position) (answer_of op (value_in state.read))))
       → P (txn_after shape state (Claiming op place) found)
-  claiming_goes state place found stays none done = on_claim_goes state _ (λ next e. stays next) (λ e. none) (λ position e. done position)
+  claiming_goes state place found stays none done =
+      on_claim_goes state _ (λ next e. stays next) (λ e. none) (λ position e. done position)

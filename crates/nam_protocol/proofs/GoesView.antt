@@ -56,27 +56,34 @@ module _ (shape : Shape) (client : ClientState) (attempt : Open) where
 
   pub finding_quiet : (op : Op) (passed found : ℕ) → Quiet (txn_after shape attempt.state (Finding op passed) found)
   finding_quiet op passed found =
-      finding_goes shape Quiet op attempt.state passed found (λ next. refl) (λ position. refl) (λ e. refl) (λ answer. refl)
+      finding_goes shape Quiet op attempt.state passed found (λ next. refl) (λ position. refl) (λ e. refl)
+      (λ answer. refl)
 
   pub reading_quiet : (op : Op) (position : ℕ) (place : ReadPlace) (found : ℕ)
       → Quiet (txn_after shape attempt.state (Reading op position place) found)
   reading_quiet op position place found =
-      reading_goes shape Quiet op attempt.state position place found (λ next. refl) (λ value e. refl) (λ value answer. refl) (λ answer. refl)
+      reading_goes shape Quiet op attempt.state position place found (λ next. refl) (λ value e. refl)
+      (λ value answer. refl) (λ answer. refl)
 
-  pub claiming_quiet : (op : Op) (place : ClaimKeyPlace) (found : ℕ) → Quiet (txn_after shape attempt.state (Claiming op place) found)
-  claiming_quiet op place found = claiming_goes shape Quiet op attempt.state place found (λ next. refl) refl (λ position. refl)
+  pub claiming_quiet : (op : Op) (place : ClaimKeyPlace) (found : ℕ)
+      → Quiet (txn_after shape attempt.state (Claiming op place) found)
+  claiming_quiet op place found =
+      claiming_goes shape Quiet op attempt.state place found (λ next. refl) refl (λ position. refl)
 
   pub ask_quiet : (op : Op) → Quiet (ask_op shape attempt.state op)
   ask_quiet op = ask_goes shape Quiet op attempt.state (λ e f. refl) (λ e f. refl) (λ e f. refl) (λ e f. refl)
 
   -- a commit that copies keeps its records and its locks
   pub copying_keeps : (nth before found : ℕ) (old : List ℕ) (at : CopyPlace)
-      → (next : CommitPlace) × (commit_view (stepped client attempt before (txn_after shape attempt.state (Committing (Copying nth old at)) found))
+      → (next : CommitPlace) × (commit_view
+      (stepped client attempt before (txn_after shape attempt.state (Committing (Copying nth old at)) found))
       ≡ Some record { records = attempt.state.records; held = attempt.state.held; place = next })
   copying_keeps nth before found old at =
       on_copy_goes (λ step. (next : CommitPlace) × (commit_view (stepped client attempt before step)
-      ≡ Some record { records = attempt.state.records; held = attempt.state.held; place = next })) attempt.state nth old _
-      (λ place e. (Copying nth old place, refl)) (λ e. (Installing nth (install_begin (value_at attempt.state nth)), refl))
+      ≡ Some record { records = attempt.state.records; held = attempt.state.held; place = next })) attempt.state nth
+      old _
+      (λ place e. (Copying nth old place, refl))
+      (λ e. (Installing nth (install_begin (value_at attempt.state nth)), refl))
 
 -- 3. So is each word of a client that commits nothing
 
@@ -96,7 +103,8 @@ module _ (shape : Shape) where
   take_quiet client (Committing place) (Some attempt) found idle = absurd (cc)
 
   scan_quiet : (client : ClientState) (table low high : ℕ) (place : ScanPlace) (txn : Option Open) (found : ℕ)
-      → Idle (take_scan shape (record client { call = Some (At (Scanning table low high place)); txn = txn }) table low high place txn found)
+      → Idle (take_scan shape (record client { call = Some (At (Scanning table low high place)); txn = txn }) table
+      low high place txn found)
   scan_quiet client table low high place None found = refl
   scan_quiet client table low high place (Some attempt) found =
       scan_goes Idle shape _ attempt table low high _ _ (λ rows next. refl) (λ rows. refl) (λ outcome end. refl)
@@ -104,15 +112,19 @@ module _ (shape : Shape) where
   pub word_quiet : (client : ClientState) (place : CallPlace) (found : ℕ)
       → Idle (go client place) → Idle (client_after shape (go client place) found)
   word_quiet client (Beginning txn nth at) found idle =
-      begin_goes Idle shape (go client (Beginning txn nth at)) txn nth _ (λ next e. refl) (λ seen e. refl) (λ worker first second e. refl)
+      begin_goes Idle shape (go client (Beginning txn nth at)) txn nth _ (λ next e. refl) (λ seen e. refl)
+      (λ worker first second e. refl)
   word_quiet client (InTxn at) found idle = take_quiet client at client.txn found idle
   word_quiet client (Scanning table low high at) found idle = scan_quiet client table low high at client.txn found
   word_quiet client (Seeking table key passed) found idle =
-      seek_goes Idle shape (go client (Seeking table key passed)) table key _ (λ next e. refl) (λ position e. refl) (λ e. refl)
+      seek_goes Idle shape (go client (Seeking table key passed)) table key _ (λ next e. refl) (λ position e. refl)
+      (λ e. refl)
   word_quiet client (Moving table key position at) found idle =
       move_goes Idle shape (go client (Moving table key position at)) table key position _ _
       (λ next e. refl) (λ stamp e. refl) (λ stamp e. refl) (λ e. refl) (λ full e. refl)
   word_quiet client (Snapping bucket at) found idle =
-      snap_goes Idle shape (go client (Snapping bucket at)) bucket _ (λ next e. refl) (λ seen e. refl) (λ worker first second e. refl)
+      snap_goes Idle shape (go client (Snapping bucket at)) bucket _ (λ next e. refl) (λ seen e. refl)
+      (λ worker first second e. refl)
   word_quiet client (Collecting bucket prefix seen at) found idle =
-      collect_goes Idle shape (go client (Collecting bucket prefix seen at)) bucket prefix seen _ (λ next e. refl) (λ known e. refl)
+      collect_goes Idle shape (go client (Collecting bucket prefix seen at)) bucket prefix seen _ (λ next e. refl)
+      (λ known e. refl)

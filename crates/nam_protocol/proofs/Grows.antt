@@ -67,7 +67,13 @@ module _ {A : Type 0} where
 
 pub grows_same : (log : Log) → Grows log log
 grows_same log =
-    record { events = same log.events; reads = same log.reads; locks = same log.locks; writes = same log.writes; snaps = same log.snaps }
+    record {
+      events = same log.events;
+      reads = same log.reads;
+      locks = same log.locks;
+      writes = same log.writes;
+      snaps = same log.snaps;
+    }
 
 pub grows_trans : (a b c : Log) → Grows a b → Grows b c → Grows a c
 grows_trans a b c f g = record {
@@ -80,37 +86,72 @@ grows_trans a b c f g = record {
 
 pub event_grows : (log : Log) (event : Event) → Grows log (with_event log event)
 event_grows log event =
-    record { events = more log.events (event ∷ []); reads = same log.reads; locks = same log.locks; writes = same log.writes; snaps = same log.snaps }
+    record {
+      events = more log.events
+          (event ∷ []);
+      reads = same log.reads;
+      locks = same log.locks;
+      writes = same log.writes;
+      snaps = same log.snaps;
+    }
 
 pub reads_grow : (log : Log) (items : List Item) → Grows log (with_reads log items)
 reads_grow log items =
-    record { events = same log.events; reads = more log.reads items; locks = same log.locks; writes = same log.writes; snaps = same log.snaps }
+    record {
+      events = same log.events;
+      reads = more log.reads items;
+      locks = same log.locks;
+      writes = same log.writes;
+      snaps = same log.snaps;
+    }
 
 pub locks_grow : (log : Log) (locks : List Lock) → Grows log (with_locks log locks)
 locks_grow log locks =
-    record { events = same log.events; reads = same log.reads; locks = more log.locks locks; writes = same log.writes; snaps = same log.snaps }
+    record {
+      events = same log.events;
+      reads = same log.reads;
+      locks = more log.locks locks;
+      writes = same log.writes;
+      snaps = same log.snaps;
+    }
 
 pub writes_grow : (log : Log) (items : List Item) → Grows log (with_writes log items)
 writes_grow log items =
-    record { events = same log.events; reads = same log.reads; locks = same log.locks; writes = more log.writes items; snaps = same log.snaps }
+    record {
+      events = same log.events;
+      reads = same log.reads;
+      locks = same log.locks;
+      writes = more log.writes items;
+      snaps = same log.snaps;
+    }
 
 pub snap_grows : (log : Log) (seen : List ℕ) → Grows log (with_snap log seen)
 snap_grows log seen =
-    record { events = same log.events; reads = same log.reads; locks = same log.locks; writes = same log.writes; snaps = more log.snaps (seen ∷ []) }
+    record {
+      events = same log.events;
+      reads = same log.reads;
+      locks = same log.locks;
+      writes = same log.writes;
+      snaps = more log.snaps (seen ∷ []);
+    }
 
 -- 2. What a transaction's call lists
 
-committed_grows : (client : ClientState) (attempt : Open) (number : ℕ) → Grows client.log (committed client attempt number).log
+committed_grows : (client : ClientState) (attempt : Open) (number : ℕ)
+    → Grows client.log (committed client attempt number).log
 committed_grows client attempt number =
-    grows_trans client.log (with_event client.log _) _ (event_grows client.log _) (writes_grow (with_event client.log _) attempt.state.writes)
+    grows_trans client.log (with_event client.log _) _ (event_grows client.log _)
+    (writes_grow (with_event client.log _) attempt.state.writes)
 
 -- what was read is listed, and then that the attempt has ended
 read_ended_grows : (client : ClientState) (attempt : Open) (items : List Item) (outcome : Outcome)
     → Grows client.log (read_ended client attempt items outcome).log
 read_ended_grows client attempt items outcome =
-    grows_trans client.log (with_reads client.log items) _ (reads_grow client.log items) (event_grows (with_reads client.log items) _)
+    grows_trans client.log (with_reads client.log items) _ (reads_grow client.log items)
+    (event_grows (with_reads client.log items) _)
 
-answer_grows : (client : ClientState) (attempt : Open) (answer : TxnAnswer) → Grows client.log (on_answer client attempt answer).log
+answer_grows : (client : ClientState) (attempt : Open) (answer : TxnAnswer)
+    → Grows client.log (on_answer client attempt answer).log
 answer_grows client attempt (txn_answer.Value value) = reads_grow client.log (items_of attempt.state.read)
 answer_grows client attempt txn_answer.Written = reads_grow client.log (items_of attempt.state.read)
 answer_grows client attempt (txn_answer.Added n) = reads_grow client.log (items_of attempt.state.read)
@@ -120,20 +161,24 @@ answer_grows client attempt (txn_answer.NoSpace table) = read_ended_grows client
 answer_grows client attempt txn_answer.Declined = read_ended_grows client attempt (items_of attempt.state.read) _
 answer_grows client attempt answer = event_grows client.log _
 
-on_call_grows : (client : ClientState) (attempt : Open) (call : Now TxnPlace TxnAnswer) → Grows client.log (on_call client attempt call).log
+on_call_grows : (client : ClientState) (attempt : Open) (call : Now TxnPlace TxnAnswer)
+    → Grows client.log (on_call client attempt call).log
 on_call_grows client attempt (At place) = grows_same client.log
 on_call_grows client attempt (Over answer) = answer_grows client attempt answer
 
-stepped_grows : (client : ClientState) (attempt : Open) (before : ℕ) (step : Stepped) → Grows client.log (stepped client attempt before step).log
+stepped_grows : (client : ClientState) (attempt : Open) (before : ℕ) (step : Stepped)
+    → Grows client.log (stepped client attempt before step).log
 stepped_grows client attempt before step =
     let locks = new_locks step.state before (taken_now step.state step.call) in
     let log = with_locks client.log locks in
     grows_trans client.log log _ (locks_grow client.log locks)
-    (on_call_grows (record client { log = log }) (record attempt { locks = attempt.locks + length locks; state = step.state }) step.call)
+    (on_call_grows (record client { log = log })
+    (record attempt { locks = attempt.locks + length locks; state = step.state }) step.call)
 
 -- 3. What a scan lists
 
-gathered_grows : (client : ClientState) (position key : ℕ) (value : Option (List ℕ)) → Grows client.log (gathered client position key value).log
+gathered_grows : (client : ClientState) (position key : ℕ) (value : Option (List ℕ))
+    → Grows client.log (gathered client position key value).log
 gathered_grows client position key None = grows_same client.log
 gathered_grows client position key (Some value) = grows_same client.log
 
@@ -143,12 +188,14 @@ module _ (shape : Shape) where
   skip_grows client attempt table low high (At place) = grows_same client.log
   skip_grows client attempt table low high (Over end) = reads_grow client.log _
 
-  gathered_skip_grows : (client : ClientState) (attempt : Open) (table low high position key : ℕ) (value : Option (List ℕ))
+  gathered_skip_grows : (client : ClientState) (attempt : Open) (table low high position key : ℕ)
+      (value : Option (List ℕ))
       (now : Now ScanPlace ScanAnswer)
       → Grows client.log (on_skip (gathered client position key value) attempt table low high now).log
   gathered_skip_grows client attempt table low high position key value now =
       let more = gathered client position key value in
-      grows_trans client.log more.log _ (gathered_grows client position key value) (skip_grows more attempt table low high now)
+      grows_trans client.log more.log _ (gathered_grows client position key value)
+      (skip_grows more attempt table low high now)
 
   key_grows : (client : ClientState) (attempt : Open) (table low high position key : ℕ)
       → Grows client.log (on_key shape client attempt table low high position key).log
@@ -162,21 +209,25 @@ module _ (shape : Shape) where
   scan_grows : (client : ClientState) (attempt : Open) (table low high position : ℕ) (now : Now ScanPlace ScanAnswer)
       → Grows client.log (on_scan shape client attempt table low high position now).log
   scan_grows client attempt table low high position (At place) = grows_same client.log
-  scan_grows client attempt table low high position (Over (scan_answer.Key key)) = key_grows client attempt table low high position key
+  scan_grows client attempt table low high position (Over (scan_answer.Key key)) =
+      key_grows client attempt table low high position key
   scan_grows client attempt table low high position (Over (scan_answer.Row item)) =
       gathered_skip_grows client attempt table low high position item.key item.value (scan_skip shape table position)
   scan_grows client attempt table low high position (Over scan_answer.Done) = reads_grow client.log _
-  scan_grows client attempt table low high position (Over (scan_answer.TooOld worker entry horizon)) = event_grows client.log _
+  scan_grows client attempt table low high position (Over (scan_answer.TooOld worker entry horizon)) =
+      event_grows client.log _
   scan_grows client attempt table low high position (Over scan_answer.Astray) = event_grows client.log _
 
   -- 4. What the other calls list
 
-  begin_grows : (client : ClientState) (txn nth : ℕ) (now : Now SnapPlace SnapEnd) → Grows client.log (on_begin shape client txn nth now).log
+  begin_grows : (client : ClientState) (txn nth : ℕ) (now : Now SnapPlace SnapEnd)
+      → Grows client.log (on_begin shape client txn nth now).log
   begin_grows client txn nth (At place) = grows_same client.log
   begin_grows client txn nth (Over (snap_end.Done seen)) = snap_grows client.log seen
   begin_grows client txn nth (Over (snap_end.Again worker first second)) = event_grows client.log _
 
-  seek_grows : (client : ClientState) (table key : ℕ) (now : Now ℕ FindEnd) → Grows client.log (on_seek shape client table key now).log
+  seek_grows : (client : ClientState) (table key : ℕ) (now : Now ℕ FindEnd)
+      → Grows client.log (on_seek shape client table key now).log
   seek_grows client table key (At passed) = grows_same client.log
   seek_grows client table key (Over (found_key.At position)) = grows_same client.log
   seek_grows client table key (Over found_key.Absent) = grows_same client.log
@@ -189,7 +240,8 @@ module _ (shape : Shape) where
   move_grows client table key position bucket (Over (move_end.Back stamp)) = event_grows client.log _
   move_grows client table key position bucket (Over (move_end.NoRoom full)) = event_grows client.log _
 
-  collect_snap_grows : (client : ClientState) (bucket : ℕ) (now : Now SnapPlace SnapEnd) → Grows client.log (on_snap shape client bucket now).log
+  collect_snap_grows : (client : ClientState) (bucket : ℕ) (now : Now SnapPlace SnapEnd)
+      → Grows client.log (on_snap shape client bucket now).log
   collect_snap_grows client bucket (At place) = grows_same client.log
   collect_snap_grows client bucket (Over (snap_end.Done seen)) = snap_grows client.log seen
   collect_snap_grows client bucket (Over (snap_end.Again worker first second)) = event_grows client.log _
@@ -201,7 +253,8 @@ module _ (shape : Shape) where
 
   -- 5. A word is taken
 
-  take_txn_grows : (client : ClientState) (at : TxnPlace) (txn : Option Open) (found : ℕ) → Grows client.log (take_txn shape client at txn found).log
+  take_txn_grows : (client : ClientState) (at : TxnPlace) (txn : Option Open) (found : ℕ)
+      → Grows client.log (take_txn shape client at txn found).log
   take_txn_grows client at None found = grows_same client.log
   take_txn_grows client at (Some attempt) found = stepped_grows client attempt _ _
 
@@ -210,7 +263,8 @@ module _ (shape : Shape) where
   take_scan_grows client table low high at None found = grows_same client.log
   take_scan_grows client table low high at (Some attempt) found = scan_grows client attempt table low high _ _
 
-  call_grows : (client : ClientState) (place : CallPlace) (found : ℕ) → Grows client.log (call_after shape client place found).log
+  call_grows : (client : ClientState) (place : CallPlace) (found : ℕ)
+      → Grows client.log (call_after shape client place found).log
   call_grows client (Beginning txn nth at) found = begin_grows client txn nth _
   call_grows client (InTxn at) found = take_txn_grows client at client.txn found
   call_grows client (Scanning table low high at) found = take_scan_grows client table low high at client.txn found
@@ -230,11 +284,13 @@ module _ (shape : Shape) where
 
   -- 6. A call is asked, or the transaction given up
 
-  ask_txn_grows : (client : ClientState) (call : TxnCall) (txn : Option Open) → Grows client.log (ask_txn shape client call txn).log
+  ask_txn_grows : (client : ClientState) (call : TxnCall) (txn : Option Open)
+      → Grows client.log (ask_txn shape client call txn).log
   ask_txn_grows client call None = grows_same client.log
   ask_txn_grows client call (Some attempt) = stepped_grows client (counted attempt call) 0 _
 
-  ask_scan_grows : (client : ClientState) (table low high : ℕ) (txn : Option Open) → Grows client.log (ask_scan shape client table low high txn).log
+  ask_scan_grows : (client : ClientState) (table low high : ℕ) (txn : Option Open)
+      → Grows client.log (ask_scan shape client table low high txn).log
   ask_scan_grows client table low high None = grows_same client.log
   ask_scan_grows client table low high (Some attempt) = grows_same client.log
 
@@ -258,13 +314,16 @@ tail_cut_grows : (client : ClientState) (attempt : Open)
     → Grows client.log (with_event (committed client attempt (attempt.state.last + 1)).log TailCut)
 tail_cut_grows client attempt =
     let done = committed client attempt (attempt.state.last + 1) in
-    grows_trans client.log done.log _ (committed_grows client attempt (attempt.state.last + 1)) (event_grows done.log TailCut)
+    grows_trans client.log done.log _ (committed_grows client attempt (attempt.state.last + 1))
+    (event_grows done.log TailCut)
 
-cut_in_txn_grows : (client : ClientState) (attempt : Open) (at : TxnPlace) → Grows client.log (cut_in_txn client attempt at).log
+cut_in_txn_grows : (client : ClientState) (attempt : Open) (at : TxnPlace)
+    → Grows client.log (cut_in_txn client attempt at).log
 cut_in_txn_grows client attempt (Committing (Freeing nth)) = tail_cut_grows client attempt
 cut_in_txn_grows client attempt at = event_grows client.log _
 
-cut_open_grows : (client : ClientState) (at : TxnPlace) (txn : Option Open) → Grows client.log (cut_open client at txn).log
+cut_open_grows : (client : ClientState) (at : TxnPlace) (txn : Option Open)
+    → Grows client.log (cut_open client at txn).log
 cut_open_grows client at None = grows_same client.log
 cut_open_grows client at (Some attempt) = cut_in_txn_grows client attempt at
 
@@ -272,7 +331,8 @@ left_open_grows : (client : ClientState) (txn : Option Open) → Grows client.lo
 left_open_grows client None = grows_same client.log
 left_open_grows client (Some attempt) = event_grows client.log _
 
-cut_move_grows : (client : ClientState) (table key bucket : ℕ) (stamp : Option Stamp) → Grows client.log (cut_move client table key bucket stamp).log
+cut_move_grows : (client : ClientState) (table key bucket : ℕ) (stamp : Option Stamp)
+    → Grows client.log (cut_move client table key bucket stamp).log
 cut_move_grows client table key bucket None = event_grows client.log _
 cut_move_grows client table key bucket (Some stamp) = event_grows client.log _
 
@@ -286,7 +346,8 @@ module _ (shape : Shape) where
   cut_call_grows client (Snapping bucket at) = event_grows client.log _
   cut_call_grows client (Collecting bucket prefix seen at) = event_grows client.log _
 
-  closed_call_grows : (client : ClientState) (call : Option (Now CallPlace Answer)) → Grows client.log (closed_call shape client call).log
+  closed_call_grows : (client : ClientState) (call : Option (Now CallPlace Answer))
+      → Grows client.log (closed_call shape client call).log
   closed_call_grows client None = left_open_grows client client.txn
   closed_call_grows client (Some (At place)) = cut_call_grows client place
   closed_call_grows client (Some (Over answer)) = left_open_grows client client.txn

@@ -44,13 +44,16 @@ module _ (shape : Shape) where
   settle_grows : (calls : ℕ) (session : SessionState) → Kept session.client.log (settle shape calls session)
   unfolding settle
   settle_grows zero session = grows_same session.client.log
-  settle_grows (suc calls) session = next_grows calls session (driver_next session.jobs session.driver) (settle_grows calls)
+  settle_grows (suc calls) session =
+      next_grows calls session (driver_next session.jobs session.driver) (settle_grows calls)
 
-  session_word_grows : (session : SessionState) (found : ℕ) → Kept session.client.log (session_after shape session found)
+  session_word_grows : (session : SessionState) (found : ℕ)
+      → Kept session.client.log (session_after shape session found)
   session_word_grows session found =
       let client = client_after shape session.client found in
       grows_trans session.client.log client.log _ (word_grows shape session.client found)
-      (asked_grows (calls_at_most session.jobs) session client (answer_now client.call) (settle_grows (calls_at_most session.jobs)))
+      (asked_grows (calls_at_most session.jobs) session client (answer_now client.call)
+      (settle_grows (calls_at_most session.jobs)))
 
   session_cut_is : (session : SessionState) (b : Bool)
       → (if b then session else record session { client = client_cut session.client }).client.log ≡ session.client.log

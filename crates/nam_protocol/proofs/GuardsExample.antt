@@ -45,7 +45,8 @@ of_guards_forbid_skew = record {
   shape = shape Narrow 2 (table 1 4 2 ∷ []) 1 1 0;
   rows = loaded 0 0 (60 ∷ []) ∷ loaded 0 1 (60 ∷ []) ∷ [];
   policy = record { tries = 1; tidy = false };
-  txns = txn 1 (Need 0 0 1 60 ∷ Need 0 1 1 60 ∷ Guard 0 1 ∷ Add 0 0 1 false 60 ∷ []) ∷ txn 2 (Need 0 0 1 60 ∷ Need 0 1 1 60 ∷ Guard 0 0 ∷
+  txns = txn 1 (Need 0 0 1 60 ∷ Need 0 1 1 60 ∷ Guard 0 1 ∷ Add 0 0 1 false 60 ∷ []) ∷ txn 2
+      (Need 0 0 1 60 ∷ Need 0 1 1 60 ∷ Guard 0 0 ∷
       Add 0 1 1 false 60 ∷ []) ∷ [];
   schedule = Stints (stint 1 4 ∷ stint 2 4 ∷ stint 1 34 ∷ []);
 }
@@ -55,14 +56,16 @@ guards_forbid_skew : shown of_guards_forbid_skew [] ≡ record {
   logs =
       record {
         events = tried 1 1 0 4 2 1 (Commit 1) ∷ [];
-        reads = item 0 0 (Some (60 ∷ [])) ∷ item 0 1 (Some (60 ∷ [])) ∷ item 0 1 (Some (60 ∷ [])) ∷ item 0 0 (Some (60 ∷ [])) ∷ [];
+        reads = item 0 0 (Some (60 ∷ [])) ∷ item 0 1 (Some (60 ∷ [])) ∷ item 0 1 (Some (60 ∷ [])) ∷ item 0 0
+            (Some (60 ∷ [])) ∷ [];
         locks = lock 0 0 0 0 ∷ lock 0 1 0 0 ∷ [];
         writes = item 0 0 (Some (0 ∷ [])) ∷ [];
         snaps = [];
       } ∷
       record {
         events = tried 2 1 0 4 1 0 (Newer (lock 0 0 1 1)) ∷ [];
-        reads = item 0 0 (Some (60 ∷ [])) ∷ item 0 1 (Some (60 ∷ [])) ∷ item 0 0 (Some (60 ∷ [])) ∷ item 0 1 (Some (60 ∷ [])) ∷ [];
+        reads = item 0 0 (Some (60 ∷ [])) ∷ item 0 1 (Some (60 ∷ [])) ∷ item 0 0 (Some (60 ∷ [])) ∷ item 0 1
+            (Some (60 ∷ [])) ∷ [];
         locks = lock 0 1 0 0 ∷ [];
         writes = [];
         snaps = [];

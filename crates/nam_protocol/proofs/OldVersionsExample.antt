@@ -22,7 +22,8 @@ of_ring_is_full = record {
 ring_is_full : shown of_ring_is_full [] ≡ record {
   logs =
       record {
-        events = tried 1 1 0 1 1 1 (Commit 1) ∷ tried 2 1 1 1 1 0 (Full (lock 0 0 0 0)) ∷ tried 3 1 1 1 1 0 (Full (lock 0 0 0 0)) ∷ [];
+        events = tried 1 1 0 1 1 1 (Commit 1) ∷ tried 2 1 1 1 1 0 (Full (lock 0 0 0 0)) ∷ tried 3 1 1 1 1 0
+            (Full (lock 0 0 0 0)) ∷ [];
         reads = item 0 0 (Some (0 ∷ [])) ∷ item 0 0 (Some (1 ∷ [])) ∷ item 0 0 (Some (1 ∷ [])) ∷ [];
         locks = lock 0 0 0 0 ∷ lock 0 0 1 1 ∷ lock 0 0 1 1 ∷ [];
         writes = item 0 0 (Some (1 ∷ [])) ∷ [];
@@ -47,7 +48,8 @@ of_reader_finds_cell = record {
 reader_finds_cell : shown of_reader_finds_cell [] ≡ record {
   logs =
       record {
-        events = tried 1 1 0 1 1 1 (Commit 1) ∷ move 0 0 0 0 0 move_done ∷ tried 2 1 1 1 1 1 (Commit 2) ∷ move 0 0 0 1 1 move_done ∷ [];
+        events = tried 1 1 0 1 1 1 (Commit 1) ∷ move 0 0 0 0 0 move_done ∷ tried 2 1 1 1 1 1
+            (Commit 2) ∷ move 0 0 0 1 1 move_done ∷ [];
         reads = item 0 0 (Some (5 ∷ [])) ∷ item 0 0 (Some (6 ∷ [])) ∷ [];
         locks = lock 0 0 0 0 ∷ lock 0 0 1 1 ∷ [];
         writes = item 0 0 (Some (6 ∷ [])) ∷ item 0 0 (Some (7 ∷ [])) ∷ [];
@@ -79,7 +81,8 @@ of_reader_too_old = record {
 reader_too_old : shown of_reader_too_old [] ≡ record {
   logs =
       record {
-        events = tried 1 1 0 1 1 1 (Commit 1) ∷ move 0 0 0 0 0 move_done ∷ tried 2 1 1 1 1 1 (Commit 2) ∷ NoRoom 0 ∷ Collected 0 2 (2 ∷ 0 ∷
+        events = tried 1 1 0 1 1 1 (Commit 1) ∷ move 0 0 0 0 0 move_done ∷ tried 2 1 1 1 1 1
+            (Commit 2) ∷ NoRoom 0 ∷ Collected 0 2 (2 ∷ 0 ∷
             []) false ∷ move 0 0 0 1 1 move_done ∷ [];
         reads = item 0 0 (Some (5 ∷ [])) ∷ item 0 0 (Some (6 ∷ [])) ∷ [];
         locks = lock 0 0 0 0 ∷ lock 0 0 1 1 ∷ [];

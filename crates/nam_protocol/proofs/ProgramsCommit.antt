@@ -45,30 +45,36 @@ module _ (worker : ℕ) (places : List Place) (seen : List ℕ) where
   abbrev IsLock : Now LockPlace LockEnd → Prog LockEnd → Type 0
   IsLock = IsProgram (standing (lock_verb worker places)) (taking (lock_after places seen))
 
-  back_is : (held : List ℕ) (found : ℕ) → IsLock (give_back places held 0 found) (give_all_back worker places seen held found)
+  back_is : (held : List ℕ) (found : ℕ)
+      → IsLock (give_back places held 0 found) (give_all_back worker places seen held found)
   back_is held found =
-      writes_left (standing (lock_verb worker places)) (taking (lock_after places seen)) _ (slice_index held) (length held)
+      writes_left (standing (lock_verb worker places)) (taking (lock_after places seen)) _ (slice_index held)
+      (length held)
       (λ nth. At (GiveBack held nth found)) (Over (loss_of (nth_place places (length held)).form (length held) found)) _
       (λ nth. refl) (λ nth word. refl) refl (length held) 0 (omega arith)
 
   locks_from : (rest : ℕ) (held : List ℕ) → length held + rest ≡ length places
       → IsLock (lock_next places held) (lock_records worker places seen rest held)
   locks_from zero held e =
-      at_last (λ call. IsLock call (lock_records worker places seen zero held)) (length held) (length places) _ _ (omega arith) refl
+      at_last (λ call. IsLock call (lock_records worker places seen zero held)) (length held) (length places) _ _
+      (omega arith) refl
   locks_from (suc rest) held e =
-      before_last (λ call. IsLock call (lock_records worker places seen (suc rest) held)) (length held) (length places) _ _ rest (omega arith) (
+      before_last (λ call. IsLock call (lock_records worker places seen (suc rest) held)) (length held)
+      (length places) _ _ rest (omega arith) (
       word_then refl λ header.
       both IsLock (is_locked (nth_place places (length held)).form header) _ _ _ _ (λ t. back_is held header) λ t.
       both_not IsLock (sees (nth_place places (length held)).form seen header) _ _ _ _ (λ t. back_is held header) λ t.
       word_then refl λ found.
       both IsLock (found == header) _ _ _ _
-      (λ t. let l = length-append held (header ∷ []) in locks_from rest (held ++ header ∷ []) (omega arith)) (λ t. back_is held found))
+      (λ t. let l = length-append held (header ∷ []) in locks_from rest (held ++ header ∷ []) (omega arith))
+      (λ t. back_is held found))
 
   -- there is a record to be locked
   locks_are : 0 < length places → IsLock (At lock_begin) (lock_records worker places seen (length places) [])
   locks_are l =
       let t : (0 == length places) ≡ false = grind (arith, nat_tests) in
-      subst (λ b. IsLock (if b then Over (lock_end.Held []) else At (Peek [])) (lock_records worker places seen (length places) [])) t
+      subst (λ b. IsLock (if b then Over (lock_end.Held []) else At (Peek []))
+      (lock_records worker places seen (length places) [])) t
       (locks_from (length places) [] (omega arith))
 
 -- 2. A commit whose records stand
@@ -81,42 +87,56 @@ module _ (shape : Shape) (state : TxnState) where
   abbrev with_locks : List ℕ → List ℕ → TxnState
   with_locks held counts = record state { held = held; counts = counts }
 
-  module _ (some : 0 < length state.writes) (each : length state.writes ≤ length state.records) (all : length (places state) ≡ length state.records)
+  module _ (some : 0 < length state.writes) (each : length state.writes ≤ length state.records)
+      (all : length (places state) ≡ length state.records)
       (wide : (nth : ℕ) → nth < length state.writes → 0 < (place_at state nth).width) where
     -- the entry and the guards
     publish_is : (held counts : List ℕ) → IsTxn (go (with_locks held counts) Publishing) (publish state held)
     publish_is held counts =
         word_then refl λ found.
-        writes_left (txn_stands shape) (txn_takes shape) (λ k. (nth_place (places state) k).header_at) (slice_index held) (length state.records)
-        (λ nth. go (with_locks held counts) (Freeing nth)) (answered (with_locks held counts) (Committed (state.last + 1))) _
-        (λ nth. refl) (λ nth word. refl) refl (length state.records - length state.writes) (length state.writes) (omega arith)
+        writes_left (txn_stands shape) (txn_takes shape) (λ k. (nth_place (places state) k).header_at)
+        (slice_index held) (length state.records)
+        (λ nth. go (with_locks held counts) (Freeing nth))
+        (answered (with_locks held counts) (Committed (state.last + 1))) _
+        (λ nth. refl) (λ nth word. refl) refl (length state.records - length state.writes) (length state.writes)
+        (omega arith)
 
     -- the new version of the nth record, where what follows is known
-    install_is : (held counts : List ℕ) (nth : ℕ) (value : Option (List ℕ)) (next : Prog TxnAnswer) → 0 < (place_at state nth).width
+    install_is : (held counts : List ℕ) (nth : ℕ) (value : Option (List ℕ)) (next : Prog TxnAnswer)
+        → 0 < (place_at state nth).width
         → IsTxn (go (with_locks held counts) (Installing nth InstallCount)) next
         → IsTxn (go (with_locks held counts) (Installing nth (install_begin value)))
-        (write_words (word_at (place_at state nth)) (word_in (value_at state nth)) (data_words state (place_at state nth) value) 0 >>= λ end. next)
+        (write_words (word_at (place_at state nth)) (word_in (value_at state nth))
+        (data_words state (place_at state nth) value) 0 >>= λ end. next)
     install_is held counts nth None next l f = f
     install_is held counts nth (Some value) next l f =
-        writes_is (txn_stands shape) (txn_takes shape) (word_at (place_at state nth)) (word_in (value_at state nth)) (place_at state nth).width
-        (λ k. go (with_locks held counts) (Installing nth (InstallWord k))) (go (with_locks held counts) (Installing nth InstallCount)) next
+        writes_is (txn_stands shape) (txn_takes shape) (word_at (place_at state nth)) (word_in (value_at state nth))
+        (place_at state nth).width
+        (λ k. go (with_locks held counts) (Installing nth (InstallWord k)))
+        (go (with_locks held counts) (Installing nth InstallCount)) next
         (λ k. refl)
-        (λ k found. if_in (on_install (with_locks held counts) nth) (k + 1 == (place_at state nth).width) _ (At (InstallWord (k + 1)))) f l
+        (λ k found. if_in (on_install (with_locks held counts) nth) (k + 1 == (place_at state nth).width) _
+        (At (InstallWord (k + 1)))) f l
 
     -- one record: its words, the copy, the new version
     record_is : (held counts : List ℕ) (rest nth : ℕ) → 0 < (place_at state nth).width
-        → IsTxn (on_install (with_locks held counts) nth (Over tt)) (replace_versions state held counts (publish state held) rest (nth + 1))
-        → IsTxn (go (with_locks held counts) (Saving nth [])) (replace_versions state held counts (publish state held) (suc rest) nth)
+        → IsTxn (on_install (with_locks held counts) nth (Over tt))
+        (replace_versions state held counts (publish state held) rest (nth + 1))
+        → IsTxn (go (with_locks held counts) (Saving nth []))
+        (replace_versions state held counts (publish state held) (suc rest) nth)
     record_is held counts rest nth l next =
         let s = with_locks held counts in let place = place_at state nth in
         words_is (txn_stands shape) (txn_takes shape) (word_at place) place.width
         (λ got. go s (Saving nth got)) (λ got. go s (Copying nth got CopyMark)) _ (λ got. refl)
-        (λ got word. if_in (on_words s nth) (length (got ++ word ∷ []) == place.width) (Over (got ++ word ∷ [])) (At (got ++ word ∷ []))) l λ old e.
+        (λ got word. if_in (on_words s nth) (length (got ++ word ∷ []) == place.width) (Over (got ++ word ∷ []))
+        (At (got ++ word ∷ []))) l λ old e.
         word_then refl λ marked.
         word_then refl λ ended.
-        writes_is (txn_stands shape) (txn_takes shape) (slot_word_at place (slot_of place (slice_index counts nth))) (slice_index old) place.width
+        writes_is (txn_stands shape) (txn_takes shape) (slot_word_at place (slot_of place (slice_index counts nth)))
+        (slice_index old) place.width
         (λ k. go s (Copying nth old (CopyWord k))) (go s (Copying nth old CopyHead)) _
-        (λ k. refl) (λ k found. if_in (on_copy s nth old) (k + 1 == place.width) (At CopyHead) (At (CopyWord (k + 1)))) (
+        (λ k. refl)
+        (λ k found. if_in (on_copy s nth old) (k + 1 == place.width) (At CopyHead) (At (CopyWord (k + 1)))) (
         word_then refl λ copied.
         install_is held counts nth (value_at state nth) _ l (
         word_then refl λ counted.
@@ -124,39 +144,47 @@ module _ (shape : Shape) (state : TxnState) where
         next)) l
 
     records_from : (held counts : List ℕ) (rest nth : ℕ) → nth + suc rest ≡ length state.writes
-        → IsTxn (go (with_locks held counts) (Saving nth [])) (replace_versions state held counts (publish state held) (suc rest) nth)
+        → IsTxn (go (with_locks held counts) (Saving nth []))
+        (replace_versions state held counts (publish state held) (suc rest) nth)
     records_from held counts zero nth e =
         record_is held counts zero nth (wide nth (omega arith))
-        (is_last (λ call. IsTxn call (publish state held)) nth (length state.writes) _ _ (omega arith) (publish_is held counts))
+        (is_last (λ call. IsTxn call (publish state held)) nth (length state.writes) _ _ (omega arith)
+        (publish_is held counts))
     records_from held counts (suc rest) nth e =
         record_is held counts (suc rest) nth (wide nth (omega arith))
-        (is_more (λ call. IsTxn call (replace_versions state held counts (publish state held) (suc rest) (nth + 1))) nth (length state.writes) _ _
+        (is_more (λ call. IsTxn call (replace_versions state held counts (publish state held) (suc rest) (nth + 1)))
+        nth (length state.writes) _ _
         rest (omega arith)
         (records_from held counts rest (nth + 1) (omega arith)))
 
     records_are : (held counts : List ℕ) (count : ℕ) → count ≡ length state.writes
-        → IsTxn (go (with_locks held counts) (Saving 0 [])) (replace_versions state held counts (publish state held) count 0)
+        → IsTxn (go (with_locks held counts) (Saving 0 []))
+        (replace_versions state held counts (publish state held) count 0)
     records_are held counts zero e = absurd (omega arith)
     records_are held counts (suc rest) e = records_from held counts rest 0 (omega arith)
 
     -- a slot is not free: all locks are written back
     full_is : (held counts : List ℕ) (nth found : ℕ)
-        → IsTxn (go (with_locks held counts) (Returning 0 (lock_at state nth found))) (after_check state held (NotFree nth found))
+        → IsTxn (go (with_locks held counts) (Returning 0 (lock_at state nth found)))
+        (after_check state held (NotFree nth found))
     full_is held counts nth found =
         let s = with_locks held counts in let full = lock_at state nth found in
-        writes_is (txn_stands shape) (txn_takes shape) (λ k. (nth_place (places state) k).header_at) (slice_index held) (length (places state))
+        writes_is (txn_stands shape) (txn_takes shape) (λ k. (nth_place (places state) k).header_at)
+        (slice_index held) (length (places state))
         (λ k. go s (Returning k full)) (answered s (Full full)) _ (λ k. refl)
         (λ k word. if_in (on_return s full) (k + 1 == length (places state)) (Over tt) (At (k + 1))) refl (omega arith)
 
     checks_from : (held : List ℕ) (rest : ℕ) (counts : List ℕ) → length counts + rest ≡ length state.writes
         → IsTxn (next_check (with_locks held counts)) (check_slots state rest counts >>= after_check state held)
     checks_from held zero counts e =
-        at_last (λ call. IsTxn call (check_slots state zero counts >>= after_check state held)) (length counts) (length state.writes) _ _
+        at_last (λ call. IsTxn call (check_slots state zero counts >>= after_check state held)) (length counts)
+        (length state.writes) _ _
         (omega arith)
         (records_are held counts (length state.writes) refl)
     checks_from held (suc rest) counts e =
         let s = with_locks held counts in let place = place_at state (length counts) in
-        before_last (λ call. IsTxn call (check_slots state (suc rest) counts >>= after_check state held)) (length counts) (length state.writes) _ _
+        before_last (λ call. IsTxn call (check_slots state (suc rest) counts >>= after_check state held))
+        (length counts) (length state.writes) _ _
         rest (omega arith) (
         word_then refl λ count.
         word_then refl λ header.
@@ -166,24 +194,28 @@ module _ (shape : Shape) (state : TxnState) where
         (λ t. full_is held counts (length counts) header))
 
     checks_are : (held : List ℕ)
-        → IsTxn (go (with_locks held []) (Checking CheckCount)) (check_slots state (length state.writes) [] >>= after_check state held)
+        → IsTxn (go (with_locks held []) (Checking CheckCount))
+        (check_slots state (length state.writes) [] >>= after_check state held)
     checks_are held =
         let t : (0 == length state.writes) ≡ false = grind (arith, nat_tests) in
         let s = with_locks held [] in
-        subst (λ b. IsTxn (if b then go s (Saving 0 []) else go s (Checking CheckCount)) (check_slots state (length state.writes) []
+        subst (λ b. IsTxn (if b then go s (Saving 0 []) else go s (Checking CheckCount))
+        (check_slots state (length state.writes) []
         >>= after_check state held)) t
         (checks_from held (length state.writes) [] (omega arith))
 
     after_locks_is : state.counts ≡ [] → (end : LockEnd) → IsTxn (on_lock state (Over end)) (after_locks state end)
     after_locks_is fresh (lock_end.Held held) =
-        subst (λ counts. IsTxn (go (with_locks held counts) (Checking CheckCount)) (after_locks state (lock_end.Held held))) (sym fresh)
+        subst (λ counts. IsTxn (go (with_locks held counts) (Checking CheckCount))
+        (after_locks state (lock_end.Held held))) (sym fresh)
         (checks_are held)
     after_locks_is fresh (lock_end.Locked nth found) = refl
     after_locks_is fresh (lock_end.Newer nth found) = refl
 
     pub records_commit : state.counts ≡ [] → IsTxn (go state (Locking lock_begin)) (commit_records state)
     records_commit fresh =
-        part_is (txn_stands shape) (txn_takes shape) (lock_verb state.worker (places state)) (lock_after (places state) state.seen) (on_lock state)
+        part_is (txn_stands shape) (txn_takes shape) (lock_verb state.worker (places state))
+        (lock_after (places state) state.seen) (on_lock state)
         (λ place. refl) (λ place found. refl) _ (after_locks_is fresh) (At lock_begin) _
         (locks_are state.worker (places state) state.seen (omega arith))
 
@@ -202,7 +234,8 @@ records_enough state =
 
 pub commits_are_programs : CommitIsProgram
 commits_are_programs shape state wide =
-    the_program (txn_stands shape) (txn_takes shape) _ _ (both (IsTxn shape state) (length state.writes == 0) _ _ _ _ (λ e. refl) (λ e.
+    the_program (txn_stands shape) (txn_takes shape) _ _
+    (both (IsTxn shape state) (length state.writes == 0) _ _ _ _ (λ e. refl) (λ e.
     both (IsTxn shape state) (state.last == greatest_number shape.form) _ _ _ _ (λ f. refl) (λ f.
     let some : 0 < length state.writes = grind (arith, nat_tests) in
     records_commit shape (committing state) some (records_enough state) (length_places (committing state)) wide refl)))

@@ -22,15 +22,18 @@ module _ (shape : Shape) where
   workers_rest : (run : Run) → HasEnded shape run.world → (workers : List ℕ) → after_workers shape run workers ≡ run
   unfolding after_workers
   workers_rest run ended [] = refl
-  workers_rest run ended (worker ∷ workers) = ap (λ r. after_workers shape r workers) (turn_rests run ended worker) ∙ workers_rest run ended workers
+  workers_rest run ended (worker ∷ workers) =
+      ap (λ r. after_workers shape r workers) (turn_rests run ended worker) ∙ workers_rest run ended workers
 
   pub rounds_rest : (run : Run) → HasEnded shape run.world → (rounds : ℕ) → after_rounds shape rounds run ≡ run
   unfolding after_rounds
   rounds_rest run ended zero = refl
   rounds_rest run ended (suc rounds) =
-      ap (λ r. after_rounds shape rounds r) (workers_rest run ended (numbers_from 1 shape.workers)) ∙ rounds_rest run ended rounds
+      ap (λ r. after_rounds shape rounds r) (workers_rest run ended (numbers_from 1 shape.workers))
+      ∙ rounds_rest run ended rounds
 
-  pub rounds_add : (a b : ℕ) (run : Run) → after_rounds shape (a + b) run ≡ after_rounds shape b (after_rounds shape a run)
+  pub rounds_add : (a b : ℕ) (run : Run)
+      → after_rounds shape (a + b) run ≡ after_rounds shape b (after_rounds shape a run)
   unfolding after_rounds
   rounds_add zero b run = let e : 0 + b ≡ b = omega arith in ap (λ n. after_rounds shape n run) e
   rounds_add (suc a) b run =
@@ -38,7 +41,8 @@ module _ (shape : Shape) where
       ap (λ n. after_rounds shape n run) e ∙ rounds_add a b (after_round shape run)
 
 -- the rounds of one run and of another, in either order
-pub simulated_once : (c : Scenario) (lines : List Line) (run other : Run) → Simulated c lines run → Simulated c lines other → run ≡ other
+pub simulated_once : (c : Scenario) (lines : List Line) (run other : Run) → Simulated c lines run
+    → Simulated c lines other → run ≡ other
 unfolding after_rounds
 simulated_once c lines run other a b =
     let start = simulated c lines 0 in

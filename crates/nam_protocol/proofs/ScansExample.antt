@@ -23,7 +23,8 @@ scan_with_own_writes : shown of_scan_with_own_writes [] ≡ record {
   logs =
       record {
         events = tried 1 1 0 2 2 2 (Commit 1) ∷ tried 2 1 1 3 0 0 ReadOnly ∷ [];
-        reads = item 0 2 (Some (20 ∷ [])) ∷ item 0 3 (Some (30 ∷ [])) ∷ item 0 2 (Some (20 ∷ [])) ∷ item 0 3 (Some (30 ∷ [])) ∷
+        reads = item 0 2 (Some (20 ∷ [])) ∷ item 0 3 (Some (30 ∷ [])) ∷ item 0 2 (Some (20 ∷ [])) ∷ item 0 3
+            (Some (30 ∷ [])) ∷
             item 0 7 (Some (70 ∷ [])) ∷ [];
         locks = lock 0 2 0 0 ∷ lock 0 1 0 0 ∷ [];
         writes = item 0 2 (Some (20 ∷ [])) ∷ item 0 1 None ∷ [];
@@ -49,7 +50,8 @@ scan_before_own_writes : shown of_scan_before_own_writes [] ≡ record {
   logs =
       record {
         events = tried 1 1 0 2 2 2 (Commit 1) ∷ tried 2 1 1 3 0 0 ReadOnly ∷ [];
-        reads = item 0 1 (Some (10 ∷ [])) ∷ item 0 3 (Some (30 ∷ [])) ∷ item 0 2 (Some (20 ∷ [])) ∷ item 0 3 (Some (30 ∷ [])) ∷
+        reads = item 0 1 (Some (10 ∷ [])) ∷ item 0 3 (Some (30 ∷ [])) ∷ item 0 2 (Some (20 ∷ [])) ∷ item 0 3
+            (Some (30 ∷ [])) ∷
             item 0 7 (Some (70 ∷ [])) ∷ [];
         locks = lock 0 2 0 0 ∷ lock 0 1 0 0 ∷ [];
         writes = item 0 2 (Some (20 ∷ [])) ∷ item 0 1 None ∷ [];
@@ -138,7 +140,8 @@ of_scan_finds_cell = record {
 scan_finds_cell : shown of_scan_finds_cell [] ≡ record {
   logs =
       record {
-        events = tried 1 1 0 1 1 1 (Commit 1) ∷ move 0 0 0 0 0 move_done ∷ tried 2 1 1 1 1 1 (Commit 2) ∷ move 0 0 0 1 1 move_done ∷ [];
+        events = tried 1 1 0 1 1 1 (Commit 1) ∷ move 0 0 0 0 0 move_done ∷ tried 2 1 1 1 1 1
+            (Commit 2) ∷ move 0 0 0 1 1 move_done ∷ [];
         reads = item 0 0 (Some (5 ∷ [])) ∷ item 0 0 (Some (6 ∷ [])) ∷ [];
         locks = lock 0 0 0 0 ∷ lock 0 0 1 1 ∷ [];
         writes = item 0 0 (Some (6 ∷ [])) ∷ item 0 0 (Some (7 ∷ [])) ∷ [];
@@ -170,7 +173,8 @@ of_scan_is_too_old = record {
 scan_is_too_old : shown of_scan_is_too_old [] ≡ record {
   logs =
       record {
-        events = tried 1 1 0 1 1 1 (Commit 1) ∷ move 0 0 0 0 0 move_done ∷ tried 2 1 1 1 1 1 (Commit 2) ∷ NoRoom 0 ∷ Collected 0 2 (2 ∷ 0 ∷
+        events = tried 1 1 0 1 1 1 (Commit 1) ∷ move 0 0 0 0 0 move_done ∷ tried 2 1 1 1 1 1
+            (Commit 2) ∷ NoRoom 0 ∷ Collected 0 2 (2 ∷ 0 ∷
             []) false ∷ move 0 0 0 1 1 move_done ∷ [];
         reads = item 0 0 (Some (5 ∷ [])) ∷ item 0 0 (Some (6 ∷ [])) ∷ [];
         locks = lock 0 0 0 0 ∷ lock 0 0 1 1 ∷ [];

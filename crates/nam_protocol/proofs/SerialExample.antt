@@ -113,7 +113,8 @@ of_delete_and_put = record {
   shape = shape Narrow 1 (table 2 2 4 ∷ []) 1 1 0;
   rows = loaded 0 0 (1 ∷ 2 ∷ []) ∷ [];
   policy = record { tries = 1; tidy = false };
-  txns = txn 1 (Del 0 0 ∷ Get 0 0 ∷ []) ∷ txn 1 (Get 0 0 ∷ Put 0 0 (3 ∷ 4 ∷ []) ∷ Put 0 0 (5 ∷ 6 ∷ []) ∷ Get 0 0 ∷ []) ∷ [];
+  txns = txn 1 (Del 0 0 ∷ Get 0 0 ∷ []) ∷ txn 1
+      (Get 0 0 ∷ Put 0 0 (3 ∷ 4 ∷ []) ∷ Put 0 0 (5 ∷ 6 ∷ []) ∷ Get 0 0 ∷ []) ∷ [];
   schedule = Stints ([]);
 }
 
@@ -163,7 +164,8 @@ of_declined = record {
   shape = shape Narrow 1 (table 1 1 1 ∷ []) 1 1 0;
   rows = loaded 0 0 (5 ∷ []) ∷ [];
   policy = record { tries = 1; tidy = false };
-  txns = txn 1 (Need 0 0 1 6 ∷ []) ∷ txn 1 (Add 0 0 1 true 18446744073709551615 ∷ []) ∷ txn 1 (Add 0 0 1 false 6 ∷ []) ∷ [];
+  txns = txn 1 (Need 0 0 1 6 ∷ []) ∷ txn 1 (Add 0 0 1 true 18446744073709551615 ∷ []) ∷ txn 1
+      (Add 0 0 1 false 6 ∷ []) ∷ [];
   schedule = Stints ([]);
 }
 

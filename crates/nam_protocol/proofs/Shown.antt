@@ -1,4 +1,5 @@
--- What examples compare: the closed world of a simulated run without the logs' snapshots; and short words for scenarios.
+-- What examples compare: the closed world of a simulated run without the logs' snapshots; and short words for
+-- scenarios.
 use Rattle.std.specs.Prelude.{ℕ, Bool, List, [], map, Option, Some, None}
 use Rattle.si_model.specs.declared.row.Row.{Row}
 use Rattle.si_model.specs.declared.row.Item.{Item}
@@ -25,7 +26,8 @@ bare log = record log { snaps = [] }
 
 -- the closed world after the schedule and as many rounds as it takes
 abbrev pub shown : Scenario → List Line → Closed
-shown c lines = let done = closed c.shape (run_to_end 1000000 c lines).world in record done { logs = map bare done.logs }
+shown c lines =
+    let done = closed c.shape (run_to_end 1000000 c lines).world in record done { logs = map bare done.logs }
 
 -- 2. Scenarios
 
@@ -66,10 +68,19 @@ lock table key thread number = record { table = table; key = key; stamp = record
 -- transaction, try, prefix, numbers of reads, locks and writes, and the outcome
 abbrev pub tried : ℕ → ℕ → ℕ → ℕ → ℕ → ℕ → Outcome → Event
 tried txn nth prefix reads locks writes outcome =
-    Tried record { txn = txn; nth = nth; prefix = Some prefix; reads = reads; locks = locks; writes = writes; outcome = outcome }
+    Tried record {
+      txn = txn;
+      nth = nth;
+      prefix = Some prefix;
+      reads = reads;
+      locks = locks;
+      writes = writes;
+      outcome = outcome;
+    }
 
 abbrev pub unbegun : ℕ → ℕ → Outcome → Event
-unbegun txn nth outcome = Tried record { txn = txn; nth = nth; prefix = None; reads = 0; locks = 0; writes = 0; outcome = outcome }
+unbegun txn nth outcome =
+    Tried record { txn = txn; nth = nth; prefix = None; reads = 0; locks = 0; writes = 0; outcome = outcome }
 
 -- bucket, table, key, the version's stamp, and how the move ended
 abbrev pub move : ℕ → ℕ → ℕ → ℕ → ℕ → MoveEnd → Event

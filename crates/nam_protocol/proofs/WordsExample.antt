@@ -32,7 +32,8 @@ blank_is_whole = refl
 
 -- key 3 is loaded at position 1, and key 5 then at position 0
 loaded_words : opening_words small (loaded 0 3 (30 ∷ []) ∷ loaded 0 5 (50 ∷ []) ∷ [])
-    ≡ 0 ∷ 0 ∷ 6 ∷ 0 ∷ 0 ∷ 50 ∷ 5 ∷ 0 ∷ 0 ∷ 4 ∷ 0 ∷ 0 ∷ 30 ∷ 5 ∷ 0 ∷ 0 ∷ 0 ∷ 0 ∷ 0 ∷ 0 ∷ 0 ∷ 0 ∷ 0 ∷ 0 ∷ 0 ∷ 0 ∷ 0 ∷ 0 ∷ []
+    ≡ 0 ∷ 0 ∷ 6 ∷ 0 ∷ 0 ∷ 50 ∷ 5 ∷ 0 ∷ 0 ∷ 4 ∷ 0 ∷ 0 ∷ 30 ∷ 5 ∷ 0 ∷ 0 ∷ 0 ∷ 0 ∷ 0 ∷ 0 ∷ 0 ∷ 0 ∷ 0 ∷ 0 ∷ 0 ∷ 0 ∷ 0 ∷
+    0 ∷ []
 unfolding copies load_from
 loaded_words = refl
 
@@ -47,7 +48,8 @@ first_pick : pick (next_state 1) 16 ≡ 6
 first_pick = refl
 
 -- a need and two adds on a table of one word, two positions and a ring of one slot, beside one cell and one worker
-transfer_bound : verb_bound small (Need 0 0 1 10 ∷ Add 0 0 1 false 10 ∷ Add 0 1 1 false 10 ∷ []) ≡ 2 + 3 * (2 + 20) + 2 * 4 + 2 * 12 + 1
+transfer_bound : verb_bound small (Need 0 0 1 10 ∷ Add 0 0 1 false 10 ∷ Add 0 1 1 false 10 ∷ []) ≡ 2 + 3 * (2 + 20)
+    + 2 * 4 + 2 * 12 + 1
 transfer_bound = refl
 
 -- a scan of that table

@@ -34,7 +34,8 @@ pub record TableReaches (shape : Shape) (table : ℕ) : Type 0 where
       → Reaches shape (find_verb shape table key passed) (path_field shape table key passed)
   pub claim_key : (key : ℕ) (at : ClaimKeyPlace) → ClaimKeyFits (capacity_of shape table) at
       → Reaches shape (claim_key_verb shape table key at) (claim_key_field shape table key at)
-  pub read : (position : ℕ) (at : ReadPlace) → position < capacity_of shape table → ReadFits (sight_of shape table position) at
+  pub read : (position : ℕ) (at : ReadPlace) → position < capacity_of shape table
+      → ReadFits (sight_of shape table position) at
       → Reaches shape (read_verb (sight_of shape table position) at) (read_field (sight_of shape table position) at)
   pub scan : (at : ScanPlace) → ScanFits shape table at
       → Reaches shape (scan_verb shape table at) (scan_field shape table at)
@@ -43,12 +44,14 @@ abbrev pub TableReachesLaw : Type 0
 TableReachesLaw = (shape : Shape) → FitsLimits shape → (table : ℕ) → IsTableOf shape table → TableReaches shape table
 
 abbrev pub TxnReachesLaw : Type 0
-TxnReachesLaw = (shape : Shape) → FitsLimits shape → (state : TxnState) (place : TxnPlace) → StateFits shape state → TxnPlaceFits shape state place
+TxnReachesLaw = (shape : Shape) → FitsLimits shape → (state : TxnState) (place : TxnPlace) → StateFits shape state
+    → TxnPlaceFits shape state place
     → Reaches shape (txn_verb shape state place) (txn_field shape state place)
 
 abbrev pub CallReachesLaw : Type 0
 CallReachesLaw =
-    (shape : Shape) → FitsLimits shape → (client : ClientState) (place : CallPlace) → ClientFits shape client → client.call ≡ Some (At place)
+    (shape : Shape) → FitsLimits shape → (client : ClientState) (place : CallPlace) → ClientFits shape client
+    → client.call ≡ Some (At place)
     → Reaches shape (call_verb shape client place) (call_field shape client place)
 
 -- 2. The word there is one of the shape's, and the field is the one that stands at its address
@@ -60,5 +63,6 @@ WithinLaw = (shape : Shape) (verb : Verb) (field : Field) → Reaches shape verb
 -- a client's next verb
 abbrev pub ClientWithinLaw : Type 0
 ClientWithinLaw =
-    (shape : Shape) → FitsLimits shape → (client : ClientState) (verb : Verb) → ClientFits shape client → client_verb shape client ≡ Some verb
+    (shape : Shape) → FitsLimits shape → (client : ClientState) (verb : Verb) → ClientFits shape client
+    → client_verb shape client ≡ Some verb
     → address_of verb < words_of shape

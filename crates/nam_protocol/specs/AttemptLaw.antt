@@ -58,10 +58,12 @@ abbrev pub NewAskedLaw : Type 0
 NewAskedLaw = (worker last : ℕ) (seen : List ℕ) → HasAsked (new_txn worker last seen) []
 
 abbrev pub AskLaw : Type 0
-AskLaw = (shape : Shape) (state : TxnState) (ops : List Op) (op : Op) → HasAsked state ops → Asks ops op (ask_op shape state op)
+AskLaw = (shape : Shape) (state : TxnState) (ops : List Op) (op : Op) → HasAsked state ops
+    → Asks ops op (ask_op shape state op)
 
 abbrev pub TakeLaw : Type 0
-TakeLaw = (shape : Shape) (state : TxnState) (ops : List Op) (op : Op) (place : TxnPlace) (found : ℕ) → HasAsked state ops → IsOfOp op place
+TakeLaw = (shape : Shape) (state : TxnState) (ops : List Op) (op : Op) (place : TxnPlace) (found : ℕ)
+    → HasAsked state ops → IsOfOp op place
     → Asks ops op (txn_after shape state place found)
 
 -- the snapshot, the operations, and the commit after them

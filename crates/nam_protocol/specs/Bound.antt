@@ -42,10 +42,13 @@ rest_from state nth = installs_most (written_from state nth) + publish_most stat
 
 abbrev pub commit_left : TxnState → CommitPlace → ℕ
 commit_left state (Locking at) = lock_left (places state) (2 * length state.writes + rest_from state 0) at
-commit_left state (Checking at) = slot_left at + (2 * (length state.writes - length state.counts - 1) + rest_from state 0)
+commit_left state (Checking at) =
+    slot_left at + (2 * (length state.writes - length state.counts - 1) + rest_from state 0)
 commit_left state (Returning given full) = unlock_left (places state) given
-commit_left state (Saving nth got) = words_left (place_at state nth) got + (2 * (place_at state nth).width + 5) + rest_from state (nth + 1)
-commit_left state (Copying nth old at) = copy_left (place_at state nth) at + ((place_at state nth).width + 2) + rest_from state (nth + 1)
+commit_left state (Saving nth got) =
+    words_left (place_at state nth) got + (2 * (place_at state nth).width + 5) + rest_from state (nth + 1)
+commit_left state (Copying nth old at) =
+    copy_left (place_at state nth) at + ((place_at state nth).width + 2) + rest_from state (nth + 1)
 commit_left state (Installing nth at) = install_left (place_at state nth) at + rest_from state (nth + 1)
 commit_left state Publishing = publish_most state
 commit_left state (Freeing nth) = unlock_left (places state) nth

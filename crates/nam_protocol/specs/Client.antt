@@ -57,7 +57,8 @@ module _ (shape : Shape) where
   abbrev pub ask_scan : ClientState → ℕ → ℕ → ℕ → Option Open → ClientState
   ask_scan client table low high None = client
   ask_scan client table low high (Some attempt) =
-      let counted = record attempt { ops = attempt.ops + 1; ops_so_far = attempt.ops_so_far + capacity_of shape table } in
+      let counted =
+      record attempt { ops = attempt.ops + 1; ops_so_far = attempt.ops_so_far + capacity_of shape table } in
       go (record client { txn = Some counted; scanned = [] }) (Scanning table low high scan_begin)
 
   abbrev pub client_ask : ClientState → Call → ClientState
@@ -97,9 +98,11 @@ module _ (shape : Shape) where
   on_begin client txn nth (At place) = go client (Beginning txn nth place)
   on_begin client txn nth (Over (snap_end.Done seen)) =
       let prefix = prefix_of client.start seen in
-      answered (record client { log = with_snap client.log seen; txn = Some (opened client txn nth prefix seen) }) (client_answer.Begun prefix)
+      answered (record client { log = with_snap client.log seen; txn = Some (opened client txn nth prefix seen) })
+      (client_answer.Begun prefix)
   on_begin client txn nth (Over (snap_end.Again worker first second)) =
-      answered (told client (unbegun txn nth (outcome.Again worker first second))) (client_answer.Again worker first second)
+      answered (told client (unbegun txn nth (outcome.Again worker first second)))
+      (client_answer.Again worker first second)
 
   abbrev pub on_seek : ClientState → ℕ → ℕ → Now ℕ FindEnd → ClientState
   on_seek client table key (At passed) = go client (Seeking table key passed)
@@ -114,12 +117,14 @@ module _ (shape : Shape) where
   on_move client table key position bucket (Over (move_end.Back stamp)) =
       answered (told client (event.Moved bucket table key stamp moved.Back)) client_answer.Back
   on_move client table key position bucket (Over move_end.Nothing) = answered client client_answer.Nothing
-  on_move client table key position bucket (Over (move_end.NoRoom full)) = answered (told client (event.NoRoom full)) (client_answer.NoRoom full)
+  on_move client table key position bucket (Over (move_end.NoRoom full)) =
+      answered (told client (event.NoRoom full)) (client_answer.NoRoom full)
 
   abbrev pub on_snap : ClientState → ℕ → Now SnapPlace SnapEnd → ClientState
   on_snap client bucket (At place) = go client (Snapping bucket place)
   on_snap client bucket (Over (snap_end.Done seen)) =
-      go (record client { log = with_snap client.log seen }) (Collecting bucket (prefix_of client.start seen) seen collect_begin)
+      go (record client { log = with_snap client.log seen })
+      (Collecting bucket (prefix_of client.start seen) seen collect_begin)
   on_snap client bucket (Over (snap_end.Again worker first second)) =
       answered (told client (event.CollectAgain bucket worker first second)) (client_answer.Again worker first second)
 
@@ -130,18 +135,21 @@ module _ (shape : Shape) where
 
   abbrev pub take_txn : ClientState → TxnPlace → Option Open → ℕ → ClientState
   take_txn client at None found = client
-  take_txn client at (Some attempt) found = stepped client attempt (length (taken_at attempt.state at)) (txn_after shape attempt.state at found)
+  take_txn client at (Some attempt) found =
+      stepped client attempt (length (taken_at attempt.state at)) (txn_after shape attempt.state at found)
 
   abbrev pub take_scan : ClientState → ℕ → ℕ → ℕ → ScanPlace → Option Open → ℕ → ClientState
   take_scan client table low high at None found = client
   take_scan client table low high at (Some attempt) found =
-      on_scan shape client attempt table low high (position_of at) (scan_after shape table low high attempt.state.seen at found)
+      on_scan shape client attempt table low high (position_of at)
+      (scan_after shape table low high attempt.state.seen at found)
 
   abbrev pub call_after : ClientState → CallPlace → ℕ → ClientState
   call_after client (Beginning txn nth at) found = on_begin client txn nth (snap.after_word shape.workers at found)
   call_after client (InTxn at) found = take_txn client at client.txn found
   call_after client (Scanning table low high at) found = take_scan client table low high at client.txn found
-  call_after client (Seeking table key passed) found = on_seek client table key (find_after shape table key passed found)
+  call_after client (Seeking table key passed) found =
+      on_seek client table key (find_after shape table key passed found)
   call_after client (Moving table key position at) found =
       let place = place_of shape table position in
       on_move client table key position (bucket_of shape place.row) (move_after place (cells_by shape place) at found)

@@ -62,7 +62,8 @@ module _ (shape : Shape) (words : List ℕ) where
   abbrev pub table_rows : ℕ → ℕ → ℕ → List AuditRow
   table_rows table position zero = []
   table_rows table position (suc rest) =
-      inserted_all (audit_row table (place_of shape table position) (value_under table position)) (table_rows table (position + 1) rest)
+      inserted_all (audit_row table (place_of shape table position) (value_under table position))
+      (table_rows table (position + 1) rest)
 
   abbrev pub tables_rows : ℕ → List Table → List AuditRow
   tables_rows table [] = []

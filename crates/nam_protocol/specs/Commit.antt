@@ -87,7 +87,8 @@ abbrev pub ask_commit : Shape → TxnState → Stepped
 ask_commit shape state =
     if length state.writes == 0 then answered (record state { read = None }) ReadOnly
     else if state.last == greatest_number shape.form then answered (record state { read = None }) Spent
-    else at (record state { read = None; records = records_of state; held = []; counts = [] }) (Committing (Locking lock_begin))
+    else at (record state { read = None; records = records_of state; held = []; counts = [] })
+    (Committing (Locking lock_begin))
 
 -- 3. The verb that stands
 
@@ -117,7 +118,8 @@ on_lock state (Over (lock_end.Newer nth found)) = answered state (Newer (lock_at
 
 -- step 2: the slots of the written records
 abbrev pub next_check : TxnState → Stepped
-next_check state = if length state.counts == length state.writes then go state (Saving 0 words_begin) else go state (Checking slot_begin)
+next_check state = if length state.counts == length state.writes then go state (Saving 0 words_begin)
+    else go state (Checking slot_begin)
 
 abbrev pub on_slot : TxnState → Now SlotPlace SlotEnd → Stepped
 on_slot state (At place) = go state (Checking place)
@@ -144,7 +146,8 @@ on_install state nth (Over done) =
 
 -- steps 4 and 5: the worker's entry, then the guards
 abbrev pub next_free : TxnState → ℕ → Stepped
-next_free state nth = if nth == length state.records then answered state (Committed (state.last + 1)) else go state (Freeing nth)
+next_free state nth =
+    if nth == length state.records then answered state (Committed (state.last + 1)) else go state (Freeing nth)
 
 abbrev pub commit_after : TxnState → CommitPlace → ℕ → Stepped
 commit_after state (Locking at) found = on_lock state (lock_after (places state) state.seen at found)

@@ -50,7 +50,8 @@ cut_call shape client (InTxn at) = cut_open client at client.txn
 cut_call shape client (Scanning table low high at) = left_open client client.txn
 cut_call shape client (Seeking table key passed) = told client (TidyCut table key)
 cut_call shape client (Moving table key position at) =
-    let place = place_of shape table position in cut_move client table key (bucket_of shape place.row) (move_claimed place at)
+    let place = place_of shape table position in
+    cut_move client table key (bucket_of shape place.row) (move_claimed place at)
 cut_call shape client (Snapping bucket at) = told client (CollectCut bucket)
 cut_call shape client (Collecting bucket prefix seen at) = told client (Collected bucket prefix seen true)
 

@@ -115,7 +115,8 @@ on_ask jobs driver nth _ = record driver { place = ToAsk (nth + 1) }
 
 -- a bucket without room is collected once for a key
 abbrev pub on_tidy : DriverState → List Key → ℕ → Bool → Bool → Answer → DriverState
-on_tidy driver keys nth false retry (client_answer.NoRoom bucket) = record driver { place = ToCollect bucket keys nth retry }
+on_tidy driver keys nth false retry (client_answer.NoRoom bucket) =
+    record driver { place = ToCollect bucket keys nth retry }
 on_tidy driver keys nth again retry _ = tidying driver keys (nth + 1) retry
 
 abbrev pub place_taken : List Job → DriverState → DriverPlace → Answer → DriverState

@@ -1,4 +1,5 @@
--- The number of verbs to come of transactions, scans and clients falls with each word taken, and what it is at the begin.
+-- The number of verbs to come of transactions, scans and clients falls with each word taken, and what it is at the
+-- begin.
 use Rattle.std.specs.Prelude.{◌≡◌, ℕ, ◌-◌, ◌<◌, ◌≤◌, false, List, Some}
 use Rattle.nam_verbs.specs.declared.now.Now.TheVariants.{At}
 use Rattle.nam_catalog.specs.declared.shape.Shape.{Shape}
@@ -28,11 +29,13 @@ use Rattle.nam_protocol.specs.ClientFits.{ClientFits, CallFits, call_bound}
 
 abbrev pub TxnLaw : Type 0
 TxnLaw =
-    (shape : Shape) → FitsLimits shape → (state : TxnState) (place : TxnPlace) (found : ℕ) → StateFits shape state → TxnPlaceFits shape state place
+    (shape : Shape) → FitsLimits shape → (state : TxnState) (place : TxnPlace) (found : ℕ) → StateFits shape state
+    → TxnPlaceFits shape state place
     → TxnFalls shape (txn_left shape state place) (txn_after shape state place found)
 
 abbrev pub TxnBeginsLaw : Type 0
-TxnBeginsLaw = (shape : Shape) → FitsLimits shape → (state : TxnState) (call : TxnCall) → StateFits shape state → TxnCallFits shape call
+TxnBeginsLaw = (shape : Shape) → FitsLimits shape → (state : TxnState) (call : TxnCall) → StateFits shape state
+    → TxnCallFits shape call
     → TxnBegins shape (txn_call_bound shape state call) (txn_ask shape state call)
 
 -- 2. A scan: it begins, takes a word, and goes on by its caller's choice after a key or a row
@@ -40,13 +43,18 @@ TxnBeginsLaw = (shape : Shape) → FitsLimits shape → (state : TxnState) (call
 pub record ScanFacts (shape : Shape) (table : ℕ) : Type 0 where
   pub begins : ScanFits shape table scan_begin × (scan_left shape table scan_begin ≤ scan_bound shape table)
   pub falls : (low high : ℕ) (seen : List ℕ) (at : ScanPlace) (found : ℕ) → ScanFits shape table at
-      → FallsTo (ScanFits shape table) (ScanEnds shape table) (scan_left shape table) (after_scan shape table (position_of at))
+      → FallsTo (ScanFits shape table) (ScanEnds shape table) (scan_left shape table)
+      (after_scan shape table (position_of at))
       (scan_left shape table at) (scan_after shape table low high seen at found)
-  pub skips : (position n : ℕ) → position < capacity_of shape table → positions_left shape table (capacity_of shape table - position - 1) < n
-      → FallsTo (ScanFits shape table) (ScanEnds shape table) (scan_left shape table) (after_scan shape table position) n
+  pub skips : (position n : ℕ) → position < capacity_of shape table
+      → positions_left shape table (capacity_of shape table - position - 1) < n
+      → FallsTo (ScanFits shape table) (ScanEnds shape table) (scan_left shape table)
+      (after_scan shape table position) n
       (scan_skip shape table position)
-  pub reads : (position key n : ℕ) → position < capacity_of shape table → scan_left shape table (ScanRead position key read_begin) < n
-      → FallsTo (ScanFits shape table) (ScanEnds shape table) (scan_left shape table) (after_scan shape table position) n
+  pub reads : (position key n : ℕ) → position < capacity_of shape table
+      → scan_left shape table (ScanRead position key read_begin) < n
+      → FallsTo (ScanFits shape table) (ScanEnds shape table) (scan_left shape table)
+      (after_scan shape table position) n
       (scan_read position key)
 
 abbrev pub ScanLaw : Type 0
@@ -55,10 +63,14 @@ ScanLaw = (shape : Shape) → FitsLimits shape → (table : ℕ) → IsTableOf s
 -- 3. A client, which takes a word only where it isn't cut off
 
 abbrev pub ClientLaw : Type 0
-ClientLaw = (shape : Shape) → FitsLimits shape → (client : ClientState) (place : CallPlace) (found : ℕ) → ClientFits shape client
+ClientLaw = (shape : Shape) → FitsLimits shape → (client : ClientState) (place : CallPlace) (found : ℕ)
+    → ClientFits shape client
     → client.cut ≡ false → client.call ≡ Some (At place)
-    → ClientFits shape (client_after shape client found) × (client_left shape (client_after shape client found) < client_left shape client)
+    → ClientFits shape (client_after shape client found)
+    × (client_left shape (client_after shape client found) < client_left shape client)
 
 abbrev pub ClientBeginsLaw : Type 0
-ClientBeginsLaw = (shape : Shape) → FitsLimits shape → (client : ClientState) (call : Call) → ClientFits shape client → CallFits shape client.txn call
-    → ClientFits shape (client_ask shape client call) × (client_left shape (client_ask shape client call) ≤ call_bound shape client call)
+ClientBeginsLaw = (shape : Shape) → FitsLimits shape → (client : ClientState) (call : Call) → ClientFits shape client
+    → CallFits shape client.txn call
+    → ClientFits shape (client_ask shape client call)
+    × (client_left shape (client_ask shape client call) ≤ call_bound shape client call)

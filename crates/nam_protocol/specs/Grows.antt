@@ -29,5 +29,6 @@ module _ (shape : Shape) where
 
   -- the same of a session, which asks its calls by itself
   pub record SessionLogsGrow : Type 0 where
-    pub word : (session : SessionState) (found : ℕ) → Grows session.client.log (session_after shape session found).client.log
+    pub word : (session : SessionState) (found : ℕ)
+        → Grows session.client.log (session_after shape session found).client.log
     pub cut : (session : SessionState) → (session_cut session).client.log ≡ session.client.log

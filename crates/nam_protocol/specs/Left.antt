@@ -1,4 +1,5 @@
--- How many verbs of a client's call and of a session are to come at the most, and how much room a client reserves for jobs.
+-- How many verbs of a client's call and of a session are to come at the most, and how much room a client reserves for
+-- jobs.
 use Rattle.std.specs.Prelude.{ℕ, ◌+◌, ◌-◌, ◌*◌, if◌then◌else◌, true, false, List, [], ◌∷◌, length, drop, Option, Some}
 use Rattle.std.specs.Prelude.{None, is_some, slice_get}
 use Rattle.nam_verbs.specs.declared.now.Now.{Now}
@@ -43,7 +44,8 @@ module _ (shape : Shape) where
   call_left client (InTxn at) = open_left client.txn at
   call_left client (Scanning table low high at) = scan_left shape table at
   call_left client (Seeking table key passed) = find_left shape table passed + move_most shape table
-  call_left client (Moving table key position at) = let place = place_of shape table position in move_left place (cells_by shape place) at
+  call_left client (Moving table key position at) =
+      let place = place_of shape table position in move_left place (cells_by shape place) at
   call_left client (Snapping bucket at) = snap.left_at shape.workers at + collect_most shape
   call_left client (Collecting bucket prefix seen at) = collect_left (cells_of shape bucket) shape.workers at
 
@@ -87,15 +89,18 @@ module _ (shape : Shape) where
   after_call_bound ops (ToAsk nth) = if is_some (slice_get ops nth)
       then ops_bound shape (drop (nth + 1) ops) + commit_bound ops + keys_bound (written_keys ops)
       else keys_bound (written_keys ops)
-  after_call_bound ops (ToTidy keys nth false retry) = keys_after (λ key. collect_bound shape + tidy_bound shape key.table) (drop nth keys)
+  after_call_bound ops (ToTidy keys nth false retry) =
+      keys_after (λ key. collect_bound shape + tidy_bound shape key.table) (drop nth keys)
   after_call_bound ops (ToTidy keys nth true retry) = keys_after (λ key. 0) (drop nth keys)
-  after_call_bound ops (ToCollect bucket keys nth retry) = keys_after (λ key. tidy_bound shape key.table) (drop nth keys)
+  after_call_bound ops (ToCollect bucket keys nth retry) =
+      keys_after (λ key. tidy_bound shape key.table) (drop nth keys)
 
   -- the driver's job, and those after it
   abbrev pub rest_bound : DriverState → List Job → ℕ
   rest_bound driver [] = 0
   rest_bound driver (job ∷ jobs) =
-      after_call_bound job.ops driver.place + (driver.policy.tries - driver.nth) * try_bound job.ops + jobs_bound driver.policy jobs
+      after_call_bound job.ops driver.place + (driver.policy.tries - driver.nth) * try_bound job.ops
+      + jobs_bound driver.policy jobs
 
   -- the call that runs, and what follows it
   abbrev pub session_left : SessionState → ℕ

@@ -35,7 +35,8 @@ prefix_of start (entry ∷ entries) = wrapped (wrapped (entry + (2 ^ 64 - start)
 
 -- an attempt that got no snapshot
 abbrev pub unbegun : ℕ → ℕ → Outcome → Event
-unbegun txn nth outcome = Tried record { txn = txn; nth = nth; prefix = None; reads = 0; locks = 0; writes = 0; outcome = outcome }
+unbegun txn nth outcome =
+    Tried record { txn = txn; nth = nth; prefix = None; reads = 0; locks = 0; writes = 0; outcome = outcome }
 
 -- an attempt that wrote so many keys
 abbrev pub attempt_of : Open → Outcome → ℕ → Event

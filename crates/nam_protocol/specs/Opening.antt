@@ -44,7 +44,8 @@ with_value place nth (v ∷ vs) words = with_value place (nth + 1) vs (slice_set
 
 -- the words with a row at a place, under the loader's stamp
 abbrev pub with_row : Place → Row → List ℕ → List ℕ
-with_row place row words = with_value place 0 row.value (slice_set (slice_set words place.key_at (key_word row.key)) place.header_at 0)
+with_row place row words =
+    with_value place 0 row.value (slice_set (slice_set words place.key_at (key_word row.key)) place.header_at 0)
 
 -- the row is loaded at the first free position of its key's path, after so many that were passed
 unfoldable pub load_from : Shape → Row → ℕ → ℕ → List ℕ → List ℕ

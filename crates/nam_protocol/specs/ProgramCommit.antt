@@ -59,7 +59,8 @@ module _ (state : TxnState) where
       let place = place_at state (length counts) in
       read place.count_at >>= λ count.
       read (slot_at place (slot_of place count)) >>= λ header.
-      if is_moved place.form header then check_slots rest (counts ++ count ∷ []) else Ret (NotFree (length counts) header)
+      if is_moved place.form header then check_slots rest (counts ++ count ∷ [])
+      else Ret (NotFree (length counts) header)
 
   -- a value has words to be written, and a deletion none
   abbrev pub data_words : Place → Option (List ℕ) → ℕ

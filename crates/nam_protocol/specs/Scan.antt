@@ -49,7 +49,8 @@ module _ (shape : Shape) (table : ℕ) where
   scan_verb (ScanRead position key at) = read_verb (sight_of shape table position) at
 
   abbrev pub scan_after : ℕ → ℕ → List ℕ → ScanPlace → ℕ → Now ScanPlace ScanAnswer
-  scan_after low high seen (ScanKey position) found = if in_range low high found then Over (Key (found - 1)) else scan_skip position
+  scan_after low high seen (ScanKey position) found =
+      if in_range low high found then Over (Key (found - 1)) else scan_skip position
   scan_after low high seen (ScanRead position key at) found =
       on_scan_read table position key (read_after (sight_of shape table position) seen at found)
 

@@ -52,7 +52,8 @@ scan_listed client attempt table =
 
 -- the scan ends the attempt and lists no read
 abbrev pub scan_ended : ClientState → Open → Outcome → TxnAnswer → ClientState
-scan_ended client attempt outcome end = answered (ended (record client { scanned = [] }) attempt outcome) (client_answer.Txn end)
+scan_ended client attempt outcome end =
+    answered (ended (record client { scanned = [] }) attempt outcome) (client_answer.Txn end)
 
 -- 2. What follows
 
@@ -67,15 +68,18 @@ module _ (shape : Shape) where
   on_key client attempt table low high position key =
       let own = key_at table key in
       if writes_key attempt.state.writes own
-      then on_skip (gathered client position key (own_value attempt.state.writes own)) attempt table low high (scan_skip shape table position)
+      then on_skip (gathered client position key (own_value attempt.state.writes own)) attempt table low high
+      (scan_skip shape table position)
       else on_skip client attempt table low high (scan_read position key)
 
   abbrev pub on_scan : ClientState → Open → ℕ → ℕ → ℕ → ℕ → Now ScanPlace ScanAnswer → ClientState
   on_scan client attempt table low high position (At place) = go client (Scanning table low high place)
-  on_scan client attempt table low high position (Over (scan_answer.Key key)) = on_key client attempt table low high position key
+  on_scan client attempt table low high position (Over (scan_answer.Key key)) =
+      on_key client attempt table low high position key
   on_scan client attempt table low high position (Over (scan_answer.Row item)) =
       on_skip (gathered client position item.key item.value) attempt table low high (scan_skip shape table position)
   on_scan client attempt table low high position (Over scan_answer.Done) = scan_listed client attempt table
   on_scan client attempt table low high position (Over (scan_answer.TooOld worker entry horizon)) =
       scan_ended client attempt (outcome.TooOld worker entry horizon) (txn_answer.TooOld worker entry horizon)
-  on_scan client attempt table low high position (Over scan_answer.Astray) = scan_ended client attempt outcome.Left txn_answer.Astray
+  on_scan client attempt table low high position (Over scan_answer.Astray) =
+      scan_ended client attempt outcome.Left txn_answer.Astray

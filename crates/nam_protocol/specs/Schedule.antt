@@ -135,7 +135,8 @@ pub record Scenario : Type 0 where
 abbrev pub jobs_of : ℕ → ℕ → List Owned → List Job
 jobs_of worker txn [] = []
 jobs_of worker txn (t ∷ ts) =
-    if t.worker == worker then record { txn = txn; ops = t.ops } ∷ jobs_of worker (txn + 1) ts else jobs_of worker (txn + 1) ts
+    if t.worker == worker then record { txn = txn; ops = t.ops } ∷ jobs_of worker (txn + 1) ts
+    else jobs_of worker (txn + 1) ts
 
 abbrev pub all_jobs : ℕ → List Owned → List (List Job)
 all_jobs workers txns = map (λ worker. jobs_of worker 1 txns) (numbers_from 1 workers)
@@ -145,9 +146,11 @@ opened c lines = record { world = new_world c.shape c.rows c.policy (all_jobs c.
 
 -- the run after its schedule, and then so many rounds
 abbrev pub simulated : Scenario → List Line → ℕ → Run
-simulated c lines rounds = after_rounds c.shape rounds (after_workers c.shape (opened c lines) (scheduled c.shape c.schedule))
+simulated c lines rounds =
+    after_rounds c.shape rounds (after_workers c.shape (opened c lines) (scheduled c.shape c.schedule))
 
--- the run is simulated: after some number of rounds all have ended. A further round changes nothing, so it is the only one
+-- the run is simulated: after some number of rounds all have ended. A further round changes nothing, so it is the only
+-- one
 pub record Simulated (c : Scenario) (lines : List Line) (run : Run) : Type 0 where
   pub rounds : ℕ
   pub run_is : simulated c lines rounds ≡ run
@@ -169,4 +172,5 @@ until_ended shape (suc rounds) run = elim (is_live shape run.world) [
 ]
 
 abbrev pub run_to_end : ℕ → Scenario → List Line → Run
-run_to_end rounds c lines = until_ended c.shape rounds (after_workers c.shape (opened c lines) (scheduled c.shape c.schedule))
+run_to_end rounds c lines =
+    until_ended c.shape rounds (after_workers c.shape (opened c lines) (scheduled c.shape c.schedule))

@@ -68,7 +68,8 @@ abbrev pub committed : ClientState → Open → ℕ → ClientState
 committed client attempt number = record client {
   last = number;
   txn = None;
-  log = with_writes (with_event client.log (attempt_of attempt (outcome.Commit number) (length attempt.state.writes))) attempt.state.writes;
+  log = with_writes (with_event client.log (attempt_of attempt (outcome.Commit number) (length attempt.state.writes)))
+      attempt.state.writes;
 }
 
 -- the attempt with so many more reads
@@ -77,11 +78,13 @@ with_read attempt items = record attempt { reads = attempt.reads + length items 
 
 -- the items that were read are listed, and the transaction stays open
 abbrev pub read_listed : ClientState → Open → List Item → ClientState
-read_listed client attempt items = record client { txn = Some (with_read attempt items); log = with_reads client.log items }
+read_listed client attempt items =
+    record client { txn = Some (with_read attempt items); log = with_reads client.log items }
 
 -- the items that were read are listed, and the attempt has ended so
 abbrev pub read_ended : ClientState → Open → List Item → Outcome → ClientState
-read_ended client attempt items outcome = ended (record client { log = with_reads client.log items }) (with_read attempt items) outcome
+read_ended client attempt items outcome =
+    ended (record client { log = with_reads client.log items }) (with_read attempt items) outcome
 
 abbrev pub items_of : Option Item → List Item
 items_of None = []
@@ -106,9 +109,12 @@ on_answer client attempt (txn_answer.Added n) = read_listed client attempt (item
 on_answer client attempt txn_answer.Met = read_listed client attempt (items_of attempt.state.read)
 on_answer client attempt (txn_answer.Committed number) = committed client attempt number
 on_answer client attempt txn_answer.ReadOnly = ended client attempt outcome.ReadOnly
-on_answer client attempt (txn_answer.TooOld worker entry horizon) = ended client attempt (outcome.TooOld worker entry horizon)
-on_answer client attempt (txn_answer.NoSpace table) = read_ended client attempt (items_of attempt.state.read) (outcome.NoSpace table)
-on_answer client attempt txn_answer.Declined = read_ended client attempt (items_of attempt.state.read) (outcome.Declined attempt.ops)
+on_answer client attempt (txn_answer.TooOld worker entry horizon) =
+    ended client attempt (outcome.TooOld worker entry horizon)
+on_answer client attempt (txn_answer.NoSpace table) =
+    read_ended client attempt (items_of attempt.state.read) (outcome.NoSpace table)
+on_answer client attempt txn_answer.Declined =
+    read_ended client attempt (items_of attempt.state.read) (outcome.Declined attempt.ops)
 on_answer client attempt txn_answer.Spent = ended client attempt outcome.Spent
 on_answer client attempt (txn_answer.Locked lock) = ended client attempt (outcome.Locked lock)
 on_answer client attempt (txn_answer.Newer lock) = ended client attempt (outcome.Newer lock)

@@ -70,7 +70,8 @@ module _ (shape : Shape) where
   -- a key of the write set takes no verb
   abbrev pub with_own : TxnState → Op → Option (List ℕ) → Stepped
   with_own state op value =
-      if not (passes op (holding value)) then answered state Declined else answered (with_op state op value) (answer_of op value)
+      if not (passes op (holding value)) then answered state Declined
+      else answered (with_op state op value) (answer_of op value)
 
   abbrev pub ask_op : TxnState → Op → Stepped
   ask_op state op =
@@ -114,4 +115,5 @@ module _ (shape : Shape) where
   abbrev pub on_claim : TxnState → Op → Now ClaimKeyPlace ClaimKeyEnd → Stepped
   on_claim state op (At place) = at state (Claiming op place)
   on_claim state op (Over claimed_key.NoSpace) = answered state (NoSpace (key_of op).table)
-  on_claim state op (Over (claimed_key.At position)) = answered (claimed state op position) (answer_of op (value_in state.read))
+  on_claim state op (Over (claimed_key.At position)) =
+      answered (claimed state op position) (answer_of op (value_in state.read))

@@ -34,10 +34,12 @@ module _ (shape : Shape) where
   txn_verb state (Committing at) = commit_verb state at
 
   abbrev pub txn_after : TxnState → TxnPlace → ℕ → Stepped
-  txn_after state (Finding op passed) found = on_find shape state op (find_after shape (key_of op).table (key_of op).key passed found)
+  txn_after state (Finding op passed) found =
+      on_find shape state op (find_after shape (key_of op).table (key_of op).key passed found)
   txn_after state (Reading op position at) found =
       on_read shape state op position (read_after (sight_of shape (key_of op).table position) state.seen at found)
-  txn_after state (Claiming op at) found = on_claim shape state op (claim_key_after shape (key_of op).table (key_of op).key at found)
+  txn_after state (Claiming op at) found =
+      on_claim shape state op (claim_key_after shape (key_of op).table (key_of op).key at found)
   txn_after state (Committing at) found = commit_after state at found
 
 -- the headers of the locks that the transaction has taken so far

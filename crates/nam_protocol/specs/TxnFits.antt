@@ -51,10 +51,11 @@ is_claimed (c ∷ cs) key = if same_key c.key key then true else is_claimed cs k
 module _ (shape : Shape) where
   -- the record's place is a position of its key's table
   abbrev pub IsPlaced : Record → Type 0
-  IsPlaced r = (position : ℕ) × IsPosition shape.tables r.key.table position × (r.place ≡ place_of shape r.key.table position)
+  IsPlaced r =
+      (position : ℕ) × IsPosition shape.tables r.key.table position × (r.place ≡ place_of shape r.key.table position)
 
-  -- 1. What a transaction has at hand: each key that it writes or guards is claimed, each claimed key has a position, and
-  -- each value its table's width
+  -- 1. What a transaction has at hand: each key that it writes or guards is claimed, each claimed key has a position,
+  -- and each value its table's width
 
   pub record KeysFit (worker : ℕ) (claims : List Record) (writes : List Item) (guards : List Key) : Type 0 where
     pub worker_is : IsOf shape.workers worker
@@ -70,18 +71,24 @@ module _ (shape : Shape) where
 
   abbrev pub CommitPlaceFits : TxnState → CommitPlace → Type 0
   CommitPlaceFits state (Locking at) = LockFits (length state.records) at × (length state.counts ≡ 0)
-  CommitPlaceFits state (Checking at) = (length state.held ≡ length state.records) × (length state.counts < length state.writes)
-  CommitPlaceFits state (Returning given full) = (length state.held ≡ length state.records) × (given < length state.records)
+  CommitPlaceFits state (Checking at) =
+      (length state.held ≡ length state.records) × (length state.counts < length state.writes)
+  CommitPlaceFits state (Returning given full) =
+      (length state.held ≡ length state.records) × (given < length state.records)
   CommitPlaceFits state (Saving nth got) =
-      (length state.held ≡ length state.records) × (length state.counts ≡ length state.writes) × (nth < length state.writes)
+      (length state.held ≡ length state.records) × (length state.counts ≡ length state.writes)
+      × (nth < length state.writes)
       × WordsFit (place_at state nth) got
   CommitPlaceFits state (Copying nth old at) =
-      (length state.held ≡ length state.records) × (length state.counts ≡ length state.writes) × (nth < length state.writes)
+      (length state.held ≡ length state.records) × (length state.counts ≡ length state.writes)
+      × (nth < length state.writes)
       × WordsEnd (place_at state nth) old × CopyFits (place_at state nth) at
   CommitPlaceFits state (Installing nth at) =
-      (length state.held ≡ length state.records) × (length state.counts ≡ length state.writes) × (nth < length state.writes)
+      (length state.held ≡ length state.records) × (length state.counts ≡ length state.writes)
+      × (nth < length state.writes)
       × InstallFits (place_at state nth) at
-  CommitPlaceFits state Publishing = (length state.held ≡ length state.records) × (length state.counts ≡ length state.writes)
+  CommitPlaceFits state Publishing =
+      (length state.held ≡ length state.records) × (length state.counts ≡ length state.writes)
   CommitPlaceFits state (Freeing nth) =
       (length state.held ≡ length state.records) × (length state.counts ≡ length state.writes)
       × (length state.writes ≤ nth) × (nth < length state.records)
@@ -99,9 +106,11 @@ module _ (shape : Shape) where
   abbrev pub TxnPlaceFits : TxnState → TxnPlace → Type 0
   TxnPlaceFits state (Finding op passed) = OpStands op × FindFits (capacity_of shape (key_of op).table) passed
   TxnPlaceFits state (Reading op position at) =
-      OpStands op × (position < capacity_of shape (key_of op).table) × ReadFits (sight_of shape (key_of op).table position) at
+      OpStands op × (position < capacity_of shape (key_of op).table)
+      × ReadFits (sight_of shape (key_of op).table position) at
   TxnPlaceFits state (Claiming op at) =
-      OpStands op × ClaimKeyFits (capacity_of shape (key_of op).table) at × HasWidth (width_of shape (key_of op).table) (value_in state.read)
+      OpStands op × ClaimKeyFits (capacity_of shape (key_of op).table) at
+      × HasWidth (width_of shape (key_of op).table) (value_in state.read)
   TxnPlaceFits state (Committing at) = CommitFits state at
 
   -- a transaction has stepped: what it has at hand fits, and its call goes on with fewer verbs to come or was answered
@@ -124,7 +133,8 @@ module _ (shape : Shape) where
 
   -- the written keys, the keys that are guarded only, and the worker's entry
   abbrev pub commit_bound : TxnState → ℕ
-  commit_bound state = writes_bound shape (map item_key state.writes) + 3 * length (unwritten state.writes state.guards) + 1
+  commit_bound state =
+      writes_bound shape (map item_key state.writes) + 3 * length (unwritten state.writes state.guards) + 1
 
   abbrev pub txn_call_bound : TxnState → TxnCall → ℕ
   txn_call_bound state (Get t k) = op_bound shape (op.Get t k)
@@ -139,7 +149,8 @@ module _ (shape : Shape) where
 
   abbrev pub ScanFits : ℕ → ScanPlace → Type 0
   ScanFits table (ScanKey position) = position < capacity_of shape table
-  ScanFits table (ScanRead position key at) = (position < capacity_of shape table) × ReadFits (sight_of shape table position) at
+  ScanFits table (ScanRead position key at) =
+      (position < capacity_of shape table) × ReadFits (sight_of shape table position) at
 
   abbrev pub ScanEnds : ℕ → ScanAnswer → Type 0
   ScanEnds table (scan.Row item) = HasWidth (width_of shape table) item.value

@@ -60,6 +60,7 @@ module _ (shape : Shape) where
   call_field client (InTxn at) = open_field client.txn at
   call_field client (Scanning table low high at) = scan_field shape table at
   call_field client (Seeking table key passed) = path_field shape table key passed
-  call_field client (Moving table key position at) = move_field (place_of shape table position) (cells_by shape (place_of shape table position)) at
+  call_field client (Moving table key position at) =
+      move_field (place_of shape table position) (cells_by shape (place_of shape table position)) at
   call_field client (Snapping bucket at) = snap_field at
   call_field client (Collecting bucket prefix seen at) = collect_field (cells_of shape bucket) at

@@ -41,7 +41,8 @@ module _ (shape : Shape) where
   abbrev pub step_by : World → ℕ → SessionState → Option Verb → World
   step_by world worker session None = world
   step_by world worker session (Some verb) =
-      with_session (record world { words = after_verb world.words verb }) worker (session_after shape session (found_by world.words verb))
+      with_session (record world { words = after_verb world.words verb }) worker
+      (session_after shape session (found_by world.words verb))
 
   abbrev pub step_of : World → ℕ → Option SessionState → World
   step_of world worker None = world
@@ -74,7 +75,8 @@ new_sessions shape policy worker (jobs ∷ rest) =
 
 -- the world in which nothing was done yet; the lists of jobs are those of worker 1 and so on
 abbrev pub new_world : Shape → List Row → Policy → List (List Job) → World
-new_world shape rows policy jobs = record { words = opening_words shape rows; sessions = new_sessions shape policy 1 jobs }
+new_world shape rows policy jobs =
+    record { words = opening_words shape rows; sessions = new_sessions shape policy 1 jobs }
 
 -- each session has ended or is cut: none has a verb to come
 abbrev pub HasNoVerb : Shape → SessionState → Type 0

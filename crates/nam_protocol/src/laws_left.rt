@@ -2,11 +2,12 @@
 
 ghost use Rattle.nam_protocol.specs.FallsLaw.{TxnLaw, TxnBeginsLaw, ScanLaw, ClientLaw, ClientBeginsLaw};
 ghost use Rattle.nam_protocol.specs.AttemptLaw.{NewAskedLaw, AskLaw, TakeLaw, AttemptLaw};
-ghost use Rattle.nam_protocol.specs.AddressFact.{TableReachesLaw, TxnReachesLaw, CallReachesLaw, WithinLaw, ClientWithinLaw};
+ghost use Rattle.nam_protocol.specs.AddressFact.{TableReachesLaw, TxnReachesLaw, CallReachesLaw, WithinLaw};
+ghost use Rattle.nam_protocol.specs.AddressFact.{ClientWithinLaw};
 
-/// At each place of a call of a transaction, its commit included, that fits, each word leads to a place that fits with fewer
-/// verbs to come, or to an answer: what the transaction has at hand fits after each word,
-/// and a call begins with no more verbs than its bound.
+/// At each place of a call of a transaction, its commit included, that fits, each word leads to a place that fits with
+/// fewer verbs to come, or to an answer: what the transaction has at hand fits after each word, and a call begins with
+/// no more verbs than its bound.
 pub fn txn_falls()
     ensures falls { TxnLaw }
     ensures begins { TxnBeginsLaw }
@@ -25,8 +26,8 @@ pub fn client_falls()
     ensures begins { ClientBeginsLaw }
 {}
 
-/// The bound of a whole attempt is the sum of those of its snapshot, of its operations and of the commit after them: the
-/// keys that a transaction writes and guards are those of the operations that have passed, in their order.
+/// The bound of a whole attempt is the sum of those of its snapshot, of its operations and of the commit after them:
+/// the keys that a transaction writes and guards are those of the operations that have passed, in their order.
 pub fn attempt_bound()
     ensures new { NewAskedLaw }
     ensures ask { AskLaw }
@@ -34,8 +35,9 @@ pub fn attempt_bound()
     ensures sum { AttemptLaw }
 {}
 
-/// The same for each call at a table's positions, for each call of a transaction, its commit included, and for each call
-/// of a client.
+/// Each verb of each call at a table's positions, of each call of a transaction, its commit included, and of each call
+/// of a client reaches the field that its place says, and that field is one of the shape's. This needs no more than
+/// that the place fits, which the other laws keep.
 pub fn calls_reach()
     ensures table { TableReachesLaw }
     ensures txn { TxnReachesLaw }

@@ -1,11 +1,11 @@
 //! The protocol of clients as data: transactions, scans, clients with their logs, and sessions.
 //!
-//! `specs/` composes the single calls of nam_calls: the transaction with its commit, the scan, the client with its log, the
-//! session that follows the retry policy, the world of all sessions over one region of words, and the simulated run. The
-//! definitions compute: proofs/ has worked runs. The crate promises, by its laws, that in each call of a transaction and of a
-//! client the number of verbs to come falls with each word and begins within its bound, that an attempt takes no more than
-//! the sum of these, that each verb is at the field of the layout that its place names, that clients' and sessions' logs
-//! only grow, and that a commit is one straight program.
+//! `specs/` composes the single calls of nam_calls: the transaction with its commit, the scan, the client with its log,
+//! the session that follows the retry policy, the world of all sessions over one region of words, and the simulated
+//! run. The definitions compute: proofs/ has worked runs. The crate promises, by its laws, that in each call of a
+//! transaction and of a client the number of verbs to come falls with each word and begins within its bound, that an
+//! attempt takes no more than the sum of these, that each verb is at the field of the layout that its place names, that
+//! clients' and sessions' logs only grow, and that a commit is one straight program.
 #![tactic(auto)]
 
 mod client;

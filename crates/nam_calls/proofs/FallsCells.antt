@@ -41,7 +41,8 @@ module _ (cells : Cells) (place : Place) (fits : FitsPlace place) where
   abbrev pub CellFalls : ℕ → Now CellPlace SearchEnd → Type 0
   CellFalls = Falls (CellFits cells place) (SearchEnds place) (cell_left cells place)
 
-  next_cell_falls : (cell n : ℕ) → cell < cells.cells → cells_left cells place cell < n → CellFalls n (next_cell cells cell)
+  next_cell_falls : (cell n : ℕ) → cell < cells.cells → cells_left cells place cell < n
+      → CellFalls n (next_cell cells cell)
   next_cell_falls cell n l m =
       or_last (CellFalls n) cells.cells cell (Over NotThere) (At (CellTag (cell + 1))) l (λ e. (tt, omega arith))
       (λ e. (e, rw (later_row cells.cells cell (place.width + 5) e) m))
@@ -49,26 +50,32 @@ module _ (cells : Cells) (place : Place) (fits : FitsPlace place) where
   pub cell_falls : (seen : List ℕ) (at : CellPlace) (found : ℕ) → CellFits cells place at
       → CellFalls (cell_left cells place at) (cell_after cells place seen at found)
   cell_falls seen (CellTag cell) found l =
-      either (CellFalls (cell_left cells place (CellTag cell))) _ (At (CellOwner cell found)) (next_cell cells cell) (l, omega arith)
+      either (CellFalls (cell_left cells place (CellTag cell))) _ (At (CellOwner cell found)) (next_cell cells cell)
+      (l, omega arith)
       (next_cell_falls cell _ l (omega arith))
   cell_falls seen (CellOwner cell tag) found l =
-      either (CellFalls (cell_left cells place (CellOwner cell tag))) _ (At (CellBegin cell tag)) (next_cell cells cell) (l, omega arith)
+      either (CellFalls (cell_left cells place (CellOwner cell tag))) _ (At (CellBegin cell tag))
+      (next_cell cells cell) (l, omega arith)
       (next_cell_falls cell _ l (omega arith))
   cell_falls seen (CellBegin cell tag) found l =
-      either (CellFalls (cell_left cells place (CellBegin cell tag))) _ (At (CellEnding cell tag found)) (next_cell cells cell) (l, omega arith)
+      either (CellFalls (cell_left cells place (CellBegin cell tag))) _ (At (CellEnding cell tag found))
+      (next_cell cells cell) (l, omega arith)
       (next_cell_falls cell _ l (omega arith))
   cell_falls seen (CellEnding cell tag header) found l =
       let w = fits.least_width in
-      either (CellFalls (cell_left cells place (CellEnding cell tag header))) _ (next_cell cells cell) (At (CellWords cell tag header []))
+      either (CellFalls (cell_left cells place (CellEnding cell tag header))) _ (next_cell cells cell)
+      (At (CellWords cell tag header []))
       (next_cell_falls cell _ l (omega arith)) ((l, omega arith), omega arith)
   cell_falls seen (CellWords cell tag header got) found l =
-      one_more (λ at. CellFits cells place at × (cell_left cells place at < cell_left cells place (CellWords cell tag header got)))
+      one_more (λ at. CellFits cells place at
+      × (cell_left cells place at < cell_left cells place (CellWords cell tag header got)))
       place.width got found (CellWords cell tag header) (CellAgain cell tag header) l.1 (λ e m. ((l.0, m), omega arith))
       (λ e m. ((l.0, m), omega arith))
   cell_falls seen (CellAgain cell tag header value) found l =
       either (CellFalls (cell_left cells place (CellAgain cell tag header value))) _
       (Over (Found (if is_deleted place.form header then None else Some value))) (next_cell cells cell)
-      (wide_or_none place.width (is_deleted place.form header) value l.1, omega arith) (next_cell_falls cell _ l.0 (omega arith))
+      (wide_or_none place.width (is_deleted place.form header) value l.1, omega arith)
+      (next_cell_falls cell _ l.0 (omega arith))
 
 -- 2. The claim of a cell and its filling
 
@@ -76,16 +83,21 @@ module _ (cells : Cells) where
   abbrev pub ClaimFalls : ℕ → Now ClaimPlace ClaimEnd → Type 0
   ClaimFalls = Falls (ClaimFits cells) (ClaimEnds cells) (claim_left cells)
 
-  claim_next_falls : (cell n : ℕ) → cell < cells.cells → (cells.cells - cell - 1) * 2 < n → ClaimFalls n (claim_next cells cell)
+  claim_next_falls : (cell n : ℕ) → cell < cells.cells → (cells.cells - cell - 1) * 2 < n
+      → ClaimFalls n (claim_next cells cell)
   claim_next_falls cell n l m =
-      or_last (ClaimFalls n) cells.cells cell (Over NoRoom) (At (ClaimLook (cell + 1))) l (λ e. (tt, omega arith)) (λ e. (e, omega arith))
+      or_last (ClaimFalls n) cells.cells cell (Over NoRoom) (At (ClaimLook (cell + 1))) l (λ e. (tt, omega arith))
+      (λ e. (e, omega arith))
 
-  pub claim_falls : (at : ClaimPlace) (found : ℕ) → ClaimFits cells at → ClaimFalls (claim_left cells at) (claim_after cells at found)
+  pub claim_falls : (at : ClaimPlace) (found : ℕ) → ClaimFits cells at
+      → ClaimFalls (claim_left cells at) (claim_after cells at found)
   claim_falls (ClaimLook cell) found l =
-      either (ClaimFalls (claim_left cells (ClaimLook cell))) _ (At (ClaimTake cell found)) (claim_next cells cell) (l, omega arith)
+      either (ClaimFalls (claim_left cells (ClaimLook cell))) _ (At (ClaimTake cell found)) (claim_next cells cell)
+      (l, omega arith)
       (claim_next_falls cell _ l (omega arith))
   claim_falls (ClaimTake cell tag) found l =
-      either (ClaimFalls (claim_left cells (ClaimTake cell tag))) _ (Over (Claimed cell (written tag))) (claim_next cells cell) (l, omega arith)
+      either (ClaimFalls (claim_left cells (ClaimTake cell tag))) _ (Over (Claimed cell (written tag)))
+      (claim_next cells cell) (l, omega arith)
       (claim_next_falls cell _ l (omega arith))
 
 module _ (width : ℕ) (least : 1 ≤ width) where
@@ -97,7 +109,8 @@ module _ (width : ℕ) (least : 1 ≤ width) where
   fill_falls FillBegin l = (tt, omega arith)
   fill_falls FillEnding l = (omega arith, omega arith)
   fill_falls (FillWord nth) l =
-      or_last (FillFalls (width - nth)) width nth (Over tt) (At (FillWord (nth + 1))) l (λ e. (tt, omega arith)) (λ e. (e, omega arith))
+      or_last (FillFalls (width - nth)) width nth (Over tt) (At (FillWord (nth + 1))) l (λ e. (tt, omega arith))
+      (λ e. (e, omega arith))
 
 -- 3. A move
 
@@ -105,34 +118,43 @@ module _ (place : Place) (cells : Cells) (fits : FitsPlace place) (room : FitsCe
   abbrev pub MoveFalls : ℕ → Now MovePlace MoveAnswer → Type 0
   MoveFalls = Falls (MoveFits place cells) Any (move_left place cells)
 
-  on_claim_falls : (slot header ending n : ℕ) (now : Now ClaimPlace ClaimEnd) → slot < place.ring → ClaimFalls cells n now
+  on_claim_falls : (slot header ending n : ℕ) (now : Now ClaimPlace ClaimEnd) → slot < place.ring
+      → ClaimFalls cells n now
       → MoveFalls (n + 2 * place.width + 6) (on_claim cells slot header ending now)
   on_claim_falls slot header ending n (At at) l h = ((l, h.0), omega arith)
-  on_claim_falls slot header ending n (Over (Claimed cell tag)) l h = let w = fits.least_width in ((l, h.0, omega arith), omega arith)
+  on_claim_falls slot header ending n (Over (Claimed cell tag)) l h =
+      let w = fits.least_width in ((l, h.0, omega arith), omega arith)
   on_claim_falls slot header ending n (Over NoRoom) l h = (tt, omega arith)
 
-  on_fill_falls : (slot header cell tag n : ℕ) (version : Version) (now : Now FillPlace (Unit {0})) → slot < place.ring → cell < cells.cells
+  on_fill_falls : (slot header cell tag n : ℕ) (version : Version) (now : Now FillPlace (Unit {0}))
+      → slot < place.ring → cell < cells.cells
       → length version.value ≡ place.width → FillFalls place.width fits.least_width n now
       → MoveFalls (n + 3) (on_fill slot header cell tag version now)
   on_fill_falls slot header cell tag n version (At at) l m e h = ((l, m, e, h.0), omega arith)
   on_fill_falls slot header cell tag n version (Over done) l m e h = ((l, m), omega arith)
 
-  pub move_falls : (at : MovePlace) (found : ℕ) → MoveFits place cells at → MoveFalls (move_left place cells at) (move_after place cells at found)
+  pub move_falls : (at : MovePlace) (found : ℕ) → MoveFits place cells at
+      → MoveFalls (move_left place cells at) (move_after place cells at found)
   move_falls MoveCount found l = (slot_within place fits found, omega arith)
   move_falls (MoveHead slot) found l =
-      either (MoveFalls (move_left place cells (MoveHead slot))) _ (Over answer.Nothing) (At (MoveEnding slot found)) (tt, omega arith)
+      either (MoveFalls (move_left place cells (MoveHead slot))) _ (Over answer.Nothing) (At (MoveEnding slot found))
+      (tt, omega arith)
       (l, omega arith)
   move_falls (MoveEnding slot header) found l = let c = room.least_cells in ((l, c), omega arith)
-  move_falls (MoveClaim slot header ending at) found l = on_claim_falls slot header ending _ _ l.0 (claim_falls cells at found l.1)
+  move_falls (MoveClaim slot header ending at) found l =
+      on_claim_falls slot header ending _ _ l.0 (claim_falls cells at found l.1)
   move_falls (MoveWords slot header ending cell tag got) found l =
-      one_more (λ at. MoveFits place cells at × (move_left place cells at < move_left place cells (MoveWords slot header ending cell tag got)))
+      one_more (λ at. MoveFits place cells at
+      × (move_left place cells at < move_left place cells (MoveWords slot header ending cell tag got)))
       place.width got found (MoveWords slot header ending cell tag)
-      (λ value. MoveFill slot header cell tag record { begin = without_moved place.form header; «end» = ending; value = value } fill_begin)
+      (λ value. MoveFill slot header cell tag
+      record { begin = without_moved place.form header; «end» = ending; value = value } fill_begin)
       l.2 (λ e m. ((l.0, l.1, m), omega arith)) (λ e m. ((l.0, l.1, m, tt), omega arith))
   move_falls (MoveFill slot header cell tag version at) found l =
       on_fill_falls slot header cell tag _ version _ l.0 l.1 l.2 (fill_falls place.width fits.least_width at l.3)
   move_falls (MoveAgain slot header cell tag) found l =
-      either (MoveFalls 3) _ (At (MoveFull slot header cell tag)) (At (MoveBack header cell tag)) (l, omega arith) (l.1, omega arith)
+      either (MoveFalls 3) _ (At (MoveFull slot header cell tag)) (At (MoveBack header cell tag)) (l, omega arith)
+      (l.1, omega arith)
   move_falls (MoveFull slot header cell tag) found l = (l.0, omega arith)
   move_falls (MoveFlag slot header) found l = (tt, omega arith)
   move_falls (MoveBack header cell tag) found l = (tt, omega arith)

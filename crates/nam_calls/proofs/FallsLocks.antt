@@ -22,15 +22,19 @@ module _ (places : List Place) (rest : ℕ) (enough : length places ≤ rest) wh
   abbrev pub LockFalls : ℕ → Now LockPlace LockEnd → Type 0
   LockFalls = FallsTo (LockFits (length places)) (LockEnds (length places)) (lock_left places rest) (after_locks rest)
 
-  loss_falls : (form : Form) (nth found n : ℕ) → nth < length places → 0 < n → LockFalls n (Over (loss_of form nth found))
+  loss_falls : (form : Form) (nth found n : ℕ) → nth < length places → 0 < n
+      → LockFalls n (Over (loss_of form nth found))
   loss_falls form nth found n l m =
-      either (λ end. LockEnds (length places) end × (after_locks rest end < n)) (is_locked form found) (Locked nth found) (Newer nth found) (l, m)
+      either (λ end. LockEnds (length places) end × (after_locks rest end < n)) (is_locked form found)
+      (Locked nth found) (Newer nth found) (l, m)
       (l, m)
 
-  give_back_falls : (held : List ℕ) (given found n : ℕ) → length held < length places → given ≤ length held → length held - given < n
+  give_back_falls : (held : List ℕ) (given found n : ℕ) → length held < length places → given ≤ length held
+      → length held - given < n
       → LockFalls n (give_back places held given found)
   give_back_falls held given found n l m r =
-      by_test (LockFalls n) (given == length held) (Over (loss_of (nth_place places (length held)).form (length held) found))
+      by_test (LockFalls n) (given == length held)
+      (Over (loss_of (nth_place places (length held)).form (length held) found))
       (At (GiveBack held given found))
       (λ e. loss_falls (nth_place places (length held)).form (length held) found n l (omega arith))
       (λ e. let f : given < length held = grind (arith, nat_tests) in ((l, f), r))
@@ -43,7 +47,8 @@ module _ (places : List Place) (rest : ℕ) (enough : length places ≤ rest) wh
       let back = give_back_falls held 0 found n l (omega arith) (omega arith) in
       either (LockFalls n) (is_locked form found) (give_back places held 0 found)
       (if sees form seen found then At (Seize held found) else give_back places held 0 found)
-      back (either (LockFalls n) (sees form seen found) (At (Seize held found)) (give_back places held 0 found) (l, omega arith) back)
+      back (either (LockFalls n) (sees form seen found) (At (Seize held found)) (give_back places held 0 found)
+      (l, omega arith) back)
   lock_falls seen (Seize held header) found l =
       let n = lock_left places rest (Seize held header) in
       let all = held ++ header ∷ [] in
@@ -60,7 +65,9 @@ module _ (places : List Place) where
   abbrev pub UnlockFalls : ℕ → Now ℕ (Unit {0}) → Type 0
   UnlockFalls = Falls (λ given. given < length places) Any (unlock_left places)
 
-  pub unlock_falls : (given : ℕ) → given < length places → UnlockFalls (unlock_left places given) (unlock_after places given)
+  pub unlock_falls : (given : ℕ) → given < length places
+      → UnlockFalls (unlock_left places given) (unlock_after places given)
   unlock_falls given l =
-      or_last (UnlockFalls (unlock_left places given)) (length places) given (Over tt) (At (given + 1)) l (λ e. (tt, omega arith))
+      or_last (UnlockFalls (unlock_left places given)) (length places) given (Over tt) (At (given + 1)) l
+      (λ e. (tt, omega arith))
       (λ e. (e, omega arith))

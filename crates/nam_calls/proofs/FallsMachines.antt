@@ -30,7 +30,8 @@ use Rattle.nam_calls.specs.declared.ring.RingPlace.TheVariants.{SlotHead, SlotEn
 use Rattle.nam_calls.specs.declared.ring.SearchEnd.{SearchEnd}
 use Rattle.nam_calls.specs.declared.ring.SearchEnd.TheVariants.{Found, NotThere}
 use Rattle.nam_calls.specs.Words.{key_word}
-use Rattle.nam_calls.specs.Index.{nth_position, find_after, find_left, claim_key_after, claim_key_next, claim_key_left}
+use Rattle.nam_calls.specs.Index.{nth_position, find_after, find_left, claim_key_after, claim_key_next}
+use Rattle.nam_calls.specs.Index.{claim_key_left}
 use Rattle.nam_calls.specs.Record.{current_after, current_left, words_after, words_left, install_after, install_left}
 use Rattle.nam_calls.specs.Ring.{slot_after, slot_left, copy_after, copy_left, next_slot, ring_after, slots_left}
 use Rattle.nam_calls.specs.Ring.{ring_left}
@@ -58,19 +59,23 @@ module _ (path : Path) where
   path_within : (passed : ℕ) → passed < capacity → nth_position path passed < capacity
   path_within passed l = omega arith
 
-  pub find_falls : (passed found : ℕ) → FindFits capacity passed → FindFalls (find_left path passed) (find_after path passed found)
+  pub find_falls : (passed found : ℕ) → FindFits capacity passed
+      → FindFalls (find_left path passed) (find_after path passed found)
   find_falls passed found l =
       let n = find_left path passed in
       let r = path_within passed l in
       either (FindFalls n) (found == key_word path.key) (Over (found_key.At (nth_position path passed)))
       (if (found == 0) || (passed + 1 == capacity) then Over found_key.Absent else At (passed + 1))
       (r, omega arith)
-      (by_test (FindFalls n) ((found == 0) || (passed + 1 == capacity)) (Over found_key.Absent) (At (passed + 1)) (λ e. (tt, omega arith))
+      (by_test (FindFalls n) ((found == 0) || (passed + 1 == capacity)) (Over found_key.Absent) (At (passed + 1))
+      (λ e. (tt, omega arith))
       (λ e. grind (arith, nat_tests)))
 
-  next_falls : (passed n : ℕ) → passed < capacity → 2 * (capacity - passed - 1) < n → ClaimKeyFalls n (claim_key_next path passed)
+  next_falls : (passed n : ℕ) → passed < capacity → 2 * (capacity - passed - 1) < n
+      → ClaimKeyFalls n (claim_key_next path passed)
   next_falls passed n l m =
-      or_last (ClaimKeyFalls n) capacity passed (Over claimed_key.NoSpace) (At (KeyLook (passed + 1))) l (λ e. (tt, omega arith))
+      or_last (ClaimKeyFalls n) capacity passed (Over claimed_key.NoSpace) (At (KeyLook (passed + 1))) l
+      (λ e. (tt, omega arith))
       (λ e. (e, omega arith))
 
   pub claim_key_falls : (place : ClaimKeyPlace) (found : ℕ) → ClaimKeyFits capacity place
@@ -86,7 +91,8 @@ module _ (path : Path) where
   claim_key_falls (KeyTake passed) found l =
       let n = claim_key_left path (KeyTake passed) in
       let r = path_within passed l in
-      either (ClaimKeyFalls n) ((found == 0) || (found == key_word path.key)) (Over (claimed_key.At (nth_position path passed)))
+      either (ClaimKeyFalls n) ((found == 0) || (found == key_word path.key))
+      (Over (claimed_key.At (nth_position path passed)))
       (claim_key_next path passed)
       (r, omega arith) (next_falls passed n l (omega arith))
 
@@ -101,32 +107,41 @@ module _ (place : Place) (fits : FitsPlace place) where
   current_falls seen CurrentHead found l =
       let w = fits.least_width in
       let n = current_left place CurrentHead in
-      either (CurrentFalls n) _ (if is_deleted place.form found then Over (current.Found None) else At (CurrentWords found [])) (Over current.GoOld)
-      (either (CurrentFalls n) _ (Over (current.Found None)) (At (CurrentWords found [])) (tt, omega arith) (omega arith, omega arith))
+      either (CurrentFalls n) _ (if is_deleted place.form found then Over (current.Found None)
+      else At (CurrentWords found [])) (Over current.GoOld)
+      (either (CurrentFalls n) _ (Over (current.Found None)) (At (CurrentWords found [])) (tt, omega arith)
+      (omega arith, omega arith))
       (tt, omega arith)
   current_falls seen (CurrentWords header got) found l =
       one_more (λ at. CurrentFits place at × (current_left place at < current_left place (CurrentWords header got)))
-      place.width got found (CurrentWords header) (CurrentAgain header) l (λ e m. (m, omega arith)) (λ e m. (m, omega arith))
+      place.width got found (CurrentWords header) (CurrentAgain header) l (λ e m. (m, omega arith))
+      (λ e m. (m, omega arith))
   current_falls seen (CurrentAgain header value) found l =
       either (CurrentFalls 1) _
-      (if is_locked place.form header || is_locked place.form found then Over (current.Unsure value header) else Over (current.Found (Some value)))
+      (if is_locked place.form header || is_locked place.form found then Over (current.Unsure value header)
+      else Over (current.Found (Some value)))
       (Over current.GoOld)
-      (either (CurrentFalls 1) _ (Over (current.Unsure value header)) (Over (current.Found (Some value))) (l, omega arith) (l, omega arith))
+      (either (CurrentFalls 1) _ (Over (current.Unsure value header)) (Over (current.Found (Some value)))
+      (l, omega arith) (l, omega arith))
       (tt, omega arith)
 
   abbrev pub WordsFall : ℕ → Now (List ℕ) (List ℕ) → Type 0
   WordsFall = Falls (WordsFit place) (WordsEnd place) (words_left place)
 
-  pub words_fall : (got : List ℕ) (found : ℕ) → WordsFit place got → WordsFall (words_left place got) (words_after place got found)
+  pub words_fall : (got : List ℕ) (found : ℕ) → WordsFit place got
+      → WordsFall (words_left place got) (words_after place got found)
   words_fall got found l =
-      one_more (WordsFall (words_left place got)) place.width got found At Over l (λ e m. (m, omega arith)) (λ e m. (m, omega arith))
+      one_more (WordsFall (words_left place got)) place.width got found At Over l (λ e m. (m, omega arith))
+      (λ e m. (m, omega arith))
 
   abbrev pub InstallFalls : ℕ → Now InstallPlace (Unit {0}) → Type 0
   InstallFalls = Falls (InstallFits place) Any (install_left place)
 
-  pub install_falls : (at : InstallPlace) → InstallFits place at → InstallFalls (install_left place at) (install_after place at)
+  pub install_falls : (at : InstallPlace) → InstallFits place at
+      → InstallFalls (install_left place at) (install_after place at)
   install_falls (InstallWord nth) l =
-      or_last (InstallFalls (install_left place (InstallWord nth))) place.width nth (At InstallCount) (At (InstallWord (nth + 1))) l
+      or_last (InstallFalls (install_left place (InstallWord nth))) place.width nth (At InstallCount)
+      (At (InstallWord (nth + 1))) l
       (λ e. (tt, omega arith)) (λ e. (e, omega arith))
   install_falls InstallCount l = (tt, omega arith)
   install_falls InstallHead l = (tt, omega arith)
@@ -140,7 +155,8 @@ module _ (place : Place) (fits : FitsPlace place) where
   pub slot_falls : (at : SlotPlace) (found : ℕ) → SlotFalls (slot_left at) (slot_after place at found)
   slot_falls CheckCount found = (tt, omega arith)
   slot_falls (CheckHead count) found =
-      either (SlotFalls 1) _ (Over (Free count)) (Over (NotMoved (slot_of place count) found)) (tt, omega arith) (slot_within count, omega arith)
+      either (SlotFalls 1) _ (Over (Free count)) (Over (NotMoved (slot_of place count) found)) (tt, omega arith)
+      (slot_within count, omega arith)
 
   abbrev pub CopyFalls : ℕ → Now CopyPlace (Unit {0}) → Type 0
   CopyFalls = Falls (CopyFits place) Any (copy_left place)
@@ -149,7 +165,8 @@ module _ (place : Place) (fits : FitsPlace place) where
   copy_falls CopyMark l = (tt, omega arith)
   copy_falls CopyEnding l = let w = fits.least_width in (omega arith, omega arith)
   copy_falls (CopyWord nth) l =
-      or_last (CopyFalls (copy_left place (CopyWord nth))) place.width nth (At CopyHead) (At (CopyWord (nth + 1))) l (λ e. (tt, omega arith))
+      or_last (CopyFalls (copy_left place (CopyWord nth))) place.width nth (At CopyHead) (At (CopyWord (nth + 1))) l
+      (λ e. (tt, omega arith))
       (λ e. (e, omega arith))
   copy_falls CopyHead l = (tt, omega arith)
 
@@ -161,18 +178,23 @@ module _ (place : Place) (fits : FitsPlace place) where
       or_last (RingFalls n) place.ring slot (Over NotThere) (At (SlotHead (slot + 1))) l (λ e. (tt, omega arith))
       (λ e. (e, rw (later_row place.ring slot (place.width + 3) e) m))
 
-  pub ring_falls : (seen : List ℕ) (at : RingPlace) (found : ℕ) → RingFits place at → RingFalls (ring_left place at) (ring_after place seen at found)
+  pub ring_falls : (seen : List ℕ) (at : RingPlace) (found : ℕ) → RingFits place at
+      → RingFalls (ring_left place at) (ring_after place seen at found)
   ring_falls seen (SlotHead slot) found l =
       either (RingFalls (ring_left place (SlotHead slot))) _ (next_slot place slot) (At (SlotEnding slot found))
       (next_slot_falls slot _ l (omega arith)) (l, omega arith)
   ring_falls seen (SlotEnding slot header) found l =
       let w = fits.least_width in
-      either (RingFalls (ring_left place (SlotEnding slot header))) _ (next_slot place slot) (At (SlotWords slot header []))
+      either (RingFalls (ring_left place (SlotEnding slot header))) _ (next_slot place slot)
+      (At (SlotWords slot header []))
       (next_slot_falls slot _ l (omega arith)) ((l, omega arith), omega arith)
   ring_falls seen (SlotWords slot header got) found l =
       one_more (λ at. RingFits place at × (ring_left place at < ring_left place (SlotWords slot header got)))
-      place.width got found (SlotWords slot header) (SlotAgain slot header) l.1 (λ e m. ((l.0, m), omega arith)) (λ e m. ((l.0, m), omega arith))
+      place.width got found (SlotWords slot header) (SlotAgain slot header) l.1 (λ e m. ((l.0, m), omega arith))
+      (λ e m. ((l.0, m), omega arith))
   ring_falls seen (SlotAgain slot header value) found l =
-      either (RingFalls (ring_left place (SlotAgain slot header value))) _ (Over (Found (if is_deleted place.form header then None else Some value)))
+      either (RingFalls (ring_left place (SlotAgain slot header value))) _
+      (Over (Found (if is_deleted place.form header then None else Some value)))
       (next_slot place slot)
-      (wide_or_none place.width (is_deleted place.form header) value l.1, omega arith) (next_slot_falls slot _ l.0 (omega arith))
+      (wide_or_none place.width (is_deleted place.form header) value l.1, omega arith)
+      (next_slot_falls slot _ l.0 (omega arith))

@@ -42,17 +42,21 @@ module _ (cells : Cells) (workers : ℕ) (room : FitsCells cells) where
   abbrev pub CollectFalls : ℕ → Now CollectPlace (List ℕ) → Type 0
   CollectFalls = Falls (CollectFits cells workers) (CollectEnds workers) (collect_left cells workers)
 
-  entry_falls : (known : List ℕ) (entry n : ℕ) → length known < workers → 2 * (workers - length known) - 1 + 3 * cells.cells ≤ n
+  entry_falls : (known : List ℕ) (entry n : ℕ) → length known < workers
+      → 2 * (workers - length known) - 1 + 3 * cells.cells ≤ n
       → CollectFalls n (entry_known workers (known ++ entry ∷ []))
   entry_falls known entry n l m =
       let c = room.least_cells in
       one_more (λ at. CollectFits cells workers at × (collect_left cells workers at < n))
-      workers known entry HorizonLook (λ all. CollectTag all 0) l (λ e f. (f, omega arith)) (λ e f. ((f, c), omega arith))
+      workers known entry HorizonLook (λ all. CollectTag all 0) l (λ e f. (f, omega arith))
+      (λ e f. ((f, c), omega arith))
 
-  next_falls : (known : List ℕ) (cell n : ℕ) → length known ≡ workers → cell < cells.cells → 3 * (cells.cells - cell - 1) < n
+  next_falls : (known : List ℕ) (cell n : ℕ) → length known ≡ workers → cell < cells.cells
+      → 3 * (cells.cells - cell - 1) < n
       → CollectFalls n (collect_next cells known cell)
   next_falls known cell n e l m =
-      or_last (CollectFalls n) cells.cells cell (Over known) (At (CollectTag known (cell + 1))) l (λ f. (e, omega arith)) (λ f. ((e, f), omega arith))
+      or_last (CollectFalls n) cells.cells cell (Over known) (At (CollectTag known (cell + 1))) l
+      (λ f. (e, omega arith)) (λ f. ((e, f), omega arith))
 
   pub collect_falls : (seen : List ℕ) (at : CollectPlace) (found : ℕ) → CollectFits cells workers at
       → CollectFalls (collect_left cells workers at) (collect_after cells workers seen at found)
@@ -67,7 +71,8 @@ module _ (cells : Cells) (workers : ℕ) (room : FitsCells cells) where
       (collect_next cells known cell)
       (l, omega arith) (next_falls known cell _ l.0 l.1 (omega arith))
   collect_falls seen (CollectEnding known cell tag) found l =
-      either (CollectFalls (collect_left cells workers (CollectEnding known cell tag))) _ (At (CollectFree known cell tag))
+      either (CollectFalls (collect_left cells workers (CollectEnding known cell tag))) _
+      (At (CollectFree known cell tag))
       (collect_next cells known cell)
       (l, omega arith) (next_falls known cell _ l.0 l.1 (omega arith))
   collect_falls seen (CollectFree known cell tag) found l = next_falls known cell _ l.0 l.1 (omega arith)
@@ -78,13 +83,15 @@ module _ (workers : ℕ) where
   abbrev pub OldFalls : ℕ → Now ℕ OldEnd → Type 0
   OldFalls = Falls (IsOf workers) (OldEnds workers) (old_left workers)
 
-  pub old_falls : (seen : List ℕ) (worker found : ℕ) → IsOf workers worker → OldFalls (old_left workers worker) (old_after workers seen worker found)
+  pub old_falls : (seen : List ℕ) (worker found : ℕ) → IsOf workers worker
+      → OldFalls (old_left workers worker) (old_after workers seen worker found)
   old_falls seen worker found l =
       let n = old_left workers worker in
       either (OldFalls n) _ (Over (TooOld worker (slice_index seen (worker - 1)) found))
       (if worker == workers then Over NotPassed else At (worker + 1))
       (l, omega arith)
-      (by_test (OldFalls n) (worker == workers) (Over NotPassed) (At (worker + 1)) (λ e. (tt, omega arith)) (λ e. grind (arith, nat_tests)))
+      (by_test (OldFalls n) (worker == workers) (Over NotPassed) (At (worker + 1)) (λ e. (tt, omega arith))
+      (λ e. grind (arith, nat_tests)))
 
 -- 3. A whole read
 
@@ -97,9 +104,11 @@ module _ (sight : Sight) (fits : SightFits sight) where
   on_current_falls n (At at) h = (h.0, omega arith)
   on_current_falls n (Over (current.Found value)) h = (h.0, omega arith)
   on_current_falls n (Over (current.Unsure value header)) h =
-      let r = all_rows sight.place.ring (sight.place.width + 3) fits.place.least_ring in ((h.0, fits.place.least_ring), omega arith)
+      let r = all_rows sight.place.ring (sight.place.width + 3) fits.place.least_ring in
+      ((h.0, fits.place.least_ring), omega arith)
   on_current_falls n (Over current.GoOld) h =
-      let r = all_rows sight.place.ring (sight.place.width + 3) fits.place.least_ring in (fits.place.least_ring, omega arith)
+      let r = all_rows sight.place.ring (sight.place.width + 3) fits.place.least_ring in
+      (fits.place.least_ring, omega arith)
 
   on_unsure_falls : (value : List ℕ) (header n : ℕ) (now : Now RingPlace SearchEnd) → length value ≡ sight.place.width
       → RingFalls sight.place fits.place n now
@@ -113,7 +122,8 @@ module _ (sight : Sight) (fits : SightFits sight) where
   on_ring_falls n (At at) h = (h.0, omega arith)
   on_ring_falls n (Over (Found old)) h = (h.0, omega arith)
   on_ring_falls n (Over NotThere) h =
-      let r = all_rows sight.cells.cells (sight.place.width + 5) fits.cells.least_cells in (fits.cells.least_cells, omega arith)
+      let r = all_rows sight.cells.cells (sight.place.width + 5) fits.cells.least_cells in
+      (fits.cells.least_cells, omega arith)
 
   on_cells_falls : (n : ℕ) (now : Now CellPlace SearchEnd) → CellFalls sight.cells sight.place fits.place n now
       → ReadFalls (n + sight.workers) (on_cells now)
@@ -126,17 +136,22 @@ module _ (sight : Sight) (fits : SightFits sight) where
   on_horizon_falls n (Over (TooOld worker entry horizon)) h = h
   on_horizon_falls n (Over NotPassed) h = h
 
-  pub read_falls : (seen : List ℕ) (at : ReadPlace) (found : ℕ) → ReadFits sight at → ReadFalls (read_left sight at) (read_after sight seen at found)
+  pub read_falls : (seen : List ℕ) (at : ReadPlace) (found : ℕ) → ReadFits sight at
+      → ReadFalls (read_left sight at) (read_after sight seen at found)
   read_falls seen (ReadCurrent at) found l = on_current_falls _ _ (current_falls sight.place fits.place seen at found l)
-  read_falls seen (ReadUnsure value header at) found l = on_unsure_falls value header _ _ l.0 (ring_falls sight.place fits.place seen at found l.1)
+  read_falls seen (ReadUnsure value header at) found l =
+      on_unsure_falls value header _ _ l.0 (ring_falls sight.place fits.place seen at found l.1)
   read_falls seen (ReadRecheck value header) found l =
       let r = all_rows sight.place.ring (sight.place.width + 3) fits.place.least_ring in
-      either (ReadFalls (1 + old_versions_left sight)) _ (Over (Got (Some value))) (At (ReadRing ring_begin)) (l, omega arith)
+      either (ReadFalls (1 + old_versions_left sight)) _ (Over (Got (Some value))) (At (ReadRing ring_begin))
+      (l, omega arith)
       (fits.place.least_ring, omega arith)
   read_falls seen (ReadRing at) found l = on_ring_falls _ _ (ring_falls sight.place fits.place seen at found l)
-  read_falls seen (ReadCells at) found l = on_cells_falls _ _ (cell_falls sight.cells sight.place fits.place seen at found l)
+  read_falls seen (ReadCells at) found l =
+      on_cells_falls _ _ (cell_falls sight.cells sight.place fits.place seen at found l)
   read_falls seen (ReadHorizon worker) found l = on_horizon_falls _ _ (old_falls sight.workers seen worker found l)
 
   -- a whole read
-  pub read_begins : read_left sight (ReadCurrent current_begin) ≡ 3 + sight.place.width + 2 * ring_whole sight + cells_whole sight + sight.workers
+  pub read_begins : read_left sight (ReadCurrent current_begin) ≡ 3 + sight.place.width + 2 * ring_whole sight
+      + cells_whole sight + sight.workers
   read_begins = omega arith

@@ -20,7 +20,8 @@ use Rattle.nam_calls.specs.Fits.{SightFits, IsTableOf}
 use Rattle.nam_calls.proofs.FallsRead.{read_begins}
 
 -- the figure of a whole read, by the table's numbers
-figure_of : (w w' r r' cells workers n : ℕ) → w ≡ w' → r ≡ r' → n ≡ 3 + w + 2 * (r * (w + 3)) + cells * (w + 5) + workers
+figure_of : (w w' r r' cells workers n : ℕ) → w ≡ w' → r ≡ r'
+    → n ≡ 3 + w + 2 * (r * (w + 3)) + cells * (w + 5) + workers
     → n + 1 ≡ 4 + w' + 2 * (r' * (w' + 3)) + cells * (w' + 5) + workers
 figure_of w w' r r' cells workers n e f g = rw (← e, ← f) (omega arith)
 
@@ -64,6 +65,7 @@ module _ (shape : Shape) (limits : FitsLimits shape) where
       let w = width_is table position is l in
       let r = ring_is table position is l in
       let b = read_begins (sight_of shape table position) (sight_fits table position is l) in
-      figure_of (sight_of shape table position).place.width (width_of shape table) (sight_of shape table position).place.ring
+      figure_of (sight_of shape table position).place.width (width_of shape table)
+      (sight_of shape table position).place.ring
       (ring_of shape table) shape.cells shape.workers
       (read_left (sight_of shape table position) read_begin) w r b

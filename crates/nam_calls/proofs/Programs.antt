@@ -15,12 +15,14 @@ use Rattle.nam_calls.specs.Program.{taking}
 -- 1. Tests on both sides
 
 module _ {X Y : Type 0} (F : X → Y → Type 0) where
-  pub both : (b : Bool) (x x' : X) (y y' : Y) → (b ≡ true → F x y) → (b ≡ false → F x' y') → F (if b then x else x') (if b then y else y')
+  pub both : (b : Bool) (x x' : X) (y y' : Y) → (b ≡ true → F x y) → (b ≡ false → F x' y')
+      → F (if b then x else x') (if b then y else y')
   both true x x' y y' f g = f refl
   both false x x' y y' f g = g refl
 
   -- where the program asks for the opposite
-  pub both_not : (b : Bool) (x x' : X) (y y' : Y) → (b ≡ false → F x' y') → (b ≡ true → F x y) → F (if b then x else x') (if not b then y' else y)
+  pub both_not : (b : Bool) (x x' : X) (y y' : Y) → (b ≡ false → F x' y') → (b ≡ true → F x y)
+      → F (if b then x else x') (if not b then y' else y)
   both_not true x x' y y' f g = g refl
   both_not false x x' y y' f g = f refl
 
@@ -31,18 +33,24 @@ word_then here next = (here, next)
 -- the last of so many, or another one
 module _ {X : Type 0} (F : X → Type 0) (nth count : ℕ) (last more : X) where
   pub is_last : nth + 1 ≡ count → F last → F (if nth + 1 == count then last else more)
-  is_last e f = let t : (nth + 1 == count) ≡ true = grind (arith, nat_tests) in subst (λ b. F (if b then last else more)) (sym t) f
+  is_last e f =
+      let t : (nth + 1 == count) ≡ true = grind (arith, nat_tests) in
+      subst (λ b. F (if b then last else more)) (sym t) f
 
   pub is_more : (rest : ℕ) → nth + 2 + rest ≡ count → F more → F (if nth + 1 == count then last else more)
-  is_more rest e f = let t : (nth + 1 == count) ≡ false = grind (arith, nat_tests) in subst (λ b. F (if b then last else more)) (sym t) f
+  is_more rest e f =
+      let t : (nth + 1 == count) ≡ false = grind (arith, nat_tests) in
+      subst (λ b. F (if b then last else more)) (sym t) f
 
 -- the same where the last itself is counted
 module _ {X : Type 0} (F : X → Type 0) (nth count : ℕ) (last more : X) where
   pub at_last : nth ≡ count → F last → F (if nth == count then last else more)
-  at_last e f = let t : (nth == count) ≡ true = grind (arith, nat_tests) in subst (λ b. F (if b then last else more)) (sym t) f
+  at_last e f =
+      let t : (nth == count) ≡ true = grind (arith, nat_tests) in subst (λ b. F (if b then last else more)) (sym t) f
 
   pub before_last : (rest : ℕ) → nth + 1 + rest ≡ count → F more → F (if nth == count then last else more)
-  before_last rest e f = let t : (nth == count) ≡ false = grind (arith, nat_tests) in subst (λ b. F (if b then last else more)) (sym t) f
+  before_last rest e f =
+      let t : (nth == count) ≡ false = grind (arith, nat_tests) in subst (λ b. F (if b then last else more)) (sym t) f
 
 module _ {S A : Type 0} (stands : S → Now (VerbAt Field) A) (after : S → ℕ → S) where
   -- 2. A call does what one program says
@@ -53,7 +61,8 @@ module _ {S A : Type 0} (stands : S → Now (VerbAt Field) A) (after : S → ℕ
   program_unique call (Do verb next) (Ret b) f g = absurd (cc)
   program_unique call (Do v next) (Do w other) f g =
       let e : v ≡ w = cc in
-      ap (λ k. Do v k) (fun_ext (λ found. program_unique (after call found) (next found) (other found) (f.1 found) (g.1 found)))
+      ap (λ k. Do v k)
+      (fun_ext (λ found. program_unique (after call found) (next found) (other found) (f.1 found) (g.1 found)))
       ∙ ap (λ k. Do k other) e
 
   pub the_program : (call : S) (p : Prog A) → IsProgram stands after call p → IsTheProgram stands after call p
@@ -65,7 +74,8 @@ module _ {S A : Type 0} (stands : S → Now (VerbAt Field) A) (after : S → ℕ
   module _ (at : ℕ → Field) (width : ℕ) (more done : List ℕ → S) (rest : List ℕ → Prog A)
       (stands_more : (got : List ℕ) → stands (more got) ≡ At (ReadAt (at (length got))))
       (after_more : (got : List ℕ) (word : ℕ) → after (more got) word ≡ until width (got ++ word ∷ []) more done)
-      (wide : 0 < width) (goes_on : (got : List ℕ) → length got ≡ width → IsProgram stands after (done got) (rest got)) where
+      (wide : 0 < width)
+      (goes_on : (got : List ℕ) → length got ≡ width → IsProgram stands after (done got) (rest got)) where
     abbrev Reads : ℕ → List ℕ → S → Type 0
     Reads n got call = IsProgram stands after call (words at n got >>= rest)
 
@@ -74,13 +84,15 @@ module _ {S A : Type 0} (stands : S → Now (VerbAt Field) A) (after : S → ℕ
         let l = length-append got (word ∷ []) in
         let t : (length (got ++ word ∷ []) == width) ≡ true = grind (arith, nat_tests) in
         subst (Reads zero (got ++ word ∷ [])) (sym (after_more got word))
-        (subst (λ b. Reads zero (got ++ word ∷ []) (if b then done (got ++ word ∷ []) else more (got ++ word ∷ []))) (sym t)
+        (subst (λ b. Reads zero (got ++ word ∷ []) (if b then done (got ++ word ∷ []) else more (got ++ word ∷ [])))
+        (sym t)
         (goes_on (got ++ word ∷ []) (omega arith)))
     words_from (suc n) got e = word_then (stands_more got) λ word.
         let l = length-append got (word ∷ []) in
         let t : (length (got ++ word ∷ []) == width) ≡ false = grind (arith, nat_tests) in
         subst (Reads (suc n) (got ++ word ∷ [])) (sym (after_more got word))
-        (subst (λ b. Reads (suc n) (got ++ word ∷ []) (if b then done (got ++ word ∷ []) else more (got ++ word ∷ []))) (sym t)
+        (subst (λ b. Reads (suc n) (got ++ word ∷ [])
+        (if b then done (got ++ word ∷ []) else more (got ++ word ∷ []))) (sym t)
         (words_from n (got ++ word ∷ []) (omega arith)))
 
     words_are : (w : ℕ) → w ≡ width → Reads w [] (more [])
@@ -116,12 +128,15 @@ module _ {S A : Type 0} (stands : S → Now (VerbAt Field) A) (after : S → ℕ
 
 -- 5. A part of a composed call: on says what follows what the part has come to
 
-module _ {S A P E : Type 0} (stands : S → Now (VerbAt Field) A) (after : S → ℕ → S) (verb : P → VerbAt Field) (part : P → ℕ → Now P E) (on : Now P E → S)
+module _ {S A P E : Type 0} (stands : S → Now (VerbAt Field) A) (after : S → ℕ → S) (verb : P → VerbAt Field)
+    (part : P → ℕ → Now P E) (on : Now P E → S)
     (stands_in : (place : P) → stands (on (At place)) ≡ At (verb place))
     (after_in : (place : P) (found : ℕ) → after (on (At place)) found ≡ on (part place found)) (rest : E → Prog A)
     (goes_on : (end : E) → IsProgram stands after (on (Over end)) (rest end)) where
-  pub part_is : (now : Now P E) (p : Prog E) → IsProgram (standing verb) (taking part) now p → IsProgram stands after (on now) (p >>= rest)
-  part_is (Over end) (Ret answer) f = let e : end ≡ answer = cc in subst (λ k. IsProgram stands after (on (Over end)) (rest k)) e (goes_on end)
+  pub part_is : (now : Now P E) (p : Prog E) → IsProgram (standing verb) (taking part) now p
+      → IsProgram stands after (on now) (p >>= rest)
+  part_is (Over end) (Ret answer) f =
+      let e : end ≡ answer = cc in subst (λ k. IsProgram stands after (on (Over end)) (rest k)) e (goes_on end)
   part_is (At place) (Ret answer) f = absurd (cc)
   part_is (Over end) (Do v next) f = absurd (cc)
   part_is (At place) (Do v next) f =

@@ -31,7 +31,8 @@ module _ (path : Path) where
   free_or passed true p f = refl
   free_or passed false p f = f
 
-  find_at : (rest passed : ℕ) → passed + suc rest ≡ path.capacity → IsFind (At passed) (find_from path (suc rest) passed)
+  find_at : (rest passed : ℕ) → passed + suc rest ≡ path.capacity
+      → IsFind (At passed) (find_from path (suc rest) passed)
   find_at zero passed e =
       word_then refl λ found.
       both IsFind (found == key_word path.key) _ _ _ _ (λ t. refl) λ t.
@@ -41,7 +42,8 @@ module _ (path : Path) where
       word_then refl λ found.
       both IsFind (found == key_word path.key) _ _ _ _ (λ t. refl) λ t.
       free_or passed (found == 0) _
-      (is_more (λ call. IsFind call (find_from path (suc rest) (passed + 1))) passed path.capacity _ _ rest (omega arith)
+      (is_more (λ call. IsFind call (find_from path (suc rest) (passed + 1))) passed path.capacity _ _ rest
+      (omega arith)
       (find_at rest (passed + 1) (omega arith)))
 
   find_of : (count : ℕ) → count ≡ path.capacity → 0 < count → IsFind (At 0) (find_from path count 0)
@@ -69,7 +71,8 @@ module _ (path : Path) where
       (is_last (λ call. IsClaim call (claim_from path zero (passed + 1))) passed path.capacity _ _ (omega arith) refl)
   claim_at (suc rest) passed e =
       position_is (suc rest) passed
-      (is_more (λ call. IsClaim call (claim_from path (suc rest) (passed + 1))) passed path.capacity _ _ rest (omega arith)
+      (is_more (λ call. IsClaim call (claim_from path (suc rest) (passed + 1))) passed path.capacity _ _ rest
+      (omega arith)
       (claim_at rest (passed + 1) (omega arith)))
 
   claim_of : (count : ℕ) → count ≡ path.capacity → 0 < count → IsClaim (At (KeyLook 0)) (claim_from path count 0)

@@ -30,16 +30,20 @@ module _ (workers : ℕ) (some : 0 < workers) where
   IsSnap = IsProgram (standing snap_verb) (taking (snap_after workers))
 
   entry_is : (seen : List ℕ) (rest entry : ℕ)
-      → IsSnap (if entry + 1 == workers then Over (Done seen) else At (Second seen (entry + 1))) (second_pass seen rest (entry + 1))
+      → IsSnap (if entry + 1 == workers then Over (Done seen) else At (Second seen (entry + 1)))
+      (second_pass seen rest (entry + 1))
       → IsSnap (At (Second seen entry)) (second_pass seen (suc rest) entry)
   entry_is seen rest entry next =
       word_then refl λ found. both IsSnap (found == slice_index seen entry) _ _ _ _ (λ e. next) (λ e. refl)
 
-  second_from : (seen : List ℕ) (rest entry : ℕ) → entry + suc rest ≡ workers → IsSnap (At (Second seen entry)) (second_pass seen (suc rest) entry)
+  second_from : (seen : List ℕ) (rest entry : ℕ) → entry + suc rest ≡ workers
+      → IsSnap (At (Second seen entry)) (second_pass seen (suc rest) entry)
   second_from seen zero entry e =
-      entry_is seen zero entry (is_last (λ call. IsSnap call (second_pass seen zero (entry + 1))) entry workers _ _ (omega arith) refl)
+      entry_is seen zero entry
+      (is_last (λ call. IsSnap call (second_pass seen zero (entry + 1))) entry workers _ _ (omega arith) refl)
   second_from seen (suc rest) entry e =
-      entry_is seen (suc rest) entry (is_more (λ call. IsSnap call (second_pass seen (suc rest) (entry + 1))) entry workers _ _ rest (omega arith)
+      entry_is seen (suc rest) entry
+      (is_more (λ call. IsSnap call (second_pass seen (suc rest) (entry + 1))) entry workers _ _ rest (omega arith)
       (second_from seen rest (entry + 1) (omega arith)))
 
   second_of : (seen : List ℕ) (count : ℕ) → count ≡ workers → IsSnap (At (Second seen 0)) (second_pass seen count 0)
@@ -58,7 +62,8 @@ module _ (cells : Cells) (workers : ℕ) (seen : List ℕ) (some : 0 < workers) 
   abbrev IsCollect : Now CollectPlace (List ℕ) → Prog (List ℕ) → Type 0
   IsCollect = IsProgram (standing (collect_verb cells seen)) (taking (collect_after cells workers seen))
 
-  cell_is : (known : List ℕ) (rest cell : ℕ) → IsCollect (collect_next cells known cell) (free_cells cells workers seen known rest (cell + 1))
+  cell_is : (known : List ℕ) (rest cell : ℕ)
+      → IsCollect (collect_next cells known cell) (free_cells cells workers seen known rest (cell + 1))
       → IsCollect (At (CollectTag known cell)) (free_cells cells workers seen known (suc rest) cell)
   cell_is known rest cell next =
       word_then refl λ tag.
@@ -72,13 +77,16 @@ module _ (cells : Cells) (workers : ℕ) (seen : List ℕ) (some : 0 < workers) 
       → IsCollect (At (CollectTag known cell)) (free_cells cells workers seen known (suc rest) cell)
   cells_from known zero cell e =
       cell_is known zero cell
-      (is_last (λ call. IsCollect call (free_cells cells workers seen known zero (cell + 1))) cell cells.cells _ _ (omega arith) refl)
+      (is_last (λ call. IsCollect call (free_cells cells workers seen known zero (cell + 1))) cell cells.cells _ _
+      (omega arith) refl)
   cells_from known (suc rest) cell e =
       cell_is known (suc rest) cell
-      (is_more (λ call. IsCollect call (free_cells cells workers seen known (suc rest) (cell + 1))) cell cells.cells _ _ rest (omega arith)
+      (is_more (λ call. IsCollect call (free_cells cells workers seen known (suc rest) (cell + 1))) cell cells.cells _
+      _ rest (omega arith)
       (cells_from known rest (cell + 1) (omega arith)))
 
-  cells_of : (known : List ℕ) (count : ℕ) → count ≡ cells.cells → IsCollect (At (CollectTag known 0)) (free_cells cells workers seen known count 0)
+  cells_of : (known : List ℕ) (count : ℕ) → count ≡ cells.cells
+      → IsCollect (At (CollectTag known 0)) (free_cells cells workers seen known count 0)
   cells_of known zero e = absurd (omega arith)
   cells_of known (suc rest) e = cells_from known rest 0 (omega arith)
 
@@ -89,13 +97,16 @@ module _ (cells : Cells) (workers : ℕ) (seen : List ℕ) (some : 0 < workers) 
   entries_from : (rest : ℕ) (known : List ℕ) → length known + rest ≡ workers
       → IsCollect (entry_known workers known) (then_free (raise_entries cells workers seen rest known))
   entries_from zero known e =
-      at_last (λ place. IsCollect (At place) (then_free (raise_entries cells workers seen zero known))) (length known) workers _ _ (omega arith)
+      at_last (λ place. IsCollect (At place) (then_free (raise_entries cells workers seen zero known)))
+      (length known) workers _ _ (omega arith)
       (cells_of known cells.cells refl)
   entries_from (suc rest) known e =
-      before_last (λ place. IsCollect (At place) (then_free (raise_entries cells workers seen (suc rest) known))) (length known) workers _ _ rest
+      before_last (λ place. IsCollect (At place) (then_free (raise_entries cells workers seen (suc rest) known)))
+      (length known) workers _ _ rest
       (omega arith) (
       word_then refl λ found.
-      both_not (λ now entries. IsCollect now (then_free entries)) (nat_lt found (slice_index seen (length known))) _ _ _ _
+      both_not (λ now entries. IsCollect now (then_free entries))
+      (nat_lt found (slice_index seen (length known))) _ _ _ _
       (λ t. let l = length-append known (found ∷ []) in entries_from rest (known ++ found ∷ []) (omega arith)) λ t.
       word_then refl λ word.
       let l = length-append known (raised cells workers seen known found word ∷ []) in

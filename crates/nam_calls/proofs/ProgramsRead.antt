@@ -58,11 +58,14 @@ module _ (place : Place) (seen : List ℕ) (wide : 0 < place.width) where
       word_then refl λ again.
       both IsRing (same_stamp place.form again header && not (again == mark)) _ _ _ _ (λ e. refl) (λ e. next)
 
-  ring_from : (rest slot : ℕ) → slot + suc rest ≡ place.ring → IsRing (At (SlotHead slot)) (search_ring place seen (suc rest) slot)
+  ring_from : (rest slot : ℕ) → slot + suc rest ≡ place.ring
+      → IsRing (At (SlotHead slot)) (search_ring place seen (suc rest) slot)
   ring_from zero slot e =
-      slot_is zero slot (is_last (λ call. IsRing call (search_ring place seen zero (slot + 1))) slot place.ring _ _ (omega arith) refl)
+      slot_is zero slot (is_last (λ call. IsRing call (search_ring place seen zero (slot + 1))) slot place.ring _ _
+      (omega arith) refl)
   ring_from (suc rest) slot e =
-      slot_is (suc rest) slot (is_more (λ call. IsRing call (search_ring place seen (suc rest) (slot + 1))) slot place.ring _ _ rest (omega arith)
+      slot_is (suc rest) slot (is_more
+      (λ call. IsRing call (search_ring place seen (suc rest) (slot + 1))) slot place.ring _ _ rest (omega arith)
       (ring_from rest (slot + 1) (omega arith)))
 
   ring_of : (slots : ℕ) → slots ≡ place.ring → 0 < slots → IsRing (At ring_begin) (search_ring place seen slots 0)
@@ -86,21 +89,26 @@ module _ (place : Place) (seen : List ℕ) (wide : 0 < place.width) where
         both_not IsCells (sees place.form seen header) _ _ _ _ (λ e. next) λ e.
         word_then refl λ ending.
         both IsCells (sees place.form seen ending) _ _ _ _ (λ e. next) λ e.
-        words_is (standing (cell_verb cells)) (taking (cell_after cells place seen)) (field.CellWord cells.bucket cell) place.width
+        words_is (standing (cell_verb cells)) (taking (cell_after cells place seen))
+        (field.CellWord cells.bucket cell) place.width
         (λ got. At (CellWords cell tag header got)) (λ got. At (CellAgain cell tag header got)) _ (λ got. refl)
         (λ got word. if_in At (length (got ++ word ∷ []) == place.width) _ _) wide λ value l.
         word_then refl λ again.
         both IsCells (again == tag) _ _ _ _ (λ e. refl) (λ e. next)
 
-    cells_from : (rest cell : ℕ) → cell + suc rest ≡ cells.cells → IsCells (At (CellTag cell)) (search_cells place seen cells (suc rest) cell)
+    cells_from : (rest cell : ℕ) → cell + suc rest ≡ cells.cells
+        → IsCells (At (CellTag cell)) (search_cells place seen cells (suc rest) cell)
     cells_from zero cell e =
-        cell_is zero cell (is_last (λ call. IsCells call (search_cells place seen cells zero (cell + 1))) cell cells.cells _ _ (omega arith) refl)
+        cell_is zero cell (is_last (λ call. IsCells call (search_cells place seen cells zero (cell + 1))) cell
+        cells.cells _ _ (omega arith) refl)
     cells_from (suc rest) cell e =
         cell_is (suc rest) cell
-        (is_more (λ call. IsCells call (search_cells place seen cells (suc rest) (cell + 1))) cell cells.cells _ _ rest (omega arith)
+        (is_more (λ call. IsCells call (search_cells place seen cells (suc rest) (cell + 1))) cell cells.cells _ _
+        rest (omega arith)
         (cells_from rest (cell + 1) (omega arith)))
 
-    cells_of : (count : ℕ) → count ≡ cells.cells → 0 < count → IsCells (At cell_begin) (search_cells place seen cells count 0)
+    cells_of : (count : ℕ) → count ≡ cells.cells → 0 < count
+        → IsCells (At cell_begin) (search_cells place seen cells count 0)
     cells_of zero e l = absurd (omega arith)
     cells_of (suc rest) e l = cells_from rest 0 (omega arith)
 
@@ -118,7 +126,8 @@ module _ (workers : ℕ) (seen : List ℕ) where
   old_from (suc rest) worker e =
       word_then refl λ horizon.
       both IsOld (nat_lt (slice_index seen (worker - 1)) horizon) _ _ _ _ (λ t. refl) λ t.
-      before_last (λ call. IsOld call (show_old workers seen (suc rest) (worker + 1))) worker workers _ _ rest (omega arith)
+      before_last (λ call. IsOld call (show_old workers seen (suc rest) (worker + 1))) worker workers _ _ rest
+      (omega arith)
       (old_from rest (worker + 1) (omega arith))
 
   old_of : (count : ℕ) → count ≡ workers → 0 < count → IsOld (At old_begin) (show_old workers seen count 1)
@@ -136,10 +145,12 @@ module _ (sight : Sight) (seen : List ℕ) (has : SightHasAll sight) where
   horizon_is NotPassed = refl
 
   after_cells : (end : SearchEnd)
-      → IsRead (on_cells (Over end)) (found_or (show_old sight.workers seen sight.workers 1 >>= λ end. Ret (reading_end end)) end)
+      → IsRead (on_cells (Over end))
+      (found_or (show_old sight.workers seen sight.workers 1 >>= λ end. Ret (reading_end end)) end)
   after_cells (Found value) = refl
   after_cells NotThere =
-      part_is (standing (read_verb sight)) (taking (read_after sight seen)) (old_verb) (old_after sight.workers seen) on_horizon
+      part_is (standing (read_verb sight)) (taking (read_after sight seen)) (old_verb)
+      (old_after sight.workers seen) on_horizon
       (λ place. refl) (λ place found. refl) _ horizon_is (At old_begin) (show_old sight.workers seen sight.workers 1)
       (old_of sight.workers seen sight.workers refl has.workers)
 
@@ -148,14 +159,18 @@ module _ (sight : Sight) (seen : List ℕ) (has : SightHasAll sight) where
       >>= found_or (show_old sight.workers seen sight.workers 1 >>= λ end. Ret (reading_end end))) end)
   after_ring (Found value) = refl
   after_ring NotThere =
-      part_is (standing (read_verb sight)) (taking (read_after sight seen)) (cell_verb sight.cells) (cell_after sight.cells sight.place seen) on_cells
-      (λ place. refl) (λ place found. refl) _ after_cells (At cell_begin) (search_cells sight.place seen sight.cells sight.cells.cells 0)
+      part_is (standing (read_verb sight)) (taking (read_after sight seen)) (cell_verb sight.cells)
+      (cell_after sight.cells sight.place seen) on_cells
+      (λ place. refl) (λ place found. refl) _ after_cells (At cell_begin)
+      (search_cells sight.place seen sight.cells sight.cells.cells 0)
       (cells_of sight.place seen has.words sight.cells sight.cells.cells refl has.cells)
 
   old_versions_are : IsRead (At (ReadRing ring_begin)) (old_versions sight seen)
   old_versions_are =
-      part_is (standing (read_verb sight)) (taking (read_after sight seen)) (ring_verb sight.place) (ring_after sight.place seen) on_ring
-      (λ place. refl) (λ place found. refl) _ after_ring (At ring_begin) (search_ring sight.place seen sight.place.ring 0)
+      part_is (standing (read_verb sight)) (taking (read_after sight seen)) (ring_verb sight.place)
+      (ring_after sight.place seen) on_ring
+      (λ place. refl) (λ place found. refl) _ after_ring (At ring_begin)
+      (search_ring sight.place seen sight.place.ring 0)
       (ring_of sight.place seen has.words sight.place.ring refl has.slots)
 
   -- step 5
@@ -163,17 +178,22 @@ module _ (sight : Sight) (seen : List ℕ) (has : SightHasAll sight) where
   recheck header value = Do (ReadAt (field.Header sight.place.row)) (λ last.
       if same_stamp sight.place.form last header then Ret (read_end.Got (Some value)) else old_versions sight seen)
 
-  after_unsure : (header : ℕ) (value : List ℕ) (end : SearchEnd) → IsRead (on_unsure value header (Over end)) (found_or (recheck header value) end)
+  after_unsure : (header : ℕ) (value : List ℕ) (end : SearchEnd)
+      → IsRead (on_unsure value header (Over end)) (found_or (recheck header value) end)
   after_unsure header value (Found old) = refl
   after_unsure header value NotThere =
-      word_then refl λ last. both IsRead (same_stamp sight.place.form last header) _ _ _ _ (λ e. refl) (λ e. old_versions_are)
+      word_then refl λ last. both IsRead (same_stamp sight.place.form last header) _ _ _ _ (λ e. refl)
+      (λ e. old_versions_are)
 
   unsure_is : (header : ℕ) (value : List ℕ)
-      → IsRead (At (ReadUnsure value header ring_begin)) (search_ring sight.place seen sight.place.ring 0 >>= found_or (recheck header value))
+      → IsRead (At (ReadUnsure value header ring_begin))
+      (search_ring sight.place seen sight.place.ring 0 >>= found_or (recheck header value))
   unsure_is header value =
-      part_is (standing (read_verb sight)) (taking (read_after sight seen)) (ring_verb sight.place) (ring_after sight.place seen)
+      part_is (standing (read_verb sight)) (taking (read_after sight seen)) (ring_verb sight.place)
+      (ring_after sight.place seen)
       (on_unsure value header)
-      (λ place. refl) (λ place found. refl) _ (after_unsure header value) (At ring_begin) (search_ring sight.place seen sight.place.ring 0)
+      (λ place. refl) (λ place found. refl) _ (after_unsure header value) (At ring_begin)
+      (search_ring sight.place seen sight.place.ring 0)
       (ring_of sight.place seen has.words sight.place.ring refl has.slots)
 
   abbrev IsCurrent : Now CurrentPlace CurrentEnd → Prog ReadingEnd → Type 0
@@ -184,13 +204,18 @@ module _ (sight : Sight) (seen : List ℕ) (has : SightHasAll sight) where
       word_then refl λ header.
       both_not IsCurrent (sees sight.place.form seen header) _ _ _ _ (λ e. old_versions_are) λ e.
       both IsCurrent (is_deleted sight.place.form header) _ _ _ _ (λ e. refl) λ e.
-      words_is (standing (read_verb sight)) (taking (read_after sight seen)) (field.Word sight.place.row) sight.place.width
-      (λ got. At (ReadCurrent (CurrentWords header got))) (λ got. At (ReadCurrent (CurrentAgain header got))) _ (λ got. refl)
-      (λ got word. if_in (λ place. At (ReadCurrent place)) (length (got ++ word ∷ []) == sight.place.width) _ _) has.words λ value l.
+      words_is (standing (read_verb sight)) (taking (read_after sight seen))
+      (field.Word sight.place.row) sight.place.width
+      (λ got. At (ReadCurrent (CurrentWords header got))) (λ got. At (ReadCurrent (CurrentAgain header got))) _
+      (λ got. refl)
+      (λ got word. if_in (λ place. At (ReadCurrent place)) (length (got ++ word ∷ []) == sight.place.width) _ _)
+      has.words λ value l.
       word_then refl λ again.
       both_not IsCurrent (same_stamp sight.place.form again header) _ _ _ _ (λ e. old_versions_are) λ e.
-      both_not IsCurrent (is_locked sight.place.form header || is_locked sight.place.form again) _ _ _ _ (λ e. refl) λ e.
+      both_not IsCurrent (is_locked sight.place.form header || is_locked sight.place.form again) _ _ _ _
+      (λ e. refl) λ e.
       unsure_is header value
 
 pub reads_are_programs : ReadIsProgram
-reads_are_programs sight seen has = the_program (standing (read_verb sight)) (taking (read_after sight seen)) _ _ (read_is sight seen has)
+reads_are_programs sight seen has =
+    the_program (standing (read_verb sight)) (taking (read_after sight seen)) _ _ (read_is sight seen has)

@@ -40,11 +40,14 @@ module _ (cells : Cells) where
       word_then refl λ found.
       both IsClaim (found == tag) _ _ _ _ (λ e. refl) (λ e. next)
 
-  claim_from : (rest cell : ℕ) → cell + suc rest ≡ cells.cells → IsClaim (At (ClaimLook cell)) (claim_cell cells (suc rest) cell)
+  claim_from : (rest cell : ℕ) → cell + suc rest ≡ cells.cells
+      → IsClaim (At (ClaimLook cell)) (claim_cell cells (suc rest) cell)
   claim_from zero cell e =
-      cell_is zero cell (is_last (λ call. IsClaim call (claim_cell cells zero (cell + 1))) cell cells.cells _ _ (omega arith) refl)
+      cell_is zero cell
+      (is_last (λ call. IsClaim call (claim_cell cells zero (cell + 1))) cell cells.cells _ _ (omega arith) refl)
   claim_from (suc rest) cell e =
-      cell_is (suc rest) cell (is_more (λ call. IsClaim call (claim_cell cells (suc rest) (cell + 1))) cell cells.cells _ _ rest (omega arith)
+      cell_is (suc rest) cell (is_more
+      (λ call. IsClaim call (claim_cell cells (suc rest) (cell + 1))) cell cells.cells _ _ rest (omega arith)
       (claim_from rest (cell + 1) (omega arith)))
 
   claim_of : (count : ℕ) → count ≡ cells.cells → 0 < count → IsClaim (At claim_begin) (claim_cell cells count 0)
@@ -64,17 +67,21 @@ module _ (place : Place) (cells : Cells) (wide : 0 < place.width) (some : 0 < ce
       → IsMove (on_claim cells slot header ending (Over end)) (after_claim place cells slot header ending end)
   claimed_is slot header ending NoRoom = refl
   claimed_is slot header ending (Claimed cell tag) =
-      words_is (standing (move_verb place cells)) (taking (move_after place cells)) (field.SlotWord place.row slot) place.width
+      words_is (standing (move_verb place cells)) (taking (move_after place cells))
+      (field.SlotWord place.row slot) place.width
       (λ got. At (MoveWords slot header ending cell tag got))
       (λ value. At (MoveFill slot header cell tag (version_of header ending value) fill_begin)) _ (λ got. refl)
       (λ got word. if_in At (length (got ++ word ∷ []) == place.width) _ _) wide λ value l.
       word_then refl λ owned.
       word_then refl λ begun.
       word_then refl λ ended.
-      writes_is (standing (move_verb place cells)) (taking (move_after place cells)) (field.CellWord cells.bucket cell) (slice_index value) place.width
-      (λ nth. At (MoveFill slot header cell tag (version_of header ending value) (FillWord nth))) (At (MoveAgain slot header cell tag)) _
+      writes_is (standing (move_verb place cells)) (taking (move_after place cells))
+      (field.CellWord cells.bucket cell) (slice_index value) place.width
+      (λ nth. At (MoveFill slot header cell tag (version_of header ending value) (FillWord nth)))
+      (At (MoveAgain slot header cell tag)) _
       (λ nth. refl)
-      (λ nth found. if_in (on_fill slot header cell tag (version_of header ending value)) (nth + 1 == place.width) _ (At (FillWord (nth + 1)))) (
+      (λ nth found. if_in (on_fill slot header cell tag (version_of header ending value)) (nth + 1 == place.width) _
+      (At (FillWord (nth + 1)))) (
       word_then refl λ again.
       both IsMove (again == header) _ _ _ _
       (λ e. word_then refl λ shown. word_then refl λ flagged. refl)
@@ -86,8 +93,10 @@ module _ (place : Place) (cells : Cells) (wide : 0 < place.width) (some : 0 < ce
       word_then refl λ header.
       both IsMove (is_moved place.form header) _ _ _ _ (λ e. refl) λ e.
       word_then refl λ ending.
-      part_is (standing (move_verb place cells)) (taking (move_after place cells)) (claim_verb cells) (claim_after cells)
-      (on_claim cells (slot_of place count) header ending) (λ at. refl) (λ at found. refl) _ (claimed_is (slot_of place count) header ending)
+      part_is (standing (move_verb place cells)) (taking (move_after place cells)) (claim_verb cells)
+      (claim_after cells)
+      (on_claim cells (slot_of place count) header ending) (λ at. refl) (λ at found. refl) _
+      (claimed_is (slot_of place count) header ending)
       (At claim_begin) _ (claim_of cells cells.cells refl some)
 
 pub moves_are_programs : MoveIsProgram

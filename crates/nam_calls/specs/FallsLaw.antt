@@ -51,7 +51,8 @@ ClaimKeyLaw = (path : Path) (at : ClaimKeyPlace) (found : ℕ) → ClaimKeyFits 
 
 abbrev pub CurrentLaw : Type 0
 CurrentLaw = (place : Place) → FitsPlace place → (seen : List ℕ) (at : CurrentPlace) (found : ℕ) → CurrentFits place at
-    → Falls (CurrentFits place) (CurrentEnds place) (current_left place) (current_left place at) (current_after place seen at found)
+    → Falls (CurrentFits place) (CurrentEnds place) (current_left place) (current_left place at)
+    (current_after place seen at found)
 
 abbrev pub WordsLaw : Type 0
 WordsLaw = (place : Place) → FitsPlace place → (got : List ℕ) (found : ℕ) → WordsFit place got
@@ -63,7 +64,8 @@ InstallLaw = (place : Place) → FitsPlace place → (at : InstallPlace) → Ins
 
 abbrev pub SlotLaw : Type 0
 SlotLaw =
-    (place : Place) → FitsPlace place → (at : SlotPlace) (found : ℕ) → Falls Any (SlotEnds place) slot_left (slot_left at) (slot_after place at found)
+    (place : Place) → FitsPlace place → (at : SlotPlace) (found : ℕ)
+    → Falls Any (SlotEnds place) slot_left (slot_left at) (slot_after place at found)
 
 abbrev pub CopyLaw : Type 0
 CopyLaw = (place : Place) → FitsPlace place → (at : CopyPlace) → CopyFits place at
@@ -74,8 +76,10 @@ RingLaw = (place : Place) → FitsPlace place → (seen : List ℕ) (at : RingPl
     → Falls (RingFits place) (SearchEnds place) (ring_left place) (ring_left place at) (ring_after place seen at found)
 
 abbrev pub CellLaw : Type 0
-CellLaw = (cells : Cells) (place : Place) → FitsPlace place → (seen : List ℕ) (at : CellPlace) (found : ℕ) → CellFits cells place at
-    → Falls (CellFits cells place) (SearchEnds place) (cell_left cells place) (cell_left cells place at) (cell_after cells place seen at found)
+CellLaw = (cells : Cells) (place : Place) → FitsPlace place → (seen : List ℕ) (at : CellPlace) (found : ℕ)
+    → CellFits cells place at
+    → Falls (CellFits cells place) (SearchEnds place) (cell_left cells place) (cell_left cells place at)
+    (cell_after cells place seen at found)
 
 abbrev pub ClaimLaw : Type 0
 ClaimLaw = (cells : Cells) (at : ClaimPlace) (found : ℕ) → ClaimFits cells at
@@ -83,31 +87,40 @@ ClaimLaw = (cells : Cells) (at : ClaimPlace) (found : ℕ) → ClaimFits cells a
 
 abbrev pub FillLaw : Type 0
 FillLaw =
-    (width : ℕ) → 1 ≤ width → (at : FillPlace) → FillFits width at → Falls (FillFits width) Any (fill_left width) (fill_left width at)
+    (width : ℕ) → 1 ≤ width → (at : FillPlace) → FillFits width at
+    → Falls (FillFits width) Any (fill_left width) (fill_left width at)
     (fill_after width at)
 
 abbrev pub MoveLaw : Type 0
-MoveLaw = (place : Place) (cells : Cells) → FitsPlace place → FitsCells cells → (at : MovePlace) (found : ℕ) → MoveFits place cells at
-    → Falls (MoveFits place cells) Any (move_left place cells) (move_left place cells at) (move_after place cells at found)
+MoveLaw = (place : Place) (cells : Cells) → FitsPlace place → FitsCells cells → (at : MovePlace) (found : ℕ)
+    → MoveFits place cells at
+    → Falls (MoveFits place cells) Any (move_left place cells) (move_left place cells at)
+    (move_after place cells at found)
 
 abbrev pub CollectLaw : Type 0
-CollectLaw = (cells : Cells) (workers : ℕ) → FitsCells cells → (seen : List ℕ) (at : CollectPlace) (found : ℕ) → CollectFits cells workers at
-    → Falls (CollectFits cells workers) (CollectEnds workers) (collect_left cells workers) (collect_left cells workers at)
+CollectLaw = (cells : Cells) (workers : ℕ) → FitsCells cells → (seen : List ℕ) (at : CollectPlace) (found : ℕ)
+    → CollectFits cells workers at
+    → Falls (CollectFits cells workers) (CollectEnds workers) (collect_left cells workers)
+    (collect_left cells workers at)
     (collect_after cells workers seen at found)
 
 abbrev pub OldLaw : Type 0
 OldLaw = (workers : ℕ) (seen : List ℕ) (worker found : ℕ) → IsOf workers worker
-    → Falls (IsOf workers) (OldEnds workers) (old_left workers) (old_left workers worker) (old_after workers seen worker found)
+    → Falls (IsOf workers) (OldEnds workers) (old_left workers) (old_left workers worker)
+    (old_after workers seen worker found)
 
 -- what follows the locks takes at least one verb for each record
 abbrev pub LockLaw : Type 0
-LockLaw = (places : List Place) (rest : ℕ) → length places ≤ rest → (seen : List ℕ) (at : LockPlace) (found : ℕ) → LockFits (length places) at
-    → FallsTo (LockFits (length places)) (LockEnds (length places)) (lock_left places rest) (after_locks rest) (lock_left places rest at)
+LockLaw = (places : List Place) (rest : ℕ) → length places ≤ rest → (seen : List ℕ) (at : LockPlace) (found : ℕ)
+    → LockFits (length places) at
+    → FallsTo (LockFits (length places)) (LockEnds (length places)) (lock_left places rest) (after_locks rest)
+    (lock_left places rest at)
     (lock_after places seen at found)
 
 abbrev pub UnlockLaw : Type 0
 UnlockLaw = (places : List Place) (given : ℕ) → given < length places
-    → Falls (λ given. given < length places) Any (unlock_left places) (unlock_left places given) (unlock_after places given)
+    → Falls (λ given. given < length places) Any (unlock_left places) (unlock_left places given)
+    (unlock_after places given)
 
 -- 2. A whole read
 
@@ -117,5 +130,7 @@ ReadLaw = (sight : Sight) → SightFits sight → (seen : List ℕ) (at : ReadPl
 
 -- one less than the figure of its table
 abbrev pub ReadBeginsLaw : Type 0
-ReadBeginsLaw = (shape : Shape) → FitsLimits shape → (table position : ℕ) → IsTableOf shape table → position < capacity_of shape table
-    → SightFits (sight_of shape table position) × (read_left (sight_of shape table position) read_begin + 1 ≡ read_most shape table)
+ReadBeginsLaw = (shape : Shape) → FitsLimits shape → (table position : ℕ) → IsTableOf shape table
+    → position < capacity_of shape table
+    → SightFits (sight_of shape table position)
+    × (read_left (sight_of shape table position) read_begin + 1 ≡ read_most shape table)

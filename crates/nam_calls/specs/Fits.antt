@@ -154,7 +154,8 @@ MoveFits place cells MoveCount = Unit {0}
 MoveFits place cells (MoveHead slot) = slot < place.ring
 MoveFits place cells (MoveEnding slot header) = slot < place.ring
 MoveFits place cells (MoveClaim slot header ending at) = (slot < place.ring) × ClaimFits cells at
-MoveFits place cells (MoveWords slot header ending cell tag got) = (slot < place.ring) × (cell < cells.cells) × (length got < place.width)
+MoveFits place cells (MoveWords slot header ending cell tag got) =
+    (slot < place.ring) × (cell < cells.cells) × (length got < place.width)
 MoveFits place cells (MoveFill slot header cell tag version at) =
     (slot < place.ring) × (cell < cells.cells) × (length version.value ≡ place.width) × FillFits place.width at
 MoveFits place cells (MoveAgain slot header cell tag) = (slot < place.ring) × (cell < cells.cells)

@@ -38,13 +38,15 @@ collect_next cells known cell = if cell + 1 == cells.cells then Over known else 
 
 abbrev pub collect_after : Cells → ℕ → List ℕ → CollectPlace → ℕ → Now CollectPlace (List ℕ)
 collect_after cells workers seen (HorizonLook known) found =
-    if nat_lt found (slice_index seen (length known)) then At (HorizonRaise known found) else entry_known workers (known ++ found ∷ [])
+    if nat_lt found (slice_index seen (length known)) then At (HorizonRaise known found)
+    else entry_known workers (known ++ found ∷ [])
 collect_after cells workers seen (HorizonRaise known expected) found =
     entry_known workers (known ++ (if found == expected then slice_index seen (length known) else found) ∷ [])
 collect_after cells workers seen (CollectTag known cell) found =
     if is_full found then At (CollectEnding known cell found) else collect_next cells known cell
 collect_after cells workers seen (CollectEnding known cell tag) found =
-    if is_within (stamp_in cells.form found) known && has_next tag then At (CollectFree known cell tag) else collect_next cells known cell
+    if is_within (stamp_in cells.form found) known && has_next tag then At (CollectFree known cell tag)
+    else collect_next cells known cell
 collect_after cells workers seen (CollectFree known cell tag) found = collect_next cells known cell
 
 abbrev pub collect_left : Cells → ℕ → CollectPlace → ℕ

@@ -26,8 +26,10 @@ lock_begin = Peek []
 abbrev pub lock_verb : ℕ → List Place → LockPlace → VerbAt Field
 lock_verb worker places (Peek held) = ReadAt (field.Header (nth_place places (length held)).row)
 lock_verb worker places (Seize held header) =
-    let place = nth_place places (length held) in ExchangeAt (field.Header place.row) header (with_lock place.form worker header)
-lock_verb worker places (GiveBack held given found) = WriteAt (field.Header (nth_place places given).row) (slice_index held given)
+    let place = nth_place places (length held) in
+    ExchangeAt (field.Header place.row) header (with_lock place.form worker header)
+lock_verb worker places (GiveBack held given found) =
+    WriteAt (field.Header (nth_place places given).row) (slice_index held given)
 
 -- what the header found in the way of the next lock says
 abbrev pub loss_of : Form → ℕ → ℕ → LockEnd
@@ -35,7 +37,8 @@ loss_of form nth found = if is_locked form found then Locked nth found else Newe
 
 abbrev pub give_back : List Place → List ℕ → ℕ → ℕ → Now LockPlace LockEnd
 give_back places held given found =
-    if given == length held then Over (loss_of (nth_place places (length held)).form (length held) found) else At (GiveBack held given found)
+    if given == length held then Over (loss_of (nth_place places (length held)).form (length held) found)
+    else At (GiveBack held given found)
 
 abbrev pub lock_next : List Place → List ℕ → Now LockPlace LockEnd
 lock_next places held = if length held == length places then Over (Held held) else At (Peek held)

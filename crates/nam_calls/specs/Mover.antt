@@ -38,7 +38,8 @@ move_verb place cells (MoveWords slot header ending cell tag got) = ReadAt (fiel
 move_verb place cells (MoveFill slot header cell tag version at) = fill_verb cells cell place.row version at
 move_verb place cells (MoveAgain slot header cell tag) = ReadAt (field.SlotHeader place.row slot)
 move_verb place cells (MoveFull slot header cell tag) = WriteAt (field.Tag cells.bucket cell) (full tag)
-move_verb place cells (MoveFlag slot header) = ExchangeAt (field.SlotHeader place.row slot) header (with_moved place.form header)
+move_verb place cells (MoveFlag slot header) =
+    ExchangeAt (field.SlotHeader place.row slot) header (with_moved place.form header)
 move_verb place cells (MoveBack header cell tag) = WriteAt (field.Tag cells.bucket cell) (freed tag)
 
 -- after the claim the slot's words are read
@@ -54,13 +55,17 @@ on_fill slot header cell tag version (Over done) = At (MoveAgain slot header cel
 
 abbrev pub move_after : Place → Cells → MovePlace → ℕ → Now MovePlace MoveAnswer
 move_after place cells MoveCount found = At (MoveHead (slot_of place found))
-move_after place cells (MoveHead slot) found = if is_moved place.form found then Over answer.Nothing else At (MoveEnding slot found)
+move_after place cells (MoveHead slot) found =
+    if is_moved place.form found then Over answer.Nothing else At (MoveEnding slot found)
 move_after place cells (MoveEnding slot header) found = At (MoveClaim slot header found claim_begin)
-move_after place cells (MoveClaim slot header ending at) found = on_claim cells slot header ending (claim_after cells at found)
+move_after place cells (MoveClaim slot header ending at) found =
+    on_claim cells slot header ending (claim_after cells at found)
 move_after place cells (MoveWords slot header ending cell tag got) found =
     At (until place.width (got ++ found ∷ []) (MoveWords slot header ending cell tag)
-    (λ value. MoveFill slot header cell tag record { begin = without_moved place.form header; «end» = ending; value = value } fill_begin))
-move_after place cells (MoveFill slot header cell tag version at) found = on_fill slot header cell tag version (fill_after place.width at)
+    (λ value. MoveFill slot header cell tag
+    record { begin = without_moved place.form header; «end» = ending; value = value } fill_begin))
+move_after place cells (MoveFill slot header cell tag version at) found =
+    on_fill slot header cell tag version (fill_after place.width at)
 move_after place cells (MoveAgain slot header cell tag) found =
     if found == header then At (MoveFull slot header cell tag) else At (MoveBack header cell tag)
 move_after place cells (MoveFull slot header cell tag) found = At (MoveFlag slot header)

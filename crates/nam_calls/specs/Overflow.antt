@@ -42,8 +42,10 @@ next_cell cells cell = if cell + 1 == cells.cells then Over NotThere else At (Ce
 
 -- a full cell of the row, with a version that the snapshot sees, whose successor it does not see, and which is still there
 abbrev pub cell_after : Cells → Place → List ℕ → CellPlace → ℕ → Now CellPlace SearchEnd
-cell_after cells place seen (CellTag cell) found = if is_full found then At (CellOwner cell found) else next_cell cells cell
-cell_after cells place seen (CellOwner cell tag) found = if found == place.row then At (CellBegin cell tag) else next_cell cells cell
+cell_after cells place seen (CellTag cell) found =
+    if is_full found then At (CellOwner cell found) else next_cell cells cell
+cell_after cells place seen (CellOwner cell tag) found =
+    if found == place.row then At (CellBegin cell tag) else next_cell cells cell
 cell_after cells place seen (CellBegin cell tag) found =
     if sees place.form seen found then At (CellEnding cell tag found) else next_cell cells cell
 cell_after cells place seen (CellEnding cell tag header) found =
@@ -51,7 +53,8 @@ cell_after cells place seen (CellEnding cell tag header) found =
 cell_after cells place seen (CellWords cell tag header got) found =
     At (until place.width (got ++ found ∷ []) (CellWords cell tag header) (CellAgain cell tag header))
 cell_after cells place seen (CellAgain cell tag header value) found =
-    if found == tag then Over (Found (if is_deleted place.form header then None else Some value)) else next_cell cells cell
+    if found == tag then Over (Found (if is_deleted place.form header then None else Some value))
+    else next_cell cells cell
 
 -- the cells after this one
 abbrev pub cells_left : Cells → Place → ℕ → ℕ
@@ -79,7 +82,8 @@ claim_next cells cell = if cell + 1 == cells.cells then Over NoRoom else At (Cla
 
 abbrev pub claim_after : Cells → ClaimPlace → ℕ → Now ClaimPlace ClaimEnd
 claim_after cells (ClaimLook cell) found = if is_free found then At (ClaimTake cell found) else claim_next cells cell
-claim_after cells (ClaimTake cell tag) found = if found == tag then Over (Claimed cell (written tag)) else claim_next cells cell
+claim_after cells (ClaimTake cell tag) found =
+    if found == tag then Over (Claimed cell (written tag)) else claim_next cells cell
 
 abbrev pub claim_left : Cells → ClaimPlace → ℕ
 claim_left cells (ClaimLook cell) = (cells.cells - cell - 1) * 2 + 2
@@ -94,7 +98,8 @@ abbrev pub fill_verb : Cells → ℕ → ℕ → Version → FillPlace → VerbA
 fill_verb cells cell owner version FillOwner = WriteAt (field.Owner cells.bucket cell) owner
 fill_verb cells cell owner version FillBegin = WriteAt (field.Begin cells.bucket cell) version.begin
 fill_verb cells cell owner version FillEnding = WriteAt (field.End cells.bucket cell) version.«end»
-fill_verb cells cell owner version (FillWord nth) = WriteAt (field.CellWord cells.bucket cell nth) (slice_index version.value nth)
+fill_verb cells cell owner version (FillWord nth) =
+    WriteAt (field.CellWord cells.bucket cell nth) (slice_index version.value nth)
 
 abbrev pub fill_after : ℕ → FillPlace → Now FillPlace (Unit {0})
 fill_after width FillOwner = At FillBegin

@@ -27,7 +27,8 @@ module _ (path : Path) where
       if found == key_word path.key then Ret (claimed_key.At (nth_position path passed)) else
       if not (found == 0) then claim_from rest (passed + 1) else
       exchange (nth_key path passed) 0 (key_word path.key) >>= λ word.
-      if (word == 0) || (word == key_word path.key) then Ret (claimed_key.At (nth_position path passed)) else claim_from rest (passed + 1)
+      if (word == 0) || (word == key_word path.key) then Ret (claimed_key.At (nth_position path passed))
+      else claim_from rest (passed + 1)
 
   abbrev pub find_program : Prog FindEnd
   find_program = find_from path.capacity 0

@@ -1,5 +1,6 @@
 -- The read at a position as a straight program, to be compared with the order of verbs.
-use Rattle.std.specs.Prelude.{if◌then◌else◌, ℕ, zero, suc, ◌+◌, ◌-◌, ◌<◌, ◌==◌, ◌&&◌, ◌||◌, not, nat_lt, List, [], Some}
+use Rattle.std.specs.Prelude.{if◌then◌else◌, ℕ, zero, suc, ◌+◌, ◌-◌, ◌<◌, ◌==◌, ◌&&◌, ◌||◌, not, nat_lt, List, []}
+use Rattle.std.specs.Prelude.{Some}
 use Rattle.std.specs.Prelude.{None, slice_index}
 use Rattle.nam_verbs.specs.declared.now.Now.TheVariants.{At}
 use Rattle.nam_header.specs.Stamp.{is_locked, is_deleted, same_stamp, sees, mark}
@@ -99,4 +100,5 @@ pub record SightHasAll (sight : Sight) : Type 0 where
 -- the read does what its program says
 abbrev pub ReadIsProgram : Type 0
 ReadIsProgram = (sight : Sight) (seen : List ℕ) → SightHasAll sight
-    → IsTheProgram (standing (read_verb sight)) (taking (read_after sight seen)) (At read_begin) (read_program sight seen)
+    → IsTheProgram (standing (read_verb sight)) (taking (read_after sight seen)) (At read_begin)
+    (read_program sight seen)

@@ -60,4 +60,5 @@ module _ (place : Place) (cells : Cells) where
 -- where the record has words and the bucket cells, the move does what its program says
 abbrev pub MoveIsProgram : Type 0
 MoveIsProgram = (place : Place) (cells : Cells) → 0 < place.width → 0 < cells.cells
-    → IsTheProgram (standing (move_verb place cells)) (taking (move_after place cells)) (At move_begin) (move_program place cells)
+    → IsTheProgram (standing (move_verb place cells)) (taking (move_after place cells)) (At move_begin)
+    (move_program place cells)

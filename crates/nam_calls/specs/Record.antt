@@ -36,7 +36,8 @@ current_after place seen (CurrentWords header got) found =
     At (until place.width (got ++ found ∷ []) (CurrentWords header) (CurrentAgain header))
 current_after place seen (CurrentAgain header value) found =
     if same_stamp place.form found header
-    then (if is_locked place.form header || is_locked place.form found then Over (Unsure value header) else Over (Found (Some value)))
+    then (if is_locked place.form header || is_locked place.form found then Over (Unsure value header)
+    else Over (Found (Some value)))
     else Over GoOld
 
 abbrev pub current_left : Place → CurrentPlace → ℕ

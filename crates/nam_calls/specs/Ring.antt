@@ -47,8 +47,10 @@ copy_begin = CopyMark
 
 abbrev pub copy_verb : Place → ℕ → ℕ → List ℕ → Stamp → CopyPlace → VerbAt Field
 copy_verb place count header old ending CopyMark = WriteAt (field.SlotHeader place.row (slot_of place count)) mark
-copy_verb place count header old ending CopyEnding = WriteAt (field.SlotEnd place.row (slot_of place count)) (stamp_word place.form ending)
-copy_verb place count header old ending (CopyWord nth) = WriteAt (field.SlotWord place.row (slot_of place count) nth) (slice_index old nth)
+copy_verb place count header old ending CopyEnding =
+    WriteAt (field.SlotEnd place.row (slot_of place count)) (stamp_word place.form ending)
+copy_verb place count header old ending (CopyWord nth) =
+    WriteAt (field.SlotWord place.row (slot_of place count) nth) (slice_index old nth)
 copy_verb place count header old ending CopyHead = WriteAt (field.SlotHeader place.row (slot_of place count)) header
 
 abbrev pub copy_after : Place → CopyPlace → Now CopyPlace (Unit {0})

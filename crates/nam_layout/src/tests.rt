@@ -17,7 +17,14 @@ fn table(name: &str, width: u32, capacity: u32, ring: u32) -> Table
 }
 
 fn shape(form: Form, workers: u32, tables: ShortList<Table, 8>, buckets: u32, cells: u32) -> Shape
-    ensures { result ≡ record { form = form; workers = workers; tables = tables; buckets = buckets; cells = cells; start = 0 } }
+    ensures { result ≡ record {
+      form = form;
+      workers = workers;
+      tables = tables;
+      buckets = buckets;
+      cells = cells;
+      start = 0;
+    } }
 {
     Shape {
         form,

@@ -1,8 +1,8 @@
 //! What the calls make of the words that their verbs find, whatever these words are.
 
-ghost use Rattle.nam_ring.specs.CheckLaw.{FreeLaw, NotMovedLaw, CheckReachesLaw};
-ghost use Rattle.nam_ring.specs.CopyLaw.{CopyLaw, CopyReachesLaw};
-ghost use Rattle.nam_ring.specs.SearchLaw.{FoundLaw, NotThereLaw, SearchReachesLaw};
+ghost use Rattle.nam_ring.specs.CheckLaw.{FreeLaw, NotMovedLaw, CheckFieldLaw};
+ghost use Rattle.nam_ring.specs.CopyLaw.{CopyLaw, CopyFieldLaw};
+ghost use Rattle.nam_ring.specs.SearchLaw.{FoundLaw, NotThereLaw, SearchFieldLaw};
 
 /// The look at a slot reads the number of the current version and the header of that version's slot. The slot is free
 /// exactly where that header has the moved flag.
@@ -25,9 +25,9 @@ pub fn search_law()
     ensures not_there { NotThereLaw }
 {}
 
-/// Whatever words are found, each verb is at a field of the row whose place the call was given: its count or its ring.
-pub fn reach_law()
-    ensures check { CheckReachesLaw }
-    ensures copy { CopyReachesLaw }
-    ensures search { SearchReachesLaw }
+/// Whatever words are found, each verb is at a field of the position that the call was given.
+pub fn field_law()
+    ensures check { CheckFieldLaw }
+    ensures copy { CopyFieldLaw }
+    ensures search { SearchFieldLaw }
 {}

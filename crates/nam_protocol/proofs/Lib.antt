@@ -13,7 +13,7 @@ pub mod FallsTxn
 pub mod FallsBegins
 pub mod FallsScan
 pub mod FallsClient
-pub mod AddressesCalls
+pub mod FieldLemmas
 pub mod FallsAttempt
 pub mod Grows
 pub mod GrowsSession

@@ -18,7 +18,7 @@ mod txn;
 pub use client::{Answer, Call, CallPlace, ClientState, Open, Scanned};
 pub use laws_growth::{commit_program_law, logs_grow_law, session_logs_grow_law};
 pub use laws_left::{
-    attempt_bound, calls_reach, client_falls, reached_within, scan_falls, txn_falls,
+    attempt_bound, calls_at_fields, client_falls, reached_within, scan_falls, txn_falls,
 };
 pub use scan::{ScanAnswer, ScanPlace};
 pub use session::{DriverPlace, DriverState, Job, SessionState};

@@ -1,6 +1,6 @@
 -- The verbs to come fall in each call of a client, and how many a call begins with.
-use Rattle.std.proofs.Common.{◌≡◌, ℕ, ◌+◌, ◌-◌, ◌<◌, ◌≤◌, List, [], ◌∷◌, ◌++◌, length, refl, sym, ◌∙◌}
-use Rattle.std.proofs.Common.{ap, subst, arith, Bool, true, false, Option, Some, None}
+use Rattle.std.proofs.Common.{◌≡◌, ℕ, ◌+◌, ◌-◌, ◌<◌, ◌≤◌, List, length, refl, sym, ◌∙◌, ap, subst, arith, Bool, true}
+use Rattle.std.proofs.Common.{false, Option, Some, None}
 use Rattle.std.specs.Prelude.{◌==◌, if◌then◌else◌, slice_index, IsSome}
 use Rattle.si_model.specs.Rows.{key_at, writes_key}
 use Rattle.nam_verbs.specs.declared.now.Now.{Now}
@@ -230,7 +230,8 @@ module _ (shape : Shape) (limits : FitsLimits shape) where
         (w, record { worker_is = w; placed = tt; written = tt; guarded = tt; wide = tt }, (tt, h.1))
     on_begin_falls txn nth n (Over (snap_end.Again worker first second)) h = (w, f, (tt, h.1))
 
-    on_seek_falls : (table key n : ℕ) (now : Now ℕ FindEnd) → IsTableOf shape table → FindFalls (path_of shape table key) n now
+    on_seek_falls : (table key n : ℕ) (now : Now ℕ FindEnd) → IsTableOf shape table
+        → FindFalls (path_of shape table key) n now
         → ClientFalls (n + move_most shape table) (on_seek shape client table key now)
     on_seek_falls table key n (At passed) is h = (w, f, ((is, h.0), let m = h.1 in omega arith))
     on_seek_falls table key n (Over (found_key.At position)) is h =

@@ -36,8 +36,7 @@ use Rattle.nam_protocol.specs.declared.txn.TxnAnswer.{TxnAnswer}
 use Rattle.nam_protocol.specs.declared.txn.TxnAnswer.TheVariants.{Committed, Locked, Newer, Full}
 use Rattle.nam_protocol.specs.Txn.{answered}
 use Rattle.nam_protocol.specs.Commit.{records_of, lock_at, places, record_place, value_at, go, on_lock, next_check}
-use Rattle.nam_protocol.specs.Commit.{on_slot}
-use Rattle.nam_protocol.specs.Commit.{on_return, on_words, on_copy, on_install, next_free, commit_after}
+use Rattle.nam_protocol.specs.Commit.{on_slot, on_return, on_words, on_copy, on_install, next_free, commit_after}
 use Rattle.nam_protocol.specs.Bound.{installs_most, publish_most, rest_from, commit_left}
 use Rattle.nam_protocol.specs.TxnFits.{StateFits, CommitPlaceFits, CommitFits, TxnFalls}
 use Rattle.nam_protocol.proofs.FallsKeys.{places_length, writes_within, nth_fits}
@@ -141,7 +140,8 @@ module _ (shape : Shape) (limits : FitsLimits shape) (state : TxnState) (fits : 
   on_words_falls : (nth n : ℕ) (now : Now (List ℕ) (List ℕ)) → length state.held ≡ records
       → length state.counts ≡ writes → (l : nth < writes)
       → WordsFall (record_place state nth) (nth_is nth l) n now
-      → TxnFalls shape (n + (2 * (record_place state nth).width + 5) + rest_from state (nth + 1)) (on_words state nth now)
+      → TxnFalls shape (n + (2 * (record_place state nth).width + 5) + rest_from state (nth + 1))
+      (on_words state nth now)
   on_words_falls nth n (At got) held counts l h =
       goes shape state _ (Saving nth got) fits are some (held, counts, l, h.0) (let m = h.1 in omega arith)
   on_words_falls nth n (Over old) held counts l h =
@@ -162,7 +162,8 @@ module _ (shape : Shape) (limits : FitsLimits shape) (state : TxnState) (fits : 
       → length state.counts ≡ writes
       → (l : nth < writes)
       → length old ≡ (record_place state nth).width → CopyFalls (record_place state nth) (nth_is nth l) n now
-      → TxnFalls shape (n + ((record_place state nth).width + 2) + rest_from state (nth + 1)) (on_copy state nth old now)
+      → TxnFalls shape (n + ((record_place state nth).width + 2) + rest_from state (nth + 1))
+      (on_copy state nth old now)
   on_copy_falls nth n old (At place) held counts l wide h =
       goes shape state _ (Copying nth old place) fits are some (held, counts, l, wide, h.0) (let m = h.1 in omega arith)
   on_copy_falls nth n old (Over done) held counts l wide h =

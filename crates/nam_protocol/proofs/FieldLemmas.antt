@@ -38,8 +38,8 @@ use Rattle.nam_calls.specs.Lock.{lock_verb}
 use Rattle.nam_calls.specs.Mover.{move_verb}
 use Rattle.nam_calls.specs.Fits.{FindFits, ClaimKeyFits, LockFits, CollectFits, ReadFits, IsTableOf}
 use Rattle.nam_calls.proofs.FallsTables.{place_fits, sight_fits}
-use Rattle.nam_calls.proofs.FieldLemmas.{install_field, slot_field, copy_field, move_field, read_field}
-use Rattle.nam_calls.proofs.FieldLemmas.{key_is, path_field, row_within}
+use Rattle.nam_calls.proofs.FieldLemmas.{install_field, slot_field, copy_field, move_field, read_field, key_is}
+use Rattle.nam_calls.proofs.FieldLemmas.{path_field, row_within}
 use Rattle.nam_protocol.specs.declared.scan.ScanPlace.{ScanPlace}
 use Rattle.nam_protocol.specs.declared.scan.ScanPlace.TheVariants.{ScanKey, ScanRead}
 use Rattle.nam_protocol.specs.declared.txn.TxnState.{TxnState}

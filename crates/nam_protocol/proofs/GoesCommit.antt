@@ -28,8 +28,7 @@ use Rattle.nam_protocol.specs.declared.txn.CommitPlace.TheVariants.{Installing, 
 use Rattle.nam_protocol.specs.Txn.{Stepped, answered}
 use Rattle.nam_protocol.specs.ProgramCommit.{committing}
 use Rattle.nam_protocol.specs.Commit.{go, lock_at, value_at, ask_commit, on_lock, on_slot, on_return, on_words}
-use Rattle.nam_protocol.specs.Commit.{on_copy}
-use Rattle.nam_protocol.specs.Commit.{on_install, next_free, commit_after}
+use Rattle.nam_protocol.specs.Commit.{on_copy, on_install, next_free, commit_after}
 
 -- the state with all locks, and with one more count
 abbrev pub holding_locks : TxnState → List ℕ → TxnState

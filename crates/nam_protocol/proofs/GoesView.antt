@@ -57,13 +57,13 @@ module _ (shape : Shape) (client : ClientState) (attempt : Open) where
   pub finding_quiet : (op : Op) (passed found : ℕ) → Quiet (txn_after shape attempt.state (Finding op passed) found)
   finding_quiet op passed found =
       finding_goes shape Quiet op attempt.state passed found (λ next. refl) (λ position. refl) (λ e. refl)
-      (λ answer. refl)
+      (λ answer s. refl)
 
   pub reading_quiet : (op : Op) (position : ℕ) (place : ReadPlace) (found : ℕ)
       → Quiet (txn_after shape attempt.state (Reading op position place) found)
   reading_quiet op position place found =
       reading_goes shape Quiet op attempt.state position place found (λ next. refl) (λ value e. refl)
-      (λ value answer. refl) (λ answer. refl)
+      (λ value answer s. refl) (λ answer s. refl)
 
   pub claiming_quiet : (op : Op) (place : ClaimKeyPlace) (found : ℕ)
       → Quiet (txn_after shape attempt.state (Claiming op place) found)

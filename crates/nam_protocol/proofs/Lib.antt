@@ -14,6 +14,7 @@ pub mod FallsBegins
 pub mod FallsScan
 pub mod FallsClient
 pub mod FieldLemmas
+pub mod BlankLemmas
 pub mod FallsAttempt
 pub mod Grows
 pub mod GrowsSession

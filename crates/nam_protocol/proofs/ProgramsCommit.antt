@@ -26,8 +26,8 @@ use Rattle.nam_calls.specs.declared.lock.LockEnd.{LockEnd}
 use Rattle.nam_calls.specs.Record.{install_begin, word_in}
 use Rattle.nam_calls.specs.Lock.{nth_place, lock_begin, lock_verb, lock_after, lock_next, loss_of, give_back}
 use Rattle.nam_calls.specs.Program.{Prog, ◌>>=◌, write_words, IsProgram, standing, taking}
-use Rattle.nam_calls.proofs.Programs.{both, both_not, is_last, is_more, at_last, before_last, word_then}
-use Rattle.nam_calls.proofs.Programs.{words_is, writes_left, writes_is, part_is, the_program}
+use Rattle.nam_calls.proofs.Programs.{both, both_not, is_last, is_more, at_last, before_last, word_then, words_is}
+use Rattle.nam_calls.proofs.Programs.{writes_left, writes_is, part_is, the_program}
 use Rattle.nam_calls.specs.declared.lock.LockEnd.TheVariants as lock_end
 use Rattle.nam_protocol.specs.declared.txn.TxnState.{TxnState}
 use Rattle.nam_protocol.specs.declared.txn.TxnAnswer.{TxnAnswer}
@@ -112,7 +112,8 @@ module _ (shape : Shape) (state : TxnState) where
         (data_words state (record_place state nth) value) 0 >>= λ end. next)
     install_is held counts nth None next l f = f
     install_is held counts nth (Some value) next l f =
-        writes_is (txn_stands shape) (txn_takes shape) (field.Word (record_place state nth).row) (word_in (value_at state nth))
+        writes_is (txn_stands shape) (txn_takes shape) (field.Word (record_place state nth).row)
+        (word_in (value_at state nth))
         (record_place state nth).width
         (λ k. go (with_locks held counts) (Installing nth (InstallWord k)))
         (go (with_locks held counts) (Installing nth InstallCount)) next
@@ -134,7 +135,8 @@ module _ (shape : Shape) (state : TxnState) where
         (At (got ++ word ∷ []))) l λ old e.
         word_then refl λ marked.
         word_then refl λ ended.
-        writes_is (txn_stands shape) (txn_takes shape) (field.SlotWord place.row (slot_of place (slice_index counts nth)))
+        writes_is (txn_stands shape) (txn_takes shape)
+        (field.SlotWord place.row (slot_of place (slice_index counts nth)))
         (slice_index old) place.width
         (λ k. go s (Copying nth old (CopyWord k))) (go s (Copying nth old CopyHead)) _
         (λ k. refl)

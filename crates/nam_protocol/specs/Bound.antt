@@ -6,7 +6,7 @@ use Rattle.si_model.specs.declared.op.Op.TheVariants.{Get, Put, Add, Del, Need, 
 use Rattle.si_model.specs.Evaluation.{written_keys, guard_keys}
 use Rattle.nam_catalog.specs.declared.shape.Shape.{Shape}
 use Rattle.nam_layout.specs.declared.field.Place.{Place}
-use Rattle.nam_calls.specs.Words.{width_of, capacity_of, path_of}
+use Rattle.nam_calls.specs.Words.{width_of, capacity_of}
 use Rattle.nam_calls.specs.Index.{find_left, claim_key_left}
 use Rattle.nam_calls.specs.Record.{words_left, install_left}
 use Rattle.nam_calls.specs.Ring.{slot_left, copy_left}
@@ -18,7 +18,7 @@ use Rattle.nam_protocol.specs.declared.txn.CommitPlace.TheVariants.{Locking, Che
 use Rattle.nam_protocol.specs.declared.txn.CommitPlace.TheVariants.{Installing, Publishing, Freeing}
 use Rattle.nam_protocol.specs.declared.txn.TxnPlace.{TxnPlace}
 use Rattle.nam_protocol.specs.declared.txn.TxnPlace.TheVariants.{Finding, Reading, Claiming, Committing}
-use Rattle.nam_protocol.specs.Operations.{key_of, claims}
+use Rattle.nam_protocol.specs.Operations.{key_of, claims, op_path}
 use Rattle.nam_protocol.specs.Commit.{places, record_place}
 
 -- 1. What is to come of a commit
@@ -61,9 +61,9 @@ module _ (shape : Shape) where
 
   abbrev pub txn_left : TxnState → TxnPlace → ℕ
   txn_left state (Finding op passed) =
-      find_left (path_of shape (key_of op).table (key_of op).key) passed + (read_most shape (key_of op).table + claim_most op)
+      find_left (op_path shape op) passed + (read_most shape (key_of op).table + claim_most op)
   txn_left state (Reading op position at) = read_left (sight_of shape (key_of op).table position) at + claim_most op
-  txn_left state (Claiming op at) = claim_key_left (path_of shape (key_of op).table (key_of op).key) at
+  txn_left state (Claiming op at) = claim_key_left (op_path shape op) at
   txn_left state (Committing at) = commit_left state at
 
   -- 3. A whole attempt of these operations

@@ -1,7 +1,6 @@
 -- A closed world: the logs, and the audit of the words under their last vector.
 use Rattle.std.specs.Prelude.{ℕ, zero, suc, ◌+◌, ◌-◌, ◌==◌, ◌||◌, not, nat_lt, Bool, true, if◌then◌else◌, List, []}
-use Rattle.std.specs.Prelude.{◌∷◌}
-use Rattle.std.specs.Prelude.{◌++◌, take, Option, Some, None}
+use Rattle.std.specs.Prelude.{◌∷◌, ◌++◌, take, Option, Some, None}
 use Rattle.si_model.specs.declared.report.AuditRow.{AuditRow}
 use Rattle.si_model.specs.declared.report.Closed.{Closed}
 use Rattle.nam_verbs.specs.declared.now.Now.{Now}

@@ -99,7 +99,8 @@ commit_verb state (Checking at) = slot_verb (record_place state (length state.co
 commit_verb state (Returning given full) = unlock_verb (places state) state.held given
 commit_verb state (Saving nth got) = words_verb (record_place state nth) got
 commit_verb state (Copying nth old at) =
-    copy_verb (record_place state nth) (slice_index state.counts nth) (slice_index state.held nth) old (own_stamp state) at
+    copy_verb (record_place state nth) (slice_index state.counts nth) (slice_index state.held nth) old
+    (own_stamp state) at
 commit_verb state (Installing nth at) =
     install_verb (record_place state nth) (value_at state nth) (slice_index state.counts nth) (new_header state nth) at
 commit_verb state Publishing = publish_verb state.worker (state.last + 1)

@@ -20,22 +20,23 @@ copies zero words = []
 copies (suc n) words = words ++ copies n words
 
 abbrev pub blank_slot : ℕ → List ℕ
-blank_slot width = mark ∷ 0 ∷ replicate width 0
+blank_slot width = mark ∷ 0 ∷ replicate {A = ℕ} width 0
 
-abbrev pub blank_position : Table → List ℕ
-blank_position t = 0 ∷ blank_header ∷ 0 ∷ replicate t.width 0 ++ copies t.ring (blank_slot t.width)
+-- a position of so many data words and slots
+abbrev pub blank_position : ℕ → ℕ → List ℕ
+blank_position width ring = 0 ∷ blank_header ∷ 0 ∷ replicate {A = ℕ} width 0 ++ copies ring (blank_slot width)
 
 abbrev pub blank_tables : List Table → List ℕ
 blank_tables [] = []
-blank_tables (t ∷ ts) = copies t.capacity (blank_position t) ++ blank_tables ts
+blank_tables (t ∷ ts) = copies t.capacity (blank_position t.width t.ring) ++ blank_tables ts
 
 -- vector and horizon at start, no key, every slot with the mark, free cells, no intent
 abbrev pub blank_words : Shape → List ℕ
 blank_words shape =
-    replicate (2 * shape.workers) shape.start
+    replicate {A = ℕ} (2 * shape.workers) shape.start
     ++ blank_tables shape.tables
-    ++ replicate (shape.buckets * shape.cells * cell_words) 0
-    ++ replicate (shape.workers * intent_words shape.form) 0
+    ++ replicate {A = ℕ} (shape.buckets * shape.cells * cell_words) 0
+    ++ replicate {A = ℕ} (shape.workers * intent_words shape.form) 0
 
 -- the blank word of a field
 abbrev pub blank_at : Shape → Field → ℕ

@@ -29,7 +29,8 @@ use Rattle.nam_protocol.specs.TxnCalls.{txn_verb, txn_after}
 
 -- the headers of so many records, from the nth on, are written back
 abbrev pub write_back : List Place → List ℕ → ℕ → ℕ → Prog (Unit {0})
-write_back places headers count nth = write_words (λ k. field.Header (nth_place places k).row) (slice_index headers) count nth
+write_back places headers count nth =
+    write_words (λ k. field.Header (nth_place places k).row) (slice_index headers) count nth
 
 -- 1. The locks: of so many records beyond those held
 

@@ -1,7 +1,6 @@
 -- What holds of a transaction and of the places of its calls, of a scan, and of a client.
 use Rattle.std.specs.Prelude.{◌≡◌, ℕ, ◌+◌, ◌-◌, ◌*◌, ◌<◌, ◌≤◌, Bool, true, false, if◌then◌else◌, List, [], ◌∷◌}
-use Rattle.std.specs.Prelude.{length}
-use Rattle.std.specs.Prelude.{map}
+use Rattle.std.specs.Prelude.{length, map}
 use Rattle.std.specs.List.{AllByRecursion}
 use Rattle.si_model.specs.declared.row.Key.{Key}
 use Rattle.si_model.specs.declared.row.Item.{Item}
@@ -19,8 +18,8 @@ use Rattle.nam_layout.specs.RowLaw.{IsPosition}
 use Rattle.nam_layout.specs.Place.{place_of}
 use Rattle.nam_calls.specs.Words.{width_of, capacity_of}
 use Rattle.nam_calls.specs.Reading.{sight_of, read_begin}
-use Rattle.nam_calls.specs.Fits.{HasWidth, IsOf, FindFits, ClaimKeyFits, ReadFits, WordsFit, WordsEnd}
-use Rattle.nam_calls.specs.Fits.{CopyFits, InstallFits, LockFits}
+use Rattle.nam_calls.specs.Fits.{HasWidth, IsOf, FindFits, ClaimKeyFits, ReadFits, WordsFit, WordsEnd, CopyFits}
+use Rattle.nam_calls.specs.Fits.{InstallFits, LockFits}
 use Rattle.nam_protocol.specs.declared.scan.ScanPlace.{ScanPlace}
 use Rattle.nam_protocol.specs.declared.scan.ScanPlace.TheVariants.{ScanKey, ScanRead}
 use Rattle.nam_protocol.specs.declared.scan.ScanAnswer.{ScanAnswer}

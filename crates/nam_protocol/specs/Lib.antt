@@ -20,7 +20,6 @@ pub mod TxnFits
 pub mod ClientFits
 pub mod FallsLaw
 pub mod AttemptLaw
-pub mod VerbFields
-pub mod AddressFact
+pub mod FieldLaw
 pub mod Grows
 pub mod ProgramCommit

@@ -11,6 +11,7 @@
 mod client;
 mod laws_growth;
 mod laws_left;
+mod laws_opening;
 mod scan;
 mod session;
 mod txn;
@@ -18,8 +19,9 @@ mod txn;
 pub use client::{Answer, Call, CallPlace, ClientState, Open, Scanned};
 pub use laws_growth::{commit_program_law, logs_grow_law, session_logs_grow_law};
 pub use laws_left::{
-    attempt_bound, calls_reach, client_falls, reached_within, scan_falls, txn_falls,
+    attempt_bound, calls_at_fields, client_falls, reached_within, scan_falls, txn_falls,
 };
+pub use laws_opening::blank_law;
 pub use scan::{ScanAnswer, ScanPlace};
 pub use session::{DriverPlace, DriverState, Job, SessionState};
 pub use txn::{CommitPlace, Record, TxnAnswer, TxnCall, TxnPlace, TxnState};

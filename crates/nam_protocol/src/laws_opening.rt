@@ -1,0 +1,9 @@
+//! Laws of the words at the opening.
+
+ghost use Rattle.nam_protocol.specs.Opening.{BlankLaw};
+
+/// Blank words are as many as the shape's, and each field has its own: the entries of the vector and of the horizon are
+/// at the start, each position has the header of one without a version, each slot the mark, and all others are 0.
+pub fn blank_law()
+    ensures { BlankLaw }
+{}

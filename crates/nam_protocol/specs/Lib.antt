@@ -22,5 +22,6 @@ pub mod FallsLaw
 pub mod AttemptLaw
 pub mod FieldLaw
 pub mod OpeningLaw
+pub mod StepLaw
 pub mod Grows
 pub mod ProgramCommit

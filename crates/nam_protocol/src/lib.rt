@@ -12,6 +12,7 @@ mod client;
 mod laws_growth;
 mod laws_left;
 mod laws_opening;
+mod laws_steps;
 mod scan;
 mod session;
 mod txn;
@@ -22,6 +23,7 @@ pub use laws_left::{
     attempt_bound, calls_at_fields, client_falls, reached_within, scan_falls, txn_falls,
 };
 pub use laws_opening::{blank_law, opening_law};
+pub use laws_steps::step_law;
 pub use scan::{ScanAnswer, ScanPlace};
 pub use session::{DriverPlace, DriverState, Job, SessionState};
 pub use txn::{CommitPlace, Record, TxnAnswer, TxnCall, TxnPlace, TxnState};

@@ -19,7 +19,7 @@ use Rattle.nam_layout.proofs.NumberLemmas.{place_within}
 use Rattle.nam_layout.proofs.RowLemmas.{row_stands}
 use Rattle.nam_calls.specs.Memory.{memory}
 use Rattle.nam_protocol.specs.Opening.{copies, blank_slot, blank_position, blank_tables, blank_words, blank_at}
-use Rattle.nam_protocol.specs.Opening.{BlankLaw}
+use Rattle.nam_protocol.specs.OpeningLaw.{BlankLaw}
 
 -- 1. Zeros and copies
 

@@ -15,6 +15,8 @@ pub mod FallsScan
 pub mod FallsClient
 pub mod FieldLemmas
 pub mod BlankLemmas
+pub mod OpeningLemmas
+pub mod StepLemmas
 pub mod FallsAttempt
 pub mod Grows
 pub mod GrowsSession

@@ -3,9 +3,8 @@ use Rattle.std.proofs.Common.{◌≡◌, ℕ, zero, suc, ◌+◌, ◌-◌, List,
 use Rattle.std.proofs.Math.Nat.{add_comm}
 use Rattle.std.specs.Prelude.{slice_get, option_map}
 use Rattle.std.specs.List.{AllByRecursion}
-use Rattle.nam_verbs.specs.VerbAt.{verb_by}
 use Rattle.nam_catalog.specs.declared.shape.Shape.{Shape}
-use Rattle.nam_layout.specs.Address.{address}
+use Rattle.nam_calls.specs.Memory.{verb_there}
 use Rattle.nam_protocol.specs.declared.session.SessionState.{SessionState}
 use Rattle.nam_protocol.specs.World.{HasNoVerb, HasEnded, verb_in}
 use Rattle.nam_protocol.specs.Schedule.{Run, Line, Scenario, Simulated, turn_on, turn_of, after_workers, after_round}
@@ -20,7 +19,7 @@ module _ (shape : Shape) where
 
   turn_rests : (run : Run) → HasEnded shape run.world → (worker : ℕ) → turn_of shape run worker ≡ run
   turn_rests run ended worker =
-      ap (λ verb. turn_on shape run worker (option_map (verb_by (address shape)) verb))
+      ap (λ verb. turn_on shape run worker (option_map (verb_there shape) verb))
       (no_verb run.world.sessions ended (worker - 1))
 
   workers_rest : (run : Run) → HasEnded shape run.world → (workers : List ℕ) → after_workers shape run workers ≡ run

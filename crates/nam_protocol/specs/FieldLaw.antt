@@ -2,17 +2,18 @@
 use Rattle.std.specs.Prelude.{◌≡◌, ℕ, ◌<◌, length, Some}
 use Rattle.nam_verbs.specs.declared.now.Now.TheVariants.{At}
 use Rattle.nam_verbs.specs.Verb.{address_of}
-use Rattle.nam_verbs.specs.VerbAt.{VerbAt, target, verb_by}
+use Rattle.nam_verbs.specs.VerbAt.{VerbAt, target}
 use Rattle.nam_catalog.specs.declared.shape.Shape.{Shape}
 use Rattle.nam_catalog.specs.Fits.{FitsLimits}
 use Rattle.nam_catalog.specs.Words.{words_of}
 use Rattle.nam_layout.specs.declared.field.Field.{Field}
 use Rattle.nam_layout.specs.declared.field.Place.{Place}
-use Rattle.nam_layout.specs.Address.{IsRow, IsField, address}
+use Rattle.nam_layout.specs.Address.{IsRow, IsField}
 use Rattle.nam_layout.specs.FieldAt.{field_at}
 use Rattle.nam_layout.specs.Place.{place_at}
 use Rattle.nam_calls.specs.declared.index.ClaimKeyPlace.{ClaimKeyPlace}
 use Rattle.nam_calls.specs.declared.reading.ReadPlace.{ReadPlace}
+use Rattle.nam_calls.specs.Memory.{verb_there}
 use Rattle.nam_calls.specs.Words.{capacity_of, path_of}
 use Rattle.nam_calls.specs.Index.{find_verb, claim_key_verb}
 use Rattle.nam_calls.specs.Reading.{sight_of, read_verb}
@@ -87,4 +88,4 @@ ClientFieldsLaw =
 abbrev pub WithinLaw : Type 0
 WithinLaw =
     (shape : Shape) (verb : VerbAt Field) → IsAtField shape verb
-    → let at = address_of (verb_by (address shape) verb) in (at < words_of shape) × (field_at shape at ≡ target verb)
+    → let at = address_of (verb_there shape verb) in (at < words_of shape) × (field_at shape at ≡ target verb)

@@ -21,5 +21,7 @@ pub mod ClientFits
 pub mod FallsLaw
 pub mod AttemptLaw
 pub mod FieldLaw
+pub mod OpeningLaw
+pub mod StepLaw
 pub mod Grows
 pub mod ProgramCommit

@@ -1,11 +1,10 @@
 -- The words at the opening: a shape's blank words with the loaded rows.
-use Rattle.std.specs.Prelude.{◌≡◌, ℕ, zero, suc, length, ◌+◌, ◌*◌, ◌==◌, true, false, List, [], ◌∷◌, ◌++◌, replicate}
+use Rattle.std.specs.Prelude.{ℕ, zero, suc, ◌+◌, ◌*◌, ◌==◌, true, false, List, [], ◌∷◌, ◌++◌, replicate}
 use Rattle.si_model.specs.declared.row.Row.{Row}
 use Rattle.nam_catalog.specs.declared.shape.Table.{Table}
 use Rattle.nam_catalog.specs.declared.shape.Shape.{Shape}
-use Rattle.nam_catalog.specs.Words.{cell_words, intent_words, words_of}
+use Rattle.nam_catalog.specs.Words.{cell_words, intent_words}
 use Rattle.nam_header.specs.Stamp.{blank_header, mark}
-use Rattle.nam_layout.specs.Address.{IsField}
 use Rattle.nam_layout.specs.declared.field.Field.{Field}
 use Rattle.nam_layout.specs.declared.field.Field.TheVariants as field
 use Rattle.nam_calls.specs.Memory.{memory, with_word}
@@ -45,14 +44,6 @@ blank_at shape (field.Horizon worker) = shape.start
 blank_at shape (field.Header row) = blank_header
 blank_at shape (field.SlotHeader row slot) = mark
 blank_at shape _ = 0
-
--- blank words are as many as the shape's, and each field has its blank word
-pub record IsBlank (shape : Shape) (words : List ℕ) : Type 0 where
-  pub whole : length words ≡ words_of shape
-  pub each : (f : Field) → IsField shape f → memory shape words f ≡ blank_at shape f
-
-abbrev pub BlankLaw : Type 0
-BlankLaw = (shape : Shape) → IsBlank shape (blank_words shape)
 
 -- 2. Loaded rows
 

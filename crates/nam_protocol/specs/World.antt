@@ -5,10 +5,10 @@ use Rattle.si_model.specs.declared.row.Row.{Row}
 use Rattle.si_model.specs.declared.op.Policy.{Policy}
 use Rattle.nam_verbs.specs.declared.verb.Verb.{Verb}
 use Rattle.nam_verbs.specs.Verb.{found_by, after_verb}
-use Rattle.nam_verbs.specs.VerbAt.{VerbAt, verb_by}
+use Rattle.nam_verbs.specs.VerbAt.{VerbAt}
 use Rattle.nam_catalog.specs.declared.shape.Shape.{Shape}
-use Rattle.nam_layout.specs.Address.{address}
 use Rattle.nam_layout.specs.declared.field.Field.{Field}
+use Rattle.nam_calls.specs.Memory.{verb_there}
 use Rattle.nam_protocol.specs.declared.session.Job.{Job}
 use Rattle.nam_protocol.specs.declared.session.SessionState.{SessionState}
 use Rattle.nam_protocol.specs.Telling.{new_client}
@@ -38,7 +38,7 @@ module _ (shape : Shape) where
 
   -- the worker's next verb, at the address of its field
   abbrev pub world_verb : World → ℕ → Option Verb
-  world_verb world worker = option_map (verb_by (address shape)) (verb_in (session_of world worker))
+  world_verb world worker = option_map (verb_there shape) (verb_in (session_of world worker))
 
   -- a verb is done, and the session takes the word that it found
   abbrev pub taken_by : World → ℕ → SessionState → Verb → World
@@ -49,7 +49,7 @@ module _ (shape : Shape) where
   -- the verb of the session is done
   abbrev pub step_by : World → ℕ → SessionState → Option (VerbAt Field) → World
   step_by world worker session None = world
-  step_by world worker session (Some verb) = taken_by world worker session (verb_by (address shape) verb)
+  step_by world worker session (Some verb) = taken_by world worker session (verb_there shape verb)
 
   abbrev pub step_of : World → ℕ → Option SessionState → World
   step_of world worker None = world

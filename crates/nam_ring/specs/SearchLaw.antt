@@ -43,8 +43,9 @@ module _ (place : Place) (seen : List ℕ) where
         → (same_stamp place.form again header ≡ false) ⊎ (again ≡ mark)
         → steps ≡ looked slot header ending words ++ saw_header place slot again ∷ [] → SlotEnded slot steps
 
-  -- A slot has what the snapshot sees: its header is visible and isn't the mark, its end isn't visible, and its header, read
-  -- again after the words, bears the same stamp and isn't the mark. The value is those words, and absent where it was deleted.
+  -- A slot has what the snapshot sees: its header is visible and isn't the mark, its end isn't visible, and its header,
+  -- read again after the words, bears the same stamp and isn't the mark. The value is those words, and absent where it
+  -- was deleted.
   pub record SlotGives (value : Option (List ℕ)) (slot : ℕ) (steps : List (Step Field)) : Type 0 where
     pub header : ℕ
     pub ending : ℕ

@@ -40,7 +40,8 @@ pub fn copy_verb(
     requires old { length old.now ≡ place.now.width }
     requires ending { FitsStamp place.now.form ending }
     requires at { CopyFits place.now at.now }
-    ensures value { result ≡ verb_by (position_address place.now) (copy_verb place.now count header old.now ending at.now) }
+    ensures value { result ≡ verb_by (position_address place.now)
+        (copy_verb place.now count header old.now ending at.now) }
     ensures within { address_of result < place_end place.now }
 {
     let slot = place.slot_of(count);

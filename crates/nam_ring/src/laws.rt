@@ -16,10 +16,10 @@ pub fn copy_law()
     ensures { CopyLaw }
 {}
 
-/// A search finds a version exactly after a slot's header that is visible and isn't the mark, its end that isn't visible,
-/// its words, and its header again with the same stamp that isn't the mark, where each slot before was ended by a word
-/// found. The value is those words, and absent where the header says deleted. Nothing is there exactly where each slot was
-/// ended by a word found.
+/// A search finds a version exactly after a slot's header that is visible and isn't the mark, its end that isn't
+/// visible, its words, and its header again with the same stamp that isn't the mark, where each slot before was ended
+/// by a word found. The value is those words, and absent where the header says deleted. Nothing is there exactly where
+/// each slot was ended by a word found.
 pub fn search_law()
     ensures found { FoundLaw }
     ensures not_there { NotThereLaw }

@@ -22,7 +22,6 @@ use Rattle.nam_index.specs.ClaimLaw.{exchanged, OtherHas, by_look, by_loss, KeyH
 use Rattle.nam_index.specs.ClaimLaw.{was_claimed}
 
 module _ (path : Path) (some : 1 ≤ path.capacity) where
-
   abbrev after : ClaimKeyPlace → ℕ → Now ClaimKeyPlace ClaimKeyEnd
   after = claim_key_after path
 

@@ -5,6 +5,7 @@ use Rattle.nam_verbs.specs.Machine.{Always}
 use Rattle.nam_verbs.proofs.TakenLemmas.{holds_always}
 use Rattle.nam_catalog.specs.declared.shape.Shape.{Shape}
 use Rattle.nam_catalog.specs.Fits.{FitsLimits}
+use Rattle.nam_layout.specs.Address.{IsRow}
 use Rattle.nam_calls.specs.declared.index.ClaimKeyPlace.{ClaimKeyPlace}
 use Rattle.nam_calls.specs.declared.index.ClaimKeyPlace.TheVariants.{KeyLook, KeyTake}
 use Rattle.nam_calls.specs.Words.{capacity_of, path_of}

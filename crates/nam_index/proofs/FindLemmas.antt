@@ -18,7 +18,6 @@ use Rattle.nam_calls.specs.Index.{nth_position, nth_key, find_verb, find_after}
 use Rattle.nam_index.specs.FindLaw.{BearsOther, BearsKey, BearsNone}
 
 module _ (path : Path) (some : 1 ≤ path.capacity) where
-
   abbrev EndsFrom : Now ℕ FindEnd → List (Step Field) → FindEnd → Type 0
   EndsFrom now steps end = Ends (find_verb path) (find_after path) now steps end
 

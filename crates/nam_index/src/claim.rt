@@ -59,7 +59,11 @@ fn claim_key_next(path: &Path, passed: u32) -> Now<ClaimKeyPlace, ClaimKeyEnd>
 }
 
 /// What follows the word that the verb of a place found.
-pub fn claim_key_after(path: &Path, place: ClaimKeyPlace, found: u64) -> Now<ClaimKeyPlace, ClaimKeyEnd>
+pub fn claim_key_after(
+    path: &Path,
+    place: ClaimKeyPlace,
+    found: u64,
+) -> Now<ClaimKeyPlace, ClaimKeyEnd>
     requires fits { FitsPath path.now }
     requires place { ClaimKeyFits path.now.capacity place }
     ensures { result ≡ claim_key_after path.now place found }

@@ -18,18 +18,26 @@ use Rattle.nam_calls.specs.declared.lock.LockEnd.TheVariants.{Held, Locked, Newe
 abbrev pub nth_place : List Place → ℕ → Place
 nth_place places nth = slice_index_or places nth no_place
 
+-- the header of a place
+abbrev pub header_field : Place → Field
+header_field place = field.Header place.row
+
 -- 1. LockAll: record after record its header is read, and exchanged for the same with the lock
 
 abbrev pub lock_begin : LockPlace
 lock_begin = Peek []
 
-abbrev pub lock_verb : ℕ → List Place → LockPlace → VerbAt Field
-lock_verb worker places (Peek held) = ReadAt (field.Header (nth_place places (length held)).row)
-lock_verb worker places (Seize held header) =
+-- the verb of each place, where headers have these names
+abbrev pub lock_verb_by : {W : Type 0} → (Place → W) → ℕ → List Place → LockPlace → VerbAt W
+lock_verb_by name worker places (Peek held) = ReadAt (name (nth_place places (length held)))
+lock_verb_by name worker places (Seize held header) =
     let place = nth_place places (length held) in
-    ExchangeAt (field.Header place.row) header (with_lock place.form worker header)
-lock_verb worker places (GiveBack held given found) =
-    WriteAt (field.Header (nth_place places given).row) (slice_index held given)
+    ExchangeAt (name place) header (with_lock place.form worker header)
+lock_verb_by name worker places (GiveBack held given found) =
+    WriteAt (name (nth_place places given)) (slice_index held given)
+
+abbrev pub lock_verb : ℕ → List Place → LockPlace → VerbAt Field
+lock_verb = lock_verb_by header_field
 
 -- what the header found in the way of the next lock says
 abbrev pub loss_of : Form → ℕ → ℕ → LockEnd
@@ -70,8 +78,11 @@ lock_left places rest (GiveBack held given found) = length held - given
 abbrev pub unlock_begin : List Place → Now ℕ (Unit {0})
 unlock_begin places = if length places == 0 then Over tt else At 0
 
+abbrev pub unlock_verb_by : {W : Type 0} → (Place → W) → List Place → List ℕ → ℕ → VerbAt W
+unlock_verb_by name places headers given = WriteAt (name (nth_place places given)) (slice_index headers given)
+
 abbrev pub unlock_verb : List Place → List ℕ → ℕ → VerbAt Field
-unlock_verb places headers given = WriteAt (field.Header (nth_place places given).row) (slice_index headers given)
+unlock_verb = unlock_verb_by header_field
 
 abbrev pub unlock_after : List Place → ℕ → Now ℕ (Unit {0})
 unlock_after places given = if given + 1 == length places then Over tt else At (given + 1)

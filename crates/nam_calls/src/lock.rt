@@ -1,5 +1,7 @@
 //! Locking records in order, each under the header that the snapshot sees.
 
+ghost use Rattle.std.specs.Prelude.{◌≡◌};
+
 use lists::ShortList;
 
 /// Where the locking stands. It holds the first records, whose headers were these.
@@ -31,4 +33,23 @@ pub enum LockEnd {
     Locked { nth: u32, found: u64 },
     /// The record has a newer version than the snapshot sees, and no lock is held.
     Newer { nth: u32, found: u64 },
+}
+
+impl LockEnd {
+    /// An equal end, made without memory.
+    pub fn copy(&self) -> LockEnd
+        ensures { result ≡ self.now }
+    {
+        match self {
+            LockEnd::Held(held) => LockEnd::Held(held.copy()),
+            LockEnd::Locked { nth, found } => LockEnd::Locked {
+                nth: *nth,
+                found: *found,
+            },
+            LockEnd::Newer { nth, found } => LockEnd::Newer {
+                nth: *nth,
+                found: *found,
+            },
+        }
+    }
 }

@@ -1,4 +1,4 @@
 pub mod PathLemmas
-pub mod MachineLemmas
+pub mod FieldLemmas
 pub mod FindLemmas
 pub mod ClaimLemmas

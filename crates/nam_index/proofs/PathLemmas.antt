@@ -10,13 +10,17 @@ use Rattle.nam_catalog.specs.declared.shape.Table.{Table}
 use Rattle.nam_catalog.specs.declared.shape.Shape.{Shape}
 use Rattle.nam_catalog.specs.Fits.{FitsTable, FitsLimits}
 use Rattle.nam_catalog.specs.Tables.{widths_of, capacities_of, rings_of}
-use Rattle.nam_catalog.specs.Words.{position_words, table_words, tables_words}
+use Rattle.nam_catalog.specs.Words.{words_of, position_words, table_words, tables_words}
 use Rattle.nam_layout.specs.Rows.{row_of, row_at}
+use Rattle.nam_layout.specs.Address.{address}
 use Rattle.nam_layout.proofs.TestLemmas.{if_less, if_not_less}
-use Rattle.nam_calls.specs.Words.{capacity_of, on_path, path_at}
-use Rattle.nam_calls.specs.Fits.{IsTableOf}
+use Rattle.nam_calls.specs.Words.{capacity_of, on_path, path_of}
+use Rattle.nam_calls.specs.Index.{nth_position, nth_key}
+use Rattle.nam_calls.specs.Fits.{FindFits, IsTableOf}
 use Rattle.nam_calls.proofs.FallsTables.{has_capacity}
-use Rattle.nam_index.specs.Path.{path_of, position_at, key_at, FitsPath}
+use Rattle.nam_calls.proofs.FieldLemmas.{row_after}
+use Rattle.nam_index.specs.Path.{path_end, FitsPath}
+use Rattle.nam_index.specs.FieldLaw.{Stands}
 use Rattle.nam_index.specs.PathLaw.{GoesThrough}
 
 -- the positions of a table stand one after another, among the words of the tables
@@ -60,28 +64,36 @@ in_order (t ∷ ts) (suc table) fit less =
       within = omega arith;
     }
 
-module _ (shape : Shape) (limits : FitsLimits shape) (table : ℕ) (is : IsTableOf shape table) where
-  -- the path has the addresses of its key words
-  pub addresses_are : (key passed : ℕ) → key_at (path_of shape table key) passed ≡ path_at shape table key passed
-  addresses_are key passed =
-      let some = has_capacity shape limits table is in
-      let order = in_order shape.tables table limits.tables is in
-      let position = position_at (path_of shape table key) passed in
-      let here : position < capacity_of shape table = omega arith in
-      let stands = order.stands position here in
-      omega arith
+module _ (shape : Shape) (limits : FitsLimits shape) (table : ℕ) (is : IsTableOf shape table) (key : ℕ) where
+  -- each key word of the path stands where its field stands
+  pub stands : (passed : ℕ) → FindFits (capacity_of shape table) passed
+      → Stands shape table key (nth_key (path_of shape table key) passed)
+  stands passed fits =
+      let path = path_of shape table key in
+      let position = nth_position path passed in
+      let in_table : position < capacity_of shape table = mod_below _ _ (has_capacity shape limits table is) in
+      let here = (in_order shape.tables table limits.tables is).stands position in_table in
+      let row = ap (row_at shape.tables) (row_after shape.tables table position) in
+      let nth : path.row + position - path.row ≡ position = omega arith in
+      let at : path.first + position * path.words ≡ address shape (nth_key path passed) = omega arith in
+      ap (λ n. path.first + n * path.words) nth ∙ at
 
-  pub path_fits : (key : ℕ) → key < 2 ^ 64 - 1 → FitsPath (path_of shape table key)
-  path_fits key less =
-      let within = (in_order shape.tables table limits.tables is).within in
-      let most = limits.words in
-      record {
-        key = less;
-        least_capacity = has_capacity shape limits table is;
-        least_words = omega arith;
-        last = omega arith;
-        reach = most;
-      }
+  path_ends : path_end (path_of shape table key) ≤ words_of shape
+  path_ends = let within = (in_order shape.tables table limits.tables is).within in omega arith
+
+  pub path_fits : key < 2 ^ 64 - 1
+      → FitsPath (path_of shape table key) × (path_end (path_of shape table key) ≤ words_of shape)
+  path_fits less =
+      let ends = path_ends in
+      let most = limits.words in (
+        record {
+          key = less;
+          least_capacity = has_capacity shape limits table is;
+          least_words = omega arith;
+          last = omega arith;
+        },
+        ends,
+      )
 
 -- the remainder of a sum of two numbers below the capacity
 remainder : (capacity n : ℕ) → n < capacity + capacity → ((n < capacity) × (n % capacity ≡ n))

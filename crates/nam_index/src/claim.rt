@@ -1,32 +1,39 @@
 //! Finding the position of a key, or claiming one for it.
 
-ghost use Rattle.std.specs.Prelude.{◌≡◌, ◌<◌, ◌-◌, ◌*◌, ◌^◌, length};
+ghost use Rattle.std.specs.Prelude.{◌≡◌, ◌<◌, ◌≤◌, ◌-◌, ◌*◌, ◌^◌, length};
 ghost use Rattle.nam_verbs.specs.Verb.{address_of};
+ghost use Rattle.nam_verbs.specs.VerbAt.{verb_by};
 ghost use Rattle.nam_verbs.specs.Running.{verbs_left};
 ghost use Rattle.nam_catalog.specs.Words.{words_of};
 ghost use Rattle.nam_calls.specs.Words.{capacity_of};
 ghost use Rattle.nam_calls.specs.Fits.{ClaimKeyFits};
-ghost use Rattle.nam_calls.specs.Index.{claim_key_begin as begin, claim_key_verb as verb_at};
-ghost use Rattle.nam_calls.specs.Index.{claim_key_after as after_word, claim_key_left as left_at};
-ghost use Rattle.nam_index.specs.Path.{FitsPath};
-ghost use Rattle.nam_index.specs.Claim.{claim_verb as claim_at, claim_next as claim_on};
-ghost use Rattle.nam_index.specs.Claim.{claim_after as claim_word, claim_left as claim_rest};
+ghost use Rattle.nam_calls.specs.Index.{claim_key_begin, claim_key_verb, claim_key_next, claim_key_after};
+ghost use Rattle.nam_calls.specs.Index.{claim_key_left};
+ghost use Rattle.nam_index.specs.Path.{path_address, path_end, FitsPath};
 ghost use Rattle.nam_index.specs.Claim.{claiming, running};
 
-use crate::path::{Path, key_at, path_of, position_at};
-use nam_calls::{ClaimKeyEnd, ClaimKeyPlace};
-use nam_layout::Layout;
+use crate::path::{key_at, path_of, position_at};
+use nam_calls::{ClaimKeyEnd, ClaimKeyPlace, Path};
+use nam_layout::{Field, Layout};
 use nam_verbs::{Machine, Now, Verb};
 use std::marker::Model;
 use std::mem::replace;
 
-fn claim_verb(path: &Path, at: &ClaimKeyPlace) -> Verb
-    requires fits { FitsPath path.now }
-    requires at { ClaimKeyFits path.now.capacity at.now }
-    ensures value { result ≡ claim_at path.now at.now }
-    ensures within { address_of result < path.now.reach }
+/// Where a claim begins: no position of the key's path has been passed.
+pub fn claim_key_begin() -> ClaimKeyPlace
+    ensures { result ≡ claim_key_begin }
 {
-    match at {
+    ClaimKeyPlace::KeyLook { passed: 0 }
+}
+
+/// The verb that stands at a place.
+pub fn claim_key_verb(path: &Path, place: &ClaimKeyPlace) -> Verb
+    requires fits { FitsPath path.now }
+    requires place { ClaimKeyFits path.now.capacity place.now }
+    ensures value { result ≡ verb_by (path_address path.now) (claim_key_verb path.now place.now) }
+    ensures within { address_of result < path_end path.now }
+{
+    match place {
         ClaimKeyPlace::KeyLook { passed } => Verb::Read {
             at: key_at(path, *passed),
         },
@@ -38,10 +45,11 @@ fn claim_verb(path: &Path, at: &ClaimKeyPlace) -> Verb
     }
 }
 
-fn claim_next(path: &Path, passed: u32) -> Now<ClaimKeyPlace, ClaimKeyEnd>
+/// Goes on after a position that bears another key.
+fn claim_key_next(path: &Path, passed: u32) -> Now<ClaimKeyPlace, ClaimKeyEnd>
     requires fits { FitsPath path.now }
     requires passed { passed < path.now.capacity }
-    ensures { result ≡ claim_on path.now passed }
+    ensures { result ≡ claim_key_next path.now passed }
 {
     if passed + 1 == path.capacity {
         Now::Over(ClaimKeyEnd::NoSpace)
@@ -50,82 +58,45 @@ fn claim_next(path: &Path, passed: u32) -> Now<ClaimKeyPlace, ClaimKeyEnd>
     }
 }
 
-fn claim_after(path: &Path, at: ClaimKeyPlace, found: u64) -> Now<ClaimKeyPlace, ClaimKeyEnd>
+/// What follows the word that the verb of a place found.
+pub fn claim_key_after(
+    path: &Path,
+    place: ClaimKeyPlace,
+    found: u64,
+) -> Now<ClaimKeyPlace, ClaimKeyEnd>
     requires fits { FitsPath path.now }
-    requires at { ClaimKeyFits path.now.capacity at }
-    ensures { result ≡ claim_word path.now at found }
+    requires place { ClaimKeyFits path.now.capacity place }
+    ensures { result ≡ claim_key_after path.now place found }
 {
-    match at {
+    match place {
         ClaimKeyPlace::KeyLook { passed } => {
             if found == path.key + 1 {
                 Now::Over(ClaimKeyEnd::At(position_at(path, passed)))
             } else if found == 0 {
                 Now::At(ClaimKeyPlace::KeyTake { passed })
             } else {
-                claim_next(path, passed)
+                claim_key_next(path, passed)
             }
         }
         ClaimKeyPlace::KeyTake { passed } => {
             if found == 0 || found == path.key + 1 {
                 Now::Over(ClaimKeyEnd::At(position_at(path, passed)))
             } else {
-                claim_next(path, passed)
+                claim_key_next(path, passed)
             }
         }
     }
 }
 
-fn claim_left(capacity: u32, at: &ClaimKeyPlace) -> u64
-    requires { ClaimKeyFits capacity at.now }
-    ensures { result ≡ claim_rest capacity at.now }
-{
-    match at {
-        ClaimKeyPlace::KeyLook { passed } => 2 * (capacity - passed - 1) as u64 + 2,
-        ClaimKeyPlace::KeyTake { passed } => 2 * (capacity - passed - 1) as u64 + 1,
-    }
-}
-
-/// Where a claim begins: no position of the key's path has been passed.
-pub fn claim_key_begin() -> ClaimKeyPlace
-    ensures { result ≡ begin }
-{
-    ClaimKeyPlace::KeyLook { passed: 0 }
-}
-
-/// The verb that stands at a place.
-pub fn claim_key_verb(layout: &Layout, table: u32, key: u64, at: &ClaimKeyPlace) -> Verb
-    requires table { table < length layout.now.tables }
-    requires key { key < 2 ^ 64 - 1 }
-    requires at { ClaimKeyFits (capacity_of layout.now table) at.now }
-    ensures value { result ≡ verb_at layout.now table key at.now }
-    ensures within { address_of result < words_of layout.now }
-{
-    claim_verb(&path_of(layout, table, key), at)
-}
-
-/// What follows the word that the verb of a place found.
-pub fn claim_key_after(
-    layout: &Layout,
-    table: u32,
-    key: u64,
-    at: ClaimKeyPlace,
-    found: u64,
-) -> Now<ClaimKeyPlace, ClaimKeyEnd>
-    requires table { table < length layout.now.tables }
-    requires key { key < 2 ^ 64 - 1 }
-    requires at { ClaimKeyFits (capacity_of layout.now table) at }
-    ensures { result ≡ after_word layout.now table key at found }
-{
-    claim_after(&path_of(layout, table, key), at, found)
-}
-
 /// A number of verbs that are to come from a place at the most.
-pub fn claim_key_left(layout: &Layout, table: u32, at: &ClaimKeyPlace) -> u64
-    requires table { table < length layout.now.tables }
-    requires at { ClaimKeyFits (capacity_of layout.now table) at.now }
-    ensures { result ≡ left_at layout.now table at.now }
+pub fn claim_key_left(path: &Path, place: &ClaimKeyPlace) -> u64
+    requires { ClaimKeyFits path.now.capacity place.now }
+    ensures { result ≡ claim_key_left path.now place.now }
 {
-    claim_left(layout.capacity(table), at)
+    match place {
+        ClaimKeyPlace::KeyLook { passed } => 2 * (path.capacity - passed - 1) as u64 + 2,
+        ClaimKeyPlace::KeyTake { passed } => 2 * (path.capacity - passed - 1) as u64 + 1,
+    }
 }
 
 /// The search for the position that bears a key, which claims the first free position of the key's path for it: a free
@@ -156,6 +127,7 @@ impl FindOrClaim {
         requires key { key < 2 ^ 64 - 1 }
         ensures begins { result ≡ claiming layout.now table key }
         ensures left { verbs_left (running result) ≡ 2 * capacity_of layout.now table }
+        ensures within { (running result).reach ≤ words_of layout.now }
     {
         FindOrClaim {
             path: path_of(layout, table, key),
@@ -165,48 +137,36 @@ impl FindOrClaim {
 }
 
 impl Machine for FindOrClaim {
-    ghost use Rattle.nam_verbs.specs.Running.{next_verb, after_found, end_of, verbs_left, stands_until_end};
     ghost use Rattle.nam_index.specs.Claim.{running};
+
+    type Word = Field;
+
+    type Place = ClaimKeyPlace;
 
     type End = ClaimKeyEnd;
 
-    ghost next = { λ a. next_verb (running a) };
+    ghost running = { running };
 
-    ghost after = { λ a found. record a { state = (after_found (running a) found).state } };
+    fn state(&self) -> &Now<ClaimKeyPlace, ClaimKeyEnd> {
+        &self.state
+    }
 
-    ghost ended = { λ a. end_of (running a) };
+    fn verb_from(&self, place: &ClaimKeyPlace) -> Verb {
+        claim_key_verb(&self.path, place)
+    }
 
-    ghost rest = { λ a. verbs_left (running a) };
-
-    ghost reach = { λ a. (running a).reach };
-
-    ghost stands_until_end = { λ a. stands_until_end (running a) };
-
-    fn verb(&self) -> Option<Verb> {
-        match &self.state {
-            Now::At(at) => Some(claim_verb(&self.path, at)),
-            Now::Over(_) => None,
-        }
+    fn left_from(&self, place: &ClaimKeyPlace) -> u64 {
+        claim_key_left(&self.path, place)
     }
 
     fn take(&mut self, found: u64) {
-        match replace(&mut self.state, Now::At(claim_key_begin())) {
-            Now::At(at) => self.state = claim_after(&self.path, at, found),
-            Now::Over(end) => self.state = Now::Over(end),
-        }
-    }
-
-    fn left(&self) -> u64 {
-        match &self.state {
-            Now::At(at) => claim_left(self.path.capacity, at),
-            Now::Over(_) => 0,
-        }
+        self.state = match replace(&mut self.state, Now::At(claim_key_begin())) {
+            Now::At(place) => claim_key_after(&self.path, place, found),
+            Now::Over(end) => Now::Over(end),
+        };
     }
 
     fn end(&self) -> Option<ClaimKeyEnd> {
-        match &self.state {
-            Now::At(_) => None,
-            Now::Over(end) => Some(*end),
-        }
+        self.state.end()
     }
 }

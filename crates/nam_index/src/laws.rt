@@ -1,15 +1,21 @@
 //! What the machines make of the words that their verbs find, whatever these words are.
 
-ghost use Rattle.nam_index.specs.PathLaw.{PathLaw, FindIsLaw, ClaimIsLaw};
-ghost use Rattle.nam_index.specs.FindLaw.{FoundLaw, AbsentLaw, FindReachesLaw};
-ghost use Rattle.nam_index.specs.ClaimLaw.{ClaimedLaw, NoSpaceLaw, ClaimReachesLaw};
+ghost use Rattle.nam_index.specs.PathLaw.{PathLaw};
+ghost use Rattle.nam_index.specs.FieldLaw.{AddressLaw, FindFieldLaw, ClaimFieldLaw};
+ghost use Rattle.nam_index.specs.FindLaw.{FoundLaw, AbsentLaw};
+ghost use Rattle.nam_index.specs.ClaimLaw.{ClaimedLaw, NoSpaceLaw};
 
-/// The path of a key goes through each position of the table, and once; and the machines do what the protocol says of
-/// the key and the table.
+/// The path of a key goes through each position of the table, and once.
 pub fn path_law()
-    ensures path { PathLaw }
-    ensures find { FindIsLaw }
-    ensures claim { ClaimIsLaw }
+    ensures { PathLaw }
+{}
+
+/// On the path of a table's key, each key word has the address of its field; and whatever words are found, each verb is
+/// at the key of a row of the table, at its address.
+pub fn field_law()
+    ensures addresses { AddressLaw }
+    ensures find { FindFieldLaw }
+    ensures claim { ClaimFieldLaw }
 {}
 
 /// A key is found exactly at the first position of its path that was found to bear it, each before it having been found
@@ -26,10 +32,4 @@ pub fn find_law()
 pub fn claim_law()
     ensures claimed { ClaimedLaw }
     ensures no_space { NoSpaceLaw }
-{}
-
-/// Whatever words are found, each verb reaches the key word of the position that its place says.
-pub fn reach_law()
-    ensures find { FindReachesLaw }
-    ensures claim { ClaimReachesLaw }
 {}

@@ -3,8 +3,8 @@
 //! A key is looked for along its path, which begins at the key modulo the table's capacity and goes from one position
 //! to the next. `Find` reads key words up to the key or a free position, and `FindOrClaim` claims the first free
 //! position by an exchange. Whatever words their verbs find, `find_law` and `claim_law` say exactly how they end,
-//! `path_law` that a path goes through each position once, and `reach_law` that each verb reaches a key word of the
-//! table. No call takes memory.
+//! `path_law` that a path goes through each position once, and `field_law` that each verb is at the key of one of the
+//! table's rows. No call takes memory.
 #![tactic(auto)]
 
 mod claim;
@@ -16,5 +16,6 @@ mod tests;
 
 pub use claim::{FindOrClaim, claim_key_after, claim_key_begin, claim_key_left, claim_key_verb};
 pub use find::{Find, find_after, find_begin, find_left, find_verb};
-pub use laws::{claim_law, find_law, path_law, reach_law};
-pub use nam_calls::{ClaimKeyEnd, ClaimKeyPlace, FindEnd};
+pub use laws::{claim_law, field_law, find_law, path_law};
+pub use nam_calls::{ClaimKeyEnd, ClaimKeyPlace, FindEnd, Path};
+pub use path::path_of;

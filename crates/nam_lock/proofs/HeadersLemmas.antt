@@ -1,12 +1,13 @@
--- Addresses of headers.
+-- addresses of headers.
 use Rattle.std.proofs.Common.{ℕ, zero, suc, ◌+◌, ◌<◌, ◌≤◌, List, [], ◌∷◌, length, arith}
 use Rattle.std.specs.Prelude.{nat_le, All}
 use Rattle.std.proofs.lemmas.Bool.Decides.{nat_tests}
 use Rattle.std.proofs.lemmas.List.Elements.{All-head, All-tail}
 use Rattle.nam_verbs.proofs.TestLemmas.{by_test}
+use Rattle.nam_catalog.specs.declared.bounds.TheConstants.{MOST_WORDS}
 use Rattle.nam_layout.specs.declared.field.Place.{Place}
+use Rattle.nam_layout.specs.Place.{later}
 use Rattle.nam_layout.specs.PlaceFits.{FitsPlace}
-use Rattle.nam_words.specs.Ends.{later}
 use Rattle.nam_calls.specs.Lock.{nth_place}
 use Rattle.nam_lock.specs.Headers.{headers_end}
 
@@ -29,7 +30,7 @@ is_below_end (place ∷ places) (suc nth) within =
     let second = second_below (place.header_at + 1) (headers_end places) in omega arith
 
 -- each header is a word of a store
-pub end_fits : (places : List Place) → All FitsPlace places → headers_end places ≤ 4194304
+pub end_fits : (places : List Place) → All FitsPlace places → headers_end places ≤ MOST_WORDS
 end_fits [] fit = omega arith
 end_fits (place ∷ places) fit =
     let here = All-head FitsPlace place places fit in
@@ -38,5 +39,5 @@ end_fits (place ∷ places) fit =
     let words = here.words_follow in
     let ring = here.ring_follows in
     let last = here.last in
-    both_below (place.header_at + 1) (headers_end places) 4194304 (omega arith)
+    both_below (place.header_at + 1) (headers_end places) MOST_WORDS (omega arith)
     (end_fits places (All-tail FitsPlace place places fit))

@@ -2,4 +2,4 @@ pub mod HeadersLemmas
 pub mod LockingLemmas
 pub mod TakenLemmas
 pub mod UnlockingLemmas
-pub mod ReachLemmas
+pub mod FieldLemmas

@@ -1,62 +1,62 @@
--- What a locking makes of the words that it finds.
+-- what a locking makes of the words that it finds.
 use Rattle.std.proofs.Common.{◌≡◌, ◌≢◌, ◌⊎◌, inl, inr, refl, sym, ◌∙◌, ap, subst, arith, true, false}
 use Rattle.std.proofs.Common.{ℕ, zero, suc, ◌+◌, ◌-◌, ◌<◌, ◌≤◌, List, [], ◌∷◌, ◌++◌, length}
 use Rattle.std.specs.Prelude.{◌==◌, ◌↔◌, if◌then◌else◌}
 use Rattle.std.proofs.lemmas.Bool.Decides.{nat_tests}
 use Rattle.std.proofs.lemmas.List.{append_assoc, append-nil, length-append}
-use Rattle.nam_verbs.specs.declared.verb.Verb.{Verb}
 use Rattle.nam_verbs.specs.declared.now.Now.{Now}
 use Rattle.nam_verbs.specs.declared.now.Now.TheVariants.{At, Over}
+use Rattle.nam_verbs.specs.VerbAt.{VerbAt}
 use Rattle.nam_verbs.specs.Steps.{Step, Ends, Does, saw, writes_of, verbs_of}
+use Rattle.nam_verbs.proofs.ReadingLemmas.{step_of}
+use Rattle.nam_verbs.proofs.WritingLemmas.{writes_words}
 use Rattle.nam_verbs.proofs.StepsLemmas.{verbs_are, does_verbs}
 use Rattle.nam_verbs.proofs.TestLemmas.{by_test, by_equal}
+use Rattle.nam_header.specs.Stamp.{sees, is_locked}
 use Rattle.nam_layout.specs.declared.field.Place.{Place}
 use Rattle.nam_calls.specs.declared.lock.LockPlace.{LockPlace}
 use Rattle.nam_calls.specs.declared.lock.LockPlace.TheVariants.{Peek, Seize, GiveBack}
 use Rattle.nam_calls.specs.declared.lock.LockEnd.{LockEnd}
 use Rattle.nam_calls.specs.declared.lock.LockEnd.TheVariants.{Held, Locked, Newer}
-use Rattle.nam_calls.specs.Stamps.{sees, is_locked}
-use Rattle.nam_calls.specs.Lock.{lock_verb, lock_next, lock_after, loss_of, give_back}
-use Rattle.nam_words.proofs.ReadingLemmas.{step_of}
-use Rattle.nam_words.proofs.WritingLemmas.{writes_words}
-use Rattle.nam_lock.specs.LockingLaw.{header_at, form_at, IsLocked, IsUnlocked, IsUnseen, IsFree, AreFree}
+use Rattle.nam_calls.specs.Lock.{lock_verb_by, lock_next, lock_after, loss_of, give_back}
+use Rattle.nam_lock.specs.LockingLaw.{header_of, form_at, IsLocked, IsUnlocked, IsUnseen, IsFree, AreFree}
 use Rattle.nam_lock.specs.LockingLaw.{tried_lock, locks_from, ReadsTaken, LosesExchange, MissesLock, IsLockingOf}
 
-module _ (worker : ℕ) (places : List Place) (seen : List ℕ) where
-  abbrev verb : LockPlace → Verb
-  verb = lock_verb worker places
+module _ {W : Type 0} (name : Place → W) (worker : ℕ) (places : List Place) (seen : List ℕ) where
+  abbrev verb : LockPlace → VerbAt W
+  verb = lock_verb_by name worker places
 
   abbrev after : LockPlace → ℕ → Now LockPlace LockEnd
   after = lock_after places seen
 
-  abbrev EndsFrom : Now LockPlace LockEnd → List Step → LockEnd → Type 0
+  abbrev EndsFrom : Now LockPlace LockEnd → List (Step W) → LockEnd → Type 0
   EndsFrom now steps end = Ends verb after now steps end
 
-  abbrev read_of : ℕ → ℕ → Step
-  read_of nth found = saw (header_at places nth) found
+  abbrev read_of : ℕ → ℕ → Step W
+  read_of nth found = saw (header_of name places nth) found
 
-  abbrev try_of : ℕ → ℕ → ℕ → Step
-  try_of = tried_lock places worker
+  abbrev try_of : ℕ → ℕ → ℕ → Step W
+  try_of = tried_lock name places worker
 
-  abbrev locks : ℕ → List ℕ → List Step
-  locks = locks_from places worker
+  abbrev locks : ℕ → List ℕ → List (Step W)
+  locks = locks_from name places worker
 
   abbrev Free : ℕ → ℕ → Type 0
   Free = IsFree places seen
 
-  abbrev Missed : ℕ → ℕ → List Step → Type 0
-  Missed = MissesLock worker places seen
+  abbrev Missed : ℕ → ℕ → List (Step W) → Type 0
+  Missed = MissesLock name worker places seen
 
-  abbrev Misses : ℕ → ℕ → List Step → Type 0
+  abbrev Misses : ℕ → ℕ → List (Step W) → Type 0
   Misses nth found steps =
-      ReadsTaken worker places seen nth found steps ⊎ LosesExchange worker places seen nth found steps
+      ReadsTaken name worker places seen nth found steps ⊎ LosesExchange name worker places seen nth found steps
 
   -- where it begins to give back, what it writes then, and how it ends
   abbrev missed_by : List ℕ → ℕ → Now LockPlace LockEnd
   missed_by held found = give_back places held 0 found
 
-  abbrev writes : List ℕ → List Verb
-  writes held = writes_of (header_at places) held
+  abbrev writes : List ℕ → List (VerbAt W)
+  writes held = writes_of (header_of name places) held
 
   abbrev loss : List ℕ → ℕ → LockEnd
   loss held found = loss_of (form_at places (length held)) (length held) found
@@ -100,7 +100,7 @@ module _ (worker : ℕ) (places : List Place) (seen : List ℕ) where
       let held = header ∷ headers in
       let some : (0 == length held) ≡ false = grind (arith, nat_tests) in
       let end = loss held found in
-      let all = writes_words verb after (header_at places) held (λ given. GiveBack held given found) (Over end)
+      let all = writes_words verb after (header_of name places) held (λ given. GiveBack held given found) (Over end)
       (λ nth. refl) (λ nth word. refl) [] end refl (omega arith) in
       rw some (subst (λ verbs. Does verb after (At (GiveBack held 0 found)) verbs (loss held found))
       (append-nil (writes held)) all)
@@ -108,32 +108,32 @@ module _ (worker : ℕ) (places : List Place) (seen : List ℕ) where
   -- 2. What steps tell of the end
 
   -- the record after those that were locked was missed, and these were given back
-  record GivenBack (held : List ℕ) (nth found : ℕ) (steps : List Step) : Type 0 where
+  record GivenBack (held : List ℕ) (nth found : ℕ) (steps : List (Step W)) : Type 0 where
     within : nth < length places
     before : length held ≡ nth
-    last : List Step
+    last : List (Step W)
     missed : Misses nth found last
-    back : List Step
+    back : List (Step W)
     gives_back : verbs_of back ≡ writes held
     steps_are : steps ≡ last ++ back
 
   -- the steps after the last lock
-  abbrev Finish : List ℕ → List Step → LockEnd → Type 0
+  abbrev Finish : List ℕ → List (Step W) → LockEnd → Type 0
   Finish held steps (Held all) = (steps ≡ []) × (all ≡ held) × (length held ≡ length places)
   Finish held steps (Locked nth found) = GivenBack held nth found steps × IsLocked places nth found
   Finish held steps (Newer nth found) = GivenBack held nth found steps × IsUnlocked places nth found
 
   -- the steps with some locks held
-  record From (held : List ℕ) (nth : ℕ) (steps : List Step) (end : LockEnd) : Type 0 where
+  record From (held : List ℕ) (nth : ℕ) (steps : List (Step W)) (end : LockEnd) : Type 0 where
     headers : List ℕ
     free : AreFree places seen nth headers
-    later : List Step
+    later : List (Step W)
     steps_are : steps ≡ locks nth headers ++ later
     finish : Finish (held ++ headers) later end
 
   -- 3. Of a locking that ended so
 
-  finish_of : (held : List ℕ) (found : ℕ) (last back : List Step) → length held < length places
+  finish_of : (held : List ℕ) (found : ℕ) (last back : List (Step W)) → length held < length places
       → Misses (length held) found last → verbs_of back ≡ writes held → Finish held (last ++ back) (loss held found)
   finish_of held found last back within missed written =
       let n = length held in
@@ -149,7 +149,7 @@ module _ (worker : ℕ) (places : List Place) (seen : List ℕ) where
       by_test (Finish held (last ++ back)) (is_locked (form_at places n) found) (Locked n found) (Newer n found)
       (λ test. (given, test)) (λ test. (given, test))
 
-  misses_here : (held : List ℕ) (found : ℕ) (last back : List Step) (end : LockEnd) → length held < length places
+  misses_here : (held : List ℕ) (found : ℕ) (last back : List (Step W)) (end : LockEnd) → length held < length places
       → Misses (length held) found last → EndsFrom (missed_by held found) back end
       → From held (length held) (last ++ back) end
   misses_here held found last back end within missed ends =
@@ -165,7 +165,7 @@ module _ (worker : ℕ) (places : List Place) (seen : List ℕ) where
         finish = subst (λ e. Finish (held ++ []) (last ++ back) e) (sym both.1) finish;
       }
 
-  one_more : (held : List ℕ) (header : ℕ) (steps : List Step) (end : LockEnd) → Free (length held) header
+  one_more : (held : List ℕ) (header : ℕ) (steps : List (Step W)) (end : LockEnd) → Free (length held) header
       → From (held ++ header ∷ []) (length (held ++ header ∷ [])) steps end
       → From held (length held) (read_of (length held) header ∷ try_of (length held) header header ∷ steps) end
   one_more held header steps end free from =
@@ -182,9 +182,9 @@ module _ (worker : ℕ) (places : List Place) (seen : List ℕ) where
   -- what follows from the steps after a lock
   abbrev Continues : List ℕ → Type 0
   Continues held =
-      (rest : List Step) (end : LockEnd) → EndsFrom (lock_next places held) rest end → From held (length held) rest end
+      (rest : List (Step W)) (end : LockEnd) → EndsFrom (lock_next places held) rest end → From held (length held) rest end
 
-  from_seize : (held : List ℕ) (header : ℕ) (steps : List Step) (end : LockEnd) → length held < length places
+  from_seize : (held : List ℕ) (header : ℕ) (steps : List (Step W)) (end : LockEnd) → length held < length places
       → Free (length held) header → Continues (held ++ header ∷ []) → EndsFrom (At (Seize held header)) steps end
       → From held (length held) (read_of (length held) header ∷ steps) end
   from_seize held header [] end within free continues ends = absurd ends
@@ -199,13 +199,13 @@ module _ (worker : ℕ) (places : List Place) (seen : List ℕ) where
       let locked : step ≡ try_of n header header = is ∙ ap (try_of n header) same in
       rw locked (one_more held header steps end free (continues steps end goes)))
       (λ differs goes.
-      let loses : LosesExchange worker places seen n found (read_of n header ∷ step ∷ []) =
+      let loses : LosesExchange name worker places seen n found (read_of n header ∷ step ∷ []) =
       record { header = header; free = free; differs = differs; steps_are = rw (← is) refl } in
       misses_here held found (read_of n header ∷ step ∷ []) steps end within (inr loses) goes)
       ends.1
 
   from_peek : (held : List ℕ) → length held < length places → ((header : ℕ) → Continues (held ++ header ∷ []))
-      → (steps : List Step) (end : LockEnd) → EndsFrom (At (Peek held)) steps end → From held (length held) steps end
+      → (steps : List (Step W)) (end : LockEnd) → EndsFrom (At (Peek held)) steps end → From held (length held) steps end
   from_peek held within continues [] end ends = absurd ends
   from_peek held within continues (step ∷ steps) end ends =
       let n = length held in
@@ -223,7 +223,7 @@ module _ (worker : ℕ) (places : List Place) (seen : List ℕ) where
       (λ unseen. misses (inr unseen)))
       ends.1
 
-  all_held : (held : List ℕ) (steps : List Step) (end : LockEnd) → length held ≡ length places
+  all_held : (held : List ℕ) (steps : List (Step W)) (end : LockEnd) → length held ≡ length places
       → EndsFrom (Over (Held held)) steps end → From held (length held) steps end
   all_held held (step ∷ steps) end full ends = absurd ends
   all_held held [] end full ends =
@@ -231,7 +231,7 @@ module _ (worker : ℕ) (places : List Place) (seen : List ℕ) where
       subst (λ e. From held (length held) [] e) ends
       (record { headers = []; free = tt; later = []; steps_are = refl; finish = finish })
 
-  from_more : (more : ℕ) (held : List ℕ) → length held + suc more ≡ length places → (steps : List Step) (end : LockEnd)
+  from_more : (more : ℕ) (held : List ℕ) → length held + suc more ≡ length places → (steps : List (Step W)) (end : LockEnd)
       → EndsFrom (At (Peek held)) steps end → From held (length held) steps end
   from_more zero held count =
       from_peek held (omega arith) (λ header rest end goes.
@@ -245,7 +245,7 @@ module _ (worker : ℕ) (places : List Place) (seen : List ℕ) where
       from_more more all (omega arith) rest end
       (subst (λ now. EndsFrom now rest end) (next_more all (omega arith)) goes))
 
-  from_start : (steps : List Step) (end : LockEnd) → EndsFrom (lock_next places []) steps end → From [] 0 steps end
+  from_start : (steps : List (Step W)) (end : LockEnd) → EndsFrom (lock_next places []) steps end → From [] 0 steps end
   from_start steps end =
       by_equal (λ now. EndsFrom now steps end → From [] 0 steps end) (length {A = ℕ} []) (length places)
       (Over (Held [])) (At (Peek [])) (λ none goes. all_held [] steps end none goes)
@@ -253,7 +253,7 @@ module _ (worker : ℕ) (places : List Place) (seen : List ℕ) where
 
   -- 4. By steps it ends so
 
-  ends_missed : (held : List ℕ) (found : ℕ) (last back : List Step) (end : LockEnd) → Misses (length held) found last
+  ends_missed : (held : List ℕ) (found : ℕ) (last back : List (Step W)) (end : LockEnd) → Misses (length held) found last
       → verbs_of back ≡ writes held → end ≡ loss held found → EndsFrom (At (Peek held)) (last ++ back) end
   ends_missed held found last back end missed written ending =
       let ends = does_verbs verb after (missed_by held found) (writes held) (loss held found) (gives_back held found)
@@ -272,7 +272,7 @@ module _ (worker : ℕ) (places : List Place) (seen : List ℕ) where
             )
       ]
 
-  ends_given : (held : List ℕ) (nth found : ℕ) (steps : List Step) (end : LockEnd) → GivenBack held nth found steps
+  ends_given : (held : List ℕ) (nth found : ℕ) (steps : List (Step W)) (end : LockEnd) → GivenBack held nth found steps
       → end ≡ loss_of (form_at places nth) nth found → EndsFrom (At (Peek held)) steps end
   ends_given held nth found steps end given ending =
       let missed = subst (λ n. Misses n found given.last) (sym given.before) given.missed in
@@ -280,13 +280,13 @@ module _ (worker : ℕ) (places : List Place) (seen : List ℕ) where
       (rw given.before ending))
 
   -- no more are locked than there are
-  few : (held : List ℕ) (later : List Step) (end : LockEnd) → Finish held later end → length held ≤ length places
+  few : (held : List ℕ) (later : List (Step W)) (end : LockEnd) → Finish held later end → length held ≤ length places
   few held later (Held all) finish = omega (arith, finish.2)
   few held later (Locked nth found) finish = let given = finish.0 in omega (arith, given.before, given.within)
   few held later (Newer nth found) finish = let given = finish.0 in omega (arith, given.before, given.within)
 
   -- the last lock was taken
-  ends_over : (headers held : List ℕ) (later : List Step) (end : LockEnd) → length held ≡ length places
+  ends_over : (headers held : List ℕ) (later : List (Step W)) (end : LockEnd) → length held ≡ length places
       → Finish (held ++ headers) later end → EndsFrom (Over (Held held)) (locks (length held) headers ++ later) end
   ends_over [] held later (Held all) full finish =
       let none = finish.0 in rw none (ap Held (sym (finish.1 ∙ append-nil held)))
@@ -297,7 +297,7 @@ module _ (worker : ℕ) (places : List Place) (seen : List ℕ) where
   ends_over headers held later (Newer nth found) full finish =
       let given = finish.0 in absurd (omega (arith, given.before, given.within, length-append held headers))
 
-  ends_peek : (held : List ℕ) (later : List Step) (end : LockEnd) → length held < length places → Finish held later end
+  ends_peek : (held : List ℕ) (later : List (Step W)) (end : LockEnd) → length held < length places → Finish held later end
       → EndsFrom (At (Peek held)) later end
   ends_peek held later (Held all) within finish = absurd (omega (arith, finish.2))
   ends_peek held later (Locked nth found) within finish =
@@ -305,7 +305,7 @@ module _ (worker : ℕ) (places : List Place) (seen : List ℕ) where
   ends_peek held later (Newer nth found) within finish =
       let unlocked = finish.1 in ends_given held nth found later (Newer nth found) finish.0 (rw unlocked refl)
 
-  ends_more : (headers held : List ℕ) (later : List Step) (end : LockEnd) → length held < length places
+  ends_more : (headers held : List ℕ) (later : List (Step W)) (end : LockEnd) → length held < length places
       → AreFree places seen (length held) headers → Finish (held ++ headers) later end
       → EndsFrom (At (Peek held)) (locks (length held) headers ++ later) end
   ends_more [] held later end within free finish = ends_peek held later end within (rw append-nil at finish)
@@ -326,7 +326,7 @@ module _ (worker : ℕ) (places : List Place) (seen : List ℕ) where
       let tries = try_of n header header ∷ rest (n + 1) in
       (refl, subst (λ now. EndsFrom now tries end) (sym (peek_free held header free.0)) (refl, seizes))
 
-  ends_start : (steps : List Step) (end : LockEnd) → From [] 0 steps end → EndsFrom (lock_next places []) steps end
+  ends_start : (steps : List (Step W)) (end : LockEnd) → From [] 0 steps end → EndsFrom (lock_next places []) steps end
   ends_start steps end from =
       rw from.steps_are (by_equal (λ now. EndsFrom now (locks 0 from.headers ++ from.later) end)
       (length {A = ℕ} []) (length places) (Over (Held [])) (At (Peek []))
@@ -335,7 +335,7 @@ module _ (worker : ℕ) (places : List Place) (seen : List ℕ) where
 
   -- 5. Both
 
-  misses_lock : (nth found : ℕ) (steps : List Step) (headers : List ℕ) (later : List Step)
+  misses_lock : (nth found : ℕ) (steps : List (Step W)) (headers : List ℕ) (later : List (Step W))
       → AreFree places seen 0 headers → steps ≡ locks 0 headers ++ later → GivenBack headers nth found later
       → Missed nth found steps
   misses_lock nth found steps headers later free steps_are given = record {
@@ -350,8 +350,8 @@ module _ (worker : ℕ) (places : List Place) (seen : List ℕ) where
     steps_are = steps_are ∙ ap (λ rest. locks 0 headers ++ rest) given.steps_are;
   }
 
-  law_of : (steps : List Step) (end : LockEnd) (headers : List ℕ) (later : List Step) → AreFree places seen 0 headers
-      → steps ≡ locks 0 headers ++ later → Finish headers later end → IsLockingOf worker places seen end steps
+  law_of : (steps : List (Step W)) (end : LockEnd) (headers : List ℕ) (later : List (Step W)) → AreFree places seen 0 headers
+      → steps ≡ locks 0 headers ++ later → Finish headers later end → IsLockingOf name worker places seen end steps
   law_of steps (Held held) headers later free steps_are finish =
       let none = finish.0 in
       let same = finish.1 in
@@ -365,7 +365,7 @@ module _ (worker : ℕ) (places : List Place) (seen : List ℕ) where
   law_of steps (Newer nth found) headers later free steps_are finish =
       (misses_lock nth found steps headers later free steps_are finish.0, finish.1)
 
-  given_of : (nth found : ℕ) (steps : List Step) (missed : Missed nth found steps)
+  given_of : (nth found : ℕ) (steps : List (Step W)) (missed : Missed nth found steps)
       → GivenBack missed.held nth found (missed.last ++ missed.back)
   given_of nth found steps missed = record {
     within = missed.within;
@@ -377,7 +377,7 @@ module _ (worker : ℕ) (places : List Place) (seen : List ℕ) where
     steps_are = refl;
   }
 
-  from_missed : (nth found : ℕ) (steps : List Step) (end : LockEnd) (missed : Missed nth found steps)
+  from_missed : (nth found : ℕ) (steps : List (Step W)) (end : LockEnd) (missed : Missed nth found steps)
       → Finish missed.held (missed.last ++ missed.back) end → From [] 0 steps end
   from_missed nth found steps end missed finish = record {
     headers = missed.held;
@@ -387,7 +387,7 @@ module _ (worker : ℕ) (places : List Place) (seen : List ℕ) where
     finish = finish;
   }
 
-  from_law : (steps : List Step) (end : LockEnd) → IsLockingOf worker places seen end steps → From [] 0 steps end
+  from_law : (steps : List (Step W)) (end : LockEnd) → IsLockingOf name worker places seen end steps → From [] 0 steps end
   from_law steps (Held held) all = record {
     headers = held;
     free = all.free;
@@ -400,8 +400,8 @@ module _ (worker : ℕ) (places : List Place) (seen : List ℕ) where
   from_law steps (Newer nth found) both =
       from_missed nth found steps (Newer nth found) both.0 (given_of nth found steps both.0, both.1)
 
-  pub locking_ends : (steps : List Step) (end : LockEnd)
-      → EndsFrom (lock_next places []) steps end ↔ IsLockingOf worker places seen end steps
+  pub locking_ends : (steps : List (Step W)) (end : LockEnd)
+      → EndsFrom (lock_next places []) steps end ↔ IsLockingOf name worker places seen end steps
   locking_ends steps end = (
     λ ends.
         let from = from_start steps end ends in

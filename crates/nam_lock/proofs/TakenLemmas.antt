@@ -1,4 +1,4 @@
--- How many locks a locking has taken, and that its verbs fall.
+-- how many locks a locking has taken, and that its verbs fall.
 use Rattle.std.proofs.Common.{◌≡◌, ◌∙◌, refl, arith}
 use Rattle.std.proofs.Common.{ℕ, ◌+◌, List, [], ◌∷◌, ◌++◌, length}
 use Rattle.std.specs.Prelude.{◌==◌, if◌then◌else◌}
@@ -6,16 +6,17 @@ use Rattle.std.proofs.lemmas.List.{length-append}
 use Rattle.nam_verbs.specs.declared.now.Now.{Now}
 use Rattle.nam_verbs.specs.declared.now.Now.TheVariants.{At, Over}
 use Rattle.nam_verbs.specs.Machine.{after_words}
-use Rattle.nam_verbs.specs.Running.{Running, next_verb, after_found}
+use Rattle.nam_verbs.specs.Running.{Running, next_verb}
+use Rattle.nam_verbs.specs.Falls.{FallsTo, Falls}
 use Rattle.nam_verbs.proofs.TestLemmas.{by_test}
+use Rattle.nam_header.specs.Stamp.{sees, is_locked}
 use Rattle.nam_layout.specs.declared.field.Place.{Place}
 use Rattle.nam_calls.specs.declared.lock.LockPlace.{LockPlace}
 use Rattle.nam_calls.specs.declared.lock.LockPlace.TheVariants.{Peek, Seize, GiveBack}
 use Rattle.nam_calls.specs.declared.lock.LockEnd.{LockEnd}
 use Rattle.nam_calls.specs.declared.lock.LockEnd.TheVariants.{Held, Locked, Newer}
-use Rattle.nam_calls.specs.Stamps.{sees, is_locked}
 use Rattle.nam_calls.specs.Lock.{nth_place, lock_next, lock_after, lock_left, loss_of, give_back}
-use Rattle.nam_calls.specs.Fits.{FallsTo, Falls, LockFits, LockEnds}
+use Rattle.nam_calls.specs.Fits.{LockFits, LockEnds}
 use Rattle.nam_calls.proofs.FallsLocks.{lock_falls}
 use Rattle.nam_lock.specs.Locking.{running, taken_by}
 use Rattle.nam_lock.specs.TakenLaw.{stored, exchanges}
@@ -23,11 +24,11 @@ use Rattle.nam_lock.specs.TakenLaw.{stored, exchanges}
 -- 1. Locks
 
 module _ (worker : ℕ) (places : List Place) (seen : List ℕ) where
-  abbrev call : Now LockPlace LockEnd → Running LockPlace LockEnd
+  abbrev call : Now LockPlace LockEnd → Running Place LockPlace LockEnd
   call state = running (record { worker = worker; places = places; seen = seen; state = state })
 
   abbrev taken_after : Now LockPlace LockEnd → List ℕ → ℕ
-  taken_after state words = taken_by (after_words after_found (call state) words).state
+  taken_after state words = taken_by (after_words (call state) words).state
 
   back_takes : (held : List ℕ) (given found : ℕ) → taken_by (give_back places held given found) ≡ length held
   back_takes held given found =

@@ -4,4 +4,4 @@ pub mod LockingLaw
 pub mod TakenLaw
 pub mod Unlocking
 pub mod UnlockingLaw
-pub mod ReachLaw
+pub mod FieldLaw

@@ -1,4 +1,4 @@
--- The locking of records as a machine.
+-- the locking of records, as a machine
 use Rattle.std.specs.Prelude.{ℕ, List, [], length}
 use Rattle.nam_verbs.specs.declared.now.Now.{Now}
 use Rattle.nam_verbs.specs.declared.now.Now.TheVariants.{At, Over}
@@ -7,8 +7,8 @@ use Rattle.nam_layout.specs.declared.field.Place.{Place}
 use Rattle.nam_calls.specs.declared.lock.LockPlace.{LockPlace}
 use Rattle.nam_calls.specs.declared.lock.LockEnd.{LockEnd}
 use Rattle.nam_calls.specs.declared.lock.LockEnd.TheVariants.{Held, Locked, Newer}
-use Rattle.nam_calls.specs.Lock.{lock_verb, lock_next, lock_after, lock_left, taken}
-use Rattle.nam_lock.specs.Headers.{headers_end}
+use Rattle.nam_calls.specs.Lock.{lock_verb_by, lock_next, lock_after, lock_left, taken}
+use Rattle.nam_lock.specs.Headers.{header_address, headers_end}
 
 -- the worker who locks, the records, the snapshot that has to see them, and where the locking stands
 pub record Locking : Type 0 where
@@ -21,13 +21,14 @@ pub record Locking : Type 0 where
 abbrev pub locking : ℕ → List Place → List ℕ → Locking
 locking worker places seen = record { worker = worker; places = places; seen = seen; state = lock_next places [] }
 
--- the same as a running call, which nothing follows but giving back
-abbrev pub running : Locking → Running LockPlace LockEnd
+-- the same as a running call, whose words are the headers of the places, and which nothing follows but giving back
+abbrev pub running : Locking → Running Place LockPlace LockEnd
 running a = record {
-  verb = lock_verb a.worker a.places;
+  address = header_address;
+  reach = headers_end a.places;
+  verb = lock_verb_by (λ place. place) a.worker a.places;
   after = lock_after a.places a.seen;
   left = lock_left a.places (length a.places);
-  reach = headers_end a.places;
   state = a.state;
 }
 

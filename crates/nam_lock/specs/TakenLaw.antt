@@ -1,4 +1,4 @@
--- How many locks a locking has taken.
+-- how many locks a locking has taken.
 use Rattle.std.specs.Prelude.{◌≡◌, ℕ, ◌+◌, ◌==◌, if◌then◌else◌, List, [], ◌∷◌, Option, Some}
 use Rattle.nam_verbs.specs.declared.verb.Verb.{Verb}
 use Rattle.nam_verbs.specs.declared.verb.Verb.TheVariants.{Exchange}
@@ -15,7 +15,7 @@ stored (Some (Exchange at expected new)) found = if found == expected then 1 els
 stored _ found = 0
 
 -- how many exchanges of a call find the word that they expect, where its verbs find these words
-abbrev pub exchanges : Running LockPlace LockEnd → List ℕ → ℕ
+abbrev pub exchanges : Running Place LockPlace LockEnd → List ℕ → ℕ
 exchanges call [] = 0
 exchanges call (word ∷ words) = stored (next_verb call) word + exchanges (after_found call word) words
 
@@ -23,4 +23,4 @@ exchanges call (word ∷ words) = stored (next_verb call) word + exchanges (afte
 abbrev pub TakenLaw : Type 0
 TakenLaw = (worker : ℕ) (places : List Place) (seen words : List ℕ)
     → let call = running (locking worker places seen) in
-    taken_by (after_words after_found call words).state ≡ exchanges call words
+    taken_by (after_words call words).state ≡ exchanges call words

@@ -1,17 +1,19 @@
 //! What the calls do and how they end, whatever words their verbs find.
 
-ghost use Rattle.nam_lock.specs.LockingLaw.{LockingLaw};
+ghost use Rattle.nam_lock.specs.LockingLaw.{LockingLaw, LockingAtFields};
 ghost use Rattle.nam_lock.specs.TakenLaw.{TakenLaw};
-ghost use Rattle.nam_lock.specs.UnlockingLaw.{UnlockingLaw};
-ghost use Rattle.nam_lock.specs.ReachLaw.{LockingReaches, UnlockingReaches};
+ghost use Rattle.nam_lock.specs.UnlockingLaw.{UnlockingLaw, UnlockingAtFields};
+ghost use Rattle.nam_lock.specs.FieldLaw.{LockingFieldLaw, UnlockingFieldLaw};
 
 /// A locking ends with all locks exactly where each header in order was read unlocked and visible, and its exchange
 /// for the same with the lock found what was read. It ends without a lock exactly where some records were locked so,
 /// the next was read locked or not visible, or its exchange found another word than the read, and then each header
 /// that was exchanged was written back as it was, in order, and nothing else was done. The end is `Locked` where the
-/// word found in the way is locked, and else `Newer`.
+/// word found in the way is locked, and else `Newer`. The machine's words are the headers of its places; the same holds
+/// of the protocol's call, whose words are the header fields of rows.
 pub fn locking_law()
-    ensures { LockingLaw }
+    ensures machine { LockingLaw }
+    ensures fields { LockingAtFields }
 {}
 
 /// After any words, a locking has taken as many locks as there were exchanges that found the word that they expected.
@@ -21,11 +23,13 @@ pub fn taken_law()
 
 /// The writing back writes each header to its record in order, and does nothing else.
 pub fn unlocking_law()
-    ensures { UnlockingLaw }
+    ensures machine { UnlockingLaw }
+    ensures fields { UnlockingAtFields }
 {}
 
-/// Each verb is at the header of its record, which is a word of the shape.
-pub fn reach_law()
-    ensures locking { LockingReaches }
-    ensures unlocking { UnlockingReaches }
+/// Whatever words are found, each verb of a machine over places of rows is the one of the protocol's call, at the header
+/// field of such a row.
+pub fn field_law()
+    ensures locking { LockingFieldLaw }
+    ensures unlocking { UnlockingFieldLaw }
 {}

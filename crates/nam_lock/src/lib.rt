@@ -4,7 +4,7 @@
 //! locks or with none: where a record is locked or newer than the snapshot, it writes back the headers of those that
 //! it has locked, as they were. `UnlockAll` writes headers back. Whatever words their verbs find, `locking_law` says
 //! exactly when a locking ends how, `taken_law` how many locks it has taken, `unlocking_law` what `UnlockAll` does,
-//! and `reach_law` that each verb is at the header of its record. No call takes memory.
+//! and `field_law` that each verb is at the header of its record's row. No call takes memory.
 #![tactic(auto)]
 
 mod laws;
@@ -13,7 +13,7 @@ mod lock;
 mod tests;
 mod unlock;
 
-pub use laws::{locking_law, reach_law, taken_law, unlocking_law};
+pub use laws::{field_law, locking_law, taken_law, unlocking_law};
 pub use lock::{LockAll, lock_after, lock_begin, lock_left, lock_verb};
 pub use nam_calls::{LockEnd, LockPlace};
 pub use unlock::{UnlockAll, unlock_after, unlock_begin, unlock_left, unlock_verb};

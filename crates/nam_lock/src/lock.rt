@@ -1,30 +1,29 @@
 //! Locking records in order.
 
-ghost use Rattle.std.specs.Prelude.{◌≡◌, ◌<◌, ◌≤◌, ◌^◌, ◌*◌, ℕ, All, length};
+ghost use Rattle.std.specs.Prelude.{◌≡◌, ◌<◌, ◌≤◌, ◌^◌, ◌*◌, All, length};
 ghost use Rattle.nam_verbs.specs.Verb.{address_of};
+ghost use Rattle.nam_verbs.specs.VerbAt.{verb_by};
 ghost use Rattle.nam_verbs.specs.Running.{verbs_left};
+ghost use Rattle.nam_catalog.specs.declared.bounds.TheConstants.{MOST_WORDS};
 ghost use Rattle.nam_layout.specs.PlaceFits.{FitsPlace};
 ghost use Rattle.nam_calls.specs.Fits.{LockFits};
-ghost use Rattle.nam_calls.specs.Lock.{lock_begin as begin, lock_verb as verb_at, lock_after as after_word};
-ghost use Rattle.nam_calls.specs.Lock.{lock_left as left_at, lock_next as next_of, give_back as back_from};
-ghost use Rattle.nam_calls.specs.Lock.{loss_of as loss_by};
-ghost use Rattle.nam_lock.specs.Headers.{headers_end};
+ghost use Rattle.nam_calls.specs.Lock.{lock_begin, lock_verb_by, lock_after, lock_left, lock_next, give_back, loss_of};
+ghost use Rattle.nam_lock.specs.Headers.{header_address, headers_end};
 ghost use Rattle.nam_lock.specs.Locking.{locking, running, taken_by};
 
 use lists::ShortList;
 use nam_calls::{LockEnd, LockPlace};
 use nam_catalog::Form;
-use nam_header::with_lock;
+use nam_header::{is_locked, sees, with_lock};
 use nam_layout::Place;
 use nam_verbs::{Machine, Now, Verb};
-use nam_words::{is_locked, sees};
 use si_model::Snapshot;
 use std::marker::Model;
 use std::mem::replace;
 
 /// Where a locking begins, if there are records.
 pub fn lock_begin() -> LockPlace
-    ensures { result ≡ begin }
+    ensures { result ≡ lock_begin }
 {
     LockPlace::Peek {
         held: ShortList::new(),
@@ -36,7 +35,7 @@ pub fn lock_begin() -> LockPlace
 pub fn lock_verb(worker: u32, places: &[Place], at: &LockPlace) -> Verb
     requires worker { worker ≤ 16 }
     requires at { LockFits (length places.now) at.now }
-    ensures value { result ≡ verb_at worker places.now at.now }
+    ensures value { result ≡ verb_by header_address (lock_verb_by (λ place. place) worker places.now at.now) }
     ensures within { address_of result < headers_end places.now }
 {
     match at {
@@ -60,7 +59,7 @@ pub fn lock_verb(worker: u32, places: &[Place], at: &LockPlace) -> Verb
 
 /// What a header found in the way of the lock of the `nth` record says.
 fn loss_of(form: Form, nth: u32, found: u64) -> LockEnd
-    ensures { result ≡ loss_by form nth found }
+    ensures { result ≡ loss_of form nth found }
 {
     if is_locked(form, found) {
         LockEnd::Locked { nth, found }
@@ -77,7 +76,7 @@ fn give_back(
     found: u64,
 ) -> Now<LockPlace, LockEnd>
     requires { length held < length places.now }
-    ensures { result ≡ back_from places.now held given found }
+    ensures { result ≡ give_back places.now held given found }
 {
     if given as usize == held.len() {
         Now::Over(loss_of(places[held.len()].form, given, found))
@@ -88,7 +87,7 @@ fn give_back(
 
 /// Goes on with the next record, or ends with all locks.
 fn lock_next(places: &[Place], held: ShortList<u64, 16>) -> Now<LockPlace, LockEnd>
-    ensures { result ≡ next_of places.now held }
+    ensures { result ≡ lock_next places.now held }
 {
     if held.len() == places.len() {
         Now::Over(LockEnd::Held(held))
@@ -106,7 +105,7 @@ pub fn lock_after(
 ) -> Now<LockPlace, LockEnd>
     requires most { length places.now ≤ 16 }
     requires at { LockFits (length places.now) at }
-    ensures { result ≡ after_word places.now seen.now at found }
+    ensures { result ≡ lock_after places.now seen.now at found }
 {
     match at {
         LockPlace::Peek { held } => {
@@ -137,30 +136,13 @@ pub fn lock_left(places: &[Place], rest: u64, at: &LockPlace) -> u64
     requires most { length places.now ≤ 16 }
     requires rest { rest < 2 ^ 32 }
     requires at { LockFits (length places.now) at.now }
-    ensures { result ≡ left_at places.now rest at.now }
+    ensures { result ≡ lock_left places.now rest at.now }
 {
     let records = places.len() as u64;
     match at {
         LockPlace::Peek { held } => 2 * (records - held.len() as u64) + rest,
         LockPlace::Seize { held, .. } => 2 * (records - held.len() as u64) - 1 + rest,
         LockPlace::GiveBack { held, given, .. } => held.len() as u64 - *given as u64,
-    }
-}
-
-/// An equal end, made without memory.
-fn copied(end: &LockEnd) -> LockEnd
-    ensures { result ≡ end.now }
-{
-    match end {
-        LockEnd::Held(held) => LockEnd::Held(held.copy()),
-        LockEnd::Locked { nth, found } => LockEnd::Locked {
-            nth: *nth,
-            found: *found,
-        },
-        LockEnd::Newer { nth, found } => LockEnd::Newer {
-            nth: *nth,
-            found: *found,
-        },
     }
 }
 
@@ -197,7 +179,7 @@ impl LockAll {
         requires places { All FitsPlace places }
         ensures begins { result ≡ locking worker places seen }
         ensures left { verbs_left (running result) ≡ 3 * length places }
-        ensures within { (running result).reach ≤ 4194304 }
+        ensures within { (running result).reach ≤ MOST_WORDS }
     {
         let state = lock_next(places.as_slice(), ShortList::new());
         LockAll {
@@ -213,61 +195,49 @@ impl LockAll {
         ensures { result ≡ taken_by self.now.state }
     {
         match &self.state {
-            Now::At(LockPlace::Peek { held }) => held.len() as u32,
-            Now::At(LockPlace::Seize { held, .. }) => held.len() as u32,
-            Now::At(LockPlace::GiveBack { held, .. }) => held.len() as u32,
-            Now::Over(LockEnd::Held(held)) => held.len() as u32,
-            Now::Over(LockEnd::Locked { nth, .. }) => *nth,
-            Now::Over(LockEnd::Newer { nth, .. }) => *nth,
+            Now::At(LockPlace::Peek { held })
+            | Now::At(LockPlace::Seize { held, .. })
+            | Now::At(LockPlace::GiveBack { held, .. })
+            | Now::Over(LockEnd::Held(held)) => held.len() as u32,
+            Now::Over(LockEnd::Locked { nth, .. } | LockEnd::Newer { nth, .. }) => *nth,
         }
     }
 }
 
 impl Machine for LockAll {
-    ghost use Rattle.nam_verbs.specs.Running.{next_verb, after_found, end_of, verbs_left, stands_until_end};
     ghost use Rattle.nam_lock.specs.Locking.{running};
+
+    type Word = Place;
+
+    type Place = LockPlace;
 
     type End = LockEnd;
 
-    ghost next = { λ a. next_verb (running a) };
+    ghost running = { running };
 
-    ghost after = { λ a found. record a { state = (after_found (running a) found).state } };
+    fn state(&self) -> &Now<LockPlace, LockEnd> {
+        &self.state
+    }
 
-    ghost ended = { λ a. end_of (running a) };
+    fn verb_from(&self, place: &LockPlace) -> Verb {
+        lock_verb(self.worker, self.places.as_slice(), place)
+    }
 
-    ghost rest = { λ a. verbs_left (running a) };
-
-    ghost reach = { λ a. (running a).reach };
-
-    ghost stands_until_end = { λ a. stands_until_end (running a) };
-
-    fn verb(&self) -> Option<Verb> {
-        match &self.state {
-            Now::At(at) => Some(lock_verb(self.worker, self.places.as_slice(), at)),
-            Now::Over(_) => None,
-        }
+    fn left_from(&self, place: &LockPlace) -> u64 {
+        lock_left(self.places.as_slice(), self.places.len() as u64, place)
     }
 
     fn take(&mut self, found: u64) {
-        match replace(&mut self.state, Now::At(lock_begin())) {
-            Now::At(at) => {
-                self.state = lock_after(self.places.as_slice(), &self.seen, at, found)
-            }
-            Now::Over(end) => self.state = Now::Over(end),
-        }
-    }
-
-    fn left(&self) -> u64 {
-        match &self.state {
-            Now::At(at) => lock_left(self.places.as_slice(), self.places.len() as u64, at),
-            Now::Over(_) => 0,
-        }
+        self.state = match replace(&mut self.state, Now::At(lock_begin())) {
+            Now::At(place) => lock_after(self.places.as_slice(), &self.seen, place, found),
+            Now::Over(end) => Now::Over(end),
+        };
     }
 
     fn end(&self) -> Option<LockEnd> {
         match &self.state {
             Now::At(_) => None,
-            Now::Over(end) => Some(copied(end)),
+            Now::Over(end) => Some(end.copy()),
         }
     }
 }

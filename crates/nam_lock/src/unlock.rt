@@ -2,11 +2,12 @@
 
 ghost use Rattle.std.specs.Prelude.{◌≡◌, ◌<◌, ◌≤◌, All, length};
 ghost use Rattle.nam_verbs.specs.Verb.{address_of};
+ghost use Rattle.nam_verbs.specs.VerbAt.{verb_by};
 ghost use Rattle.nam_verbs.specs.Running.{verbs_left};
+ghost use Rattle.nam_catalog.specs.declared.bounds.TheConstants.{MOST_WORDS};
 ghost use Rattle.nam_layout.specs.PlaceFits.{FitsPlace};
-ghost use Rattle.nam_calls.specs.Lock.{unlock_begin as begin, unlock_verb as verb_at};
-ghost use Rattle.nam_calls.specs.Lock.{unlock_after as after_word, unlock_left as left_at};
-ghost use Rattle.nam_lock.specs.Headers.{headers_end};
+ghost use Rattle.nam_calls.specs.Lock.{unlock_begin, unlock_verb_by, unlock_after, unlock_left};
+ghost use Rattle.nam_lock.specs.Headers.{header_address, headers_end};
 ghost use Rattle.nam_lock.specs.Unlocking.{unlocking, running};
 
 use lists::ShortList;
@@ -16,7 +17,7 @@ use std::marker::Model;
 
 /// Where the writing back begins, before the first header. Where there are no records it is over.
 pub fn unlock_begin(places: &[Place]) -> Now<u32, ()>
-    ensures { result ≡ begin places.now }
+    ensures { result ≡ unlock_begin places.now }
 {
     if places.is_empty() {
         Now::Over(())
@@ -30,7 +31,7 @@ pub fn unlock_begin(places: &[Place]) -> Now<u32, ()>
 pub fn unlock_verb(places: &[Place], headers: &[u64], given: u32) -> Verb
     requires places { given < length places.now }
     requires headers { given < length headers.now }
-    ensures value { result ≡ verb_at places.now headers.now given }
+    ensures value { result ≡ verb_by header_address (unlock_verb_by (λ place. place) places.now headers.now given) }
     ensures within { address_of result < headers_end places.now }
 {
     Verb::Write {
@@ -43,7 +44,7 @@ pub fn unlock_verb(places: &[Place], headers: &[u64], given: u32) -> Verb
 pub fn unlock_after(places: &[Place], given: u32) -> Now<u32, ()>
     requires most { length places.now ≤ 16 }
     requires given { given < length places.now }
-    ensures { result ≡ after_word places.now given }
+    ensures { result ≡ unlock_after places.now given }
 {
     if given as usize + 1 == places.len() {
         Now::Over(())
@@ -55,7 +56,7 @@ pub fn unlock_after(places: &[Place], given: u32) -> Now<u32, ()>
 /// How many verbs are to come where so many headers were written.
 pub fn unlock_left(places: &[Place], given: u32) -> u64
     requires { given < length places.now }
-    ensures { result ≡ left_at places.now given }
+    ensures { result ≡ unlock_left places.now given }
 {
     places.len() as u64 - given as u64
 }
@@ -89,7 +90,7 @@ impl UnlockAll {
         requires headers { length headers ≡ length places }
         ensures begins { result ≡ unlocking places headers }
         ensures left { verbs_left (running result) ≡ length places }
-        ensures within { (running result).reach ≤ 4194304 }
+        ensures within { (running result).reach ≤ MOST_WORDS }
     {
         let state = unlock_begin(places.as_slice());
         UnlockAll {
@@ -101,32 +102,26 @@ impl UnlockAll {
 }
 
 impl Machine for UnlockAll {
-    ghost use Rattle.nam_verbs.specs.Running.{next_verb, after_found, end_of, verbs_left, stands_until_end};
     ghost use Rattle.nam_lock.specs.Unlocking.{running};
+
+    type Word = Place;
+
+    type Place = u32;
 
     type End = ();
 
-    ghost next = { λ a. next_verb (running a) };
+    ghost running = { running };
 
-    ghost after = { λ a found. record a { state = (after_found (running a) found).state } };
+    fn state(&self) -> &Now<u32, ()> {
+        &self.state
+    }
 
-    ghost ended = { λ a. end_of (running a) };
+    fn verb_from(&self, place: &u32) -> Verb {
+        unlock_verb(self.places.as_slice(), self.headers.as_slice(), *place)
+    }
 
-    ghost rest = { λ a. verbs_left (running a) };
-
-    ghost reach = { λ a. (running a).reach };
-
-    ghost stands_until_end = { λ a. stands_until_end (running a) };
-
-    fn verb(&self) -> Option<Verb> {
-        match &self.state {
-            Now::At(given) => Some(unlock_verb(
-                self.places.as_slice(),
-                self.headers.as_slice(),
-                *given,
-            )),
-            Now::Over(()) => None,
-        }
+    fn left_from(&self, place: &u32) -> u64 {
+        unlock_left(self.places.as_slice(), *place)
     }
 
     fn take(&mut self, _found: u64) {
@@ -136,17 +131,7 @@ impl Machine for UnlockAll {
         };
     }
 
-    fn left(&self) -> u64 {
-        match &self.state {
-            Now::At(given) => unlock_left(self.places.as_slice(), *given),
-            Now::Over(()) => 0,
-        }
-    }
-
     fn end(&self) -> Option<()> {
-        match &self.state {
-            Now::At(_) => None,
-            Now::Over(()) => Some(()),
-        }
+        self.state.end()
     }
 }

@@ -1,9 +1,9 @@
 -- Each position of a new store is blank or has a loaded row; all other fields are blank.
-use Rattle.std.proofs.Common.{◌≡◌, ◌≢◌, ℕ, zero, suc, ◌+◌, ◌-◌, ◌<◌, ◌≤◌, inl, inr, Bool, true, false, List, []}
+use Rattle.std.proofs.Common.{◌≡◌, ◌≢◌, ◌⊎◌, ℕ, zero, suc, ◌+◌, ◌-◌, ◌<◌, ◌≤◌, inl, inr, Bool, true, false, List, []}
 use Rattle.std.proofs.Common.{◌∷◌, length, refl, sym, ◌∙◌, ap, subst, arith}
 use Rattle.std.specs.Prelude.{◌==◌, slice_index}
 use Rattle.std.specs.List.{AllByRecursion}
-use Rattle.std.proofs.lemmas.Bool.{cases_eq}
+use Rattle.std.proofs.lemmas.Bool.{cases_eq, eqb-true, eqb-false}
 use Rattle.si_model.specs.declared.row.Row.{Row}
 use Rattle.si_model.specs.Lists.{Listed}
 use Rattle.nam_catalog.specs.declared.shape.Shape.{Shape}
@@ -14,12 +14,13 @@ use Rattle.nam_layout.specs.Rows.{row_of, width_at}
 use Rattle.nam_layout.specs.Address.{IsRow, IsField}
 use Rattle.nam_layout.proofs.PositionLemmas.{position_is_row}
 use Rattle.nam_calls.specs.Words.{capacity_of, key_word, path_of}
-use Rattle.nam_calls.specs.Index.{nth_position, nth_key}
+use Rattle.nam_calls.specs.Index.{nth_position}
 use Rattle.nam_calls.specs.Memory.{memory, with_word}
 use Rattle.nam_calls.proofs.MemoryLemmas.{store_changes}
 use Rattle.nam_calls.proofs.FieldLemmas.{row_after, row_within}
 use Rattle.nam_protocol.specs.Opening.{with_value, with_row, load_from, with_rows, blank_words}
-use Rattle.nam_protocol.specs.OpeningLaw.{IsOfTable, IsUntouched, IsOpening, OpeningLaw}
+use Rattle.nam_protocol.specs.OpeningLaw.{IsOfTable, IsUntouched, IsFree, HasRow, IsOpening, BearKeys, StandsOnPath}
+use Rattle.nam_protocol.specs.OpeningLaw.{OpeningLaw, PathLaw}
 use Rattle.nam_protocol.proofs.BlankLemmas.{blank_law}
 
 module _ (shape : Shape) where
@@ -88,83 +89,133 @@ module _ (shape : Shape) where
             ∙ k.others f of_shape no_key;
       }
 
-  -- 2. Each row that is loaded
+  module _ (at : ℕ) (row : Row) (before after : List ℕ) (loads : Loads at row before after) where
+    -- the fields of another position are kept
+    key_kept : (r : ℕ) → IsRow shape r → r ≢ at → memory shape after (Key r) ≡ memory shape before (Key r)
+    key_kept r is other = loads.others (Key r) is (λ e. other (cc)) (λ e. cc) (λ nth e. cc)
+
+    header_kept : (r : ℕ) → IsRow shape r → r ≢ at → memory shape after (Header r) ≡ memory shape before (Header r)
+    header_kept r is other = loads.others (Header r) is (λ e. cc) (λ e. other (cc)) (λ nth e. cc)
+
+    word_kept : (r nth : ℕ) → IsRow shape r → r ≢ at → nth < width_at shape.tables r
+        → memory shape after (Word r nth) ≡ memory shape before (Word r nth)
+    word_kept r nth is other less =
+        loads.others (Word r nth) (is, less) (λ e. cc) (λ e. cc) (λ k e. other (cc))
+
+    row_kept : (r : ℕ) (had : Row) → IsRow shape r → r ≢ at → HasRow shape before r had → HasRow shape after r had
+    row_kept r had is other has = record {
+      position = has.position;
+      within = has.within;
+      at_is = has.at_is;
+      key = key_kept r is other ∙ has.key;
+      header = header_kept r is other ∙ has.header;
+      words_are = λ nth less. word_kept r nth is other less ∙ has.words_are nth less;
+    }
+
+    free_kept : (r : ℕ) → IsRow shape r → r ≢ at → IsFree shape before r → IsFree shape after r
+    free_kept r is other free = record {
+      key = key_kept r is other ∙ free.key;
+      header = header_kept r is other ∙ free.header;
+      words_are = λ nth less. word_kept r nth is other less ∙ free.words_are nth less;
+    }
+
+    -- where it is loaded into a free position, no position loses its key
+    bears_kept : (r : ℕ) → IsRow shape r → memory shape before (Key at) ≡ 0 → memory shape before (Key r) ≢ 0
+        → memory shape after (Key r) ≢ 0
+    bears_kept r is free bears none = elim (cases_eq r at) [
+      | inl same ↦ bears (ap (λ n. memory shape before (Key n)) same ∙ free)
+      | inr other ↦ bears (sym (key_kept r is other) ∙ none)
+    ]
+
+  -- 2. The positions of a row's path
+
+  module _ (row : Row) (fits : IsOfTable shape row) where
+    abbrev spot : ℕ → ℕ
+    spot passed = let path = path_of shape row.table row.key in path.row + nth_position path passed
+
+    module _ (passed : ℕ) (less : passed < capacity_of shape row.table) where
+      abbrev position : ℕ
+      position = nth_position (path_of shape row.table row.key) passed
+
+      within : position < capacity_of shape row.table
+      within = omega arith
+
+      spot_is : spot passed ≡ row_of shape.tables row.table position
+      spot_is = row_after shape.tables row.table position
+
+      is_row : IsRow shape (spot passed)
+      is_row = subst (IsRow shape) (sym spot_is) (row_within shape row.table position fits.table_is within)
+
+      wide : length row.value ≡ width_at shape.tables (spot passed)
+      wide =
+          fits.wide
+          ∙ sym (position_is_row shape.tables row.table position (fits.table_is, within)).width_is
+          ∙ ap (width_at shape.tables) (sym spot_is)
+
+      spot_loads : (words : List ℕ) → length words ≡ words_of shape
+          → Loads (spot passed) row words (with_row shape (spot passed) row words)
+      spot_loads words whole = row_loads (spot passed) row words whole is_row wide
+
+      has_row : (before after : List ℕ) → Loads (spot passed) row before after → HasRow shape after (spot passed) row
+      has_row before after loads = record {
+        position = position;
+        within = within;
+        at_is = spot_is;
+        key = loads.key;
+        header = loads.header;
+        words_are = λ nth less. loads.words_are nth (omega (arith, wide));
+      }
+
+  -- a position is free or the next one is looked at
+  by_bool : (P : List ℕ → Type 0) (b : Bool) (here next : List ℕ) → (b ≡ true → P here) → (b ≡ false → P next)
+      → P (elim b [ true ↦ here | false ↦ next ])
+  by_bool P true here next h n = h refl
+  by_bool P false here next h n = n refl
+
+  by_look : (P : List ℕ → Type 0) (word : ℕ) (here next : List ℕ) → (word ≡ 0 → P here) → (word ≢ 0 → P next)
+      → P (elim (word == 0) [ true ↦ here | false ↦ next ])
+  by_look P word here next h n =
+      by_bool P (word == 0) here next (λ e. h (eqb-true word 0 e)) (λ e. n (eqb-false word 0 e))
+
+  -- 3. Each position is free or has a row
 
   module _ (rows : List Row) (row : Row) (fits : IsOfTable shape row) (listed : Listed row rows) where
-    at_opens : (position : ℕ) (words : List ℕ) → position < capacity_of shape row.table → IsOpening shape rows words
-        → IsOpening shape rows (with_row shape (row_of shape.tables row.table position) row words)
-    at_opens position words within opening =
-        let at = row_of shape.tables row.table position in
-        let is = row_within shape row.table position fits.table_is within in
-        let width = (position_is_row shape.tables row.table position (fits.table_is, within)).width_is in
-        let loads = row_loads at row words opening.whole is (fits.wide ∙ sym width) in
+    spot_opens : (passed : ℕ) (words : List ℕ) → passed < capacity_of shape row.table → IsOpening shape rows words
+        → IsOpening shape rows (with_row shape (spot row fits passed) row words)
+    spot_opens passed words less opening =
+        let at = spot row fits passed in
+        let after = with_row shape at row words in
+        let loads = spot_loads row fits passed less words opening.whole in
         record {
           whole = loads.whole;
-          positions = λ r of_shape. elim (cases_eq r at) [
-            | inl same ↦ inr (
-              row,
-              listed,
-              record {
-                position = position;
-                within = within;
-                at_is = same;
-                key = ap (λ n. memory shape (with_row shape at row words) (Key n)) same ∙ loads.key;
-                header = ap (λ n. memory shape (with_row shape at row words) (Header n)) same ∙ loads.header;
-                words_are = λ nth less.
-                    ap (λ n. memory shape (with_row shape at row words) (Word n nth)) same
-                    ∙ loads.words_are nth (let w = ap (width_at shape.tables) same in omega (arith, fits.wide, width));
-              },
-            )
-            | inr other ↦
-                let key = loads.others (Key r) of_shape (λ e. other (cc)) (λ e. cc) (λ nth e. cc) in
-                let header = loads.others (Header r) of_shape (λ e. cc) (λ e. other (cc)) (λ nth e. cc) in
-                let word : (nth : ℕ) → nth < width_at shape.tables r
-                → memory shape (with_row shape at row words) (Word r nth) ≡ memory shape words (Word r nth)
-                = λ nth less. loads.others (Word r nth) (of_shape, less) (λ e. cc) (λ e. cc) (λ k e. other (cc)) in
-                elim (opening.positions r of_shape) [
-                  | inl free ↦ inl record {
-                    key = key ∙ free.key;
-                    header = header ∙ free.header;
-                    words_are = λ nth less. word nth less ∙ free.words_are nth less;
-                  }
-                  | inr some ↦ inr (
-                    some.0,
-                    some.1,
-                    record {
-                      position = some.2.position;
-                      within = some.2.within;
-                      at_is = some.2.at_is;
-                      key = key ∙ some.2.key;
-                      header = header ∙ some.2.header;
-                      words_are = λ nth less. word nth less ∙ some.2.words_are nth less;
-                    },
-                  )
-                ]
+          positions = λ r is. elim (cases_eq r at) [
+            | inl same ↦
+                inr (
+                  row,
+                  listed,
+                  subst (λ n. HasRow shape after n row) (sym same)
+                      (has_row row fits passed less words after loads),
+                )
+            | inr other ↦ elim (opening.positions r is) [
+              | inl free ↦ inl (free_kept at row words after loads r is other free)
+              | inr some ↦ inr (some.0, some.1, row_kept at row words after loads r some.0 is other some.2)
+            ]
           ];
-          untouched = λ f of_shape apart.
-              loads.others f of_shape (λ e. subst IsUntouched e apart) (λ e. subst IsUntouched e apart)
+          untouched = λ f is apart.
+              loads.others f is (λ e. subst IsUntouched e apart) (λ e. subst IsUntouched e apart)
               (λ nth e. subst IsUntouched e apart)
-              ∙ opening.untouched f of_shape apart;
+              ∙ opening.untouched f is apart;
         }
-
-    -- whether the position is free or the next one is looked at
-    by_look : (b : Bool) (here next : List ℕ) → IsOpening shape rows here → IsOpening shape rows next
-        → IsOpening shape rows (elim b [ true ↦ here | false ↦ next ])
-    by_look true here next h n = h
-    by_look false here next h n = n
 
     load_opens : (rest passed : ℕ) (words : List ℕ) → passed + rest ≡ capacity_of shape row.table
         → IsOpening shape rows words → IsOpening shape rows (load_from shape row rest passed words)
     unfolding load_from
     load_opens zero passed words all opening = opening
     load_opens (suc rest) passed words all opening =
-        let path = path_of shape row.table row.key in
-        let position = nth_position path passed in
-        by_look (memory shape words (nth_key path passed) == 0) (with_row shape (path.row + position) row words)
-        (load_from shape row rest (passed + 1) words)
-        (subst (λ at. IsOpening shape rows (with_row shape at row words))
-        (sym (row_after shape.tables row.table position)) (at_opens position words (omega arith) opening))
-        (load_opens rest (passed + 1) words (omega arith) opening)
+        by_look (IsOpening shape rows) (memory shape words (Key (spot row fits passed)))
+        (with_row shape (spot row fits passed) row words) (load_from shape row rest (passed + 1) words)
+        (λ free. spot_opens passed words (omega arith) opening)
+        (λ bears. load_opens rest (passed + 1) words (omega arith) opening)
 
   rows_open : (rows those : List Row) (words : List ℕ) → ((row : Row) → Listed row those → Listed row rows)
       → AllByRecursion (IsOfTable shape) those → IsOpening shape rows words
@@ -174,6 +225,101 @@ module _ (shape : Shape) where
       rows_open rows those (load_from shape row (capacity_of shape row.table) 0 words)
       (λ r l. among r (inr l)) all.1
       (load_opens rows row all.0 (among row (inl refl)) (capacity_of shape row.table) 0 words (omega arith) opening)
+
+  -- 4. Each row stands on its path
+
+  abbrev IsPlaced : List ℕ → Row → Type 0
+  IsPlaced words row = StandsOnPath shape words row ⊎ BearKeys shape words row (capacity_of shape row.table)
+
+  -- rows stay where they are while another one is loaded into a free position
+  module _ (at : ℕ) (row : Row) (before after : List ℕ) (loads : Loads at row before after)
+      (free : memory shape before (Key at) ≡ 0) where
+    keys_kept : (had : Row) → IsOfTable shape had → (count : ℕ) → count ≤ capacity_of shape had.table
+        → BearKeys shape before had count → BearKeys shape after had count
+    keys_kept had fits count most bear k less =
+        bears_kept at row before after loads (spot had fits k) (is_row had fits k (omega arith)) free (bear k less)
+
+    place_kept : (had : Row) → IsOfTable shape had → IsPlaced before had → IsPlaced after had
+    place_kept had fits (inl stands) = inl record {
+      passed = stands.passed;
+      within = stands.within;
+      has = row_kept at row before after loads (spot had fits stands.passed) had
+          (is_row had fits stands.passed stands.within)
+          (λ same.
+          let key = stands.has.key in let none = ap (λ n. memory shape before (Key n)) same ∙ free in omega arith)
+          stands.has;
+      past = keys_kept had fits stands.passed (let l = stands.within in omega arith) stands.past;
+    }
+    place_kept had fits (inr full) = inr (keys_kept had fits (capacity_of shape had.table) (omega arith) full)
+
+  -- a row was loaded
+  record Places (row : Row) (before after : List ℕ) : Type 0 where
+    whole : length after ≡ words_of shape
+    placed : IsPlaced after row
+    kept : (had : Row) → IsOfTable shape had → IsPlaced before had → IsPlaced after had
+
+  module _ (row : Row) (fits : IsOfTable shape row) where
+    load_places : (rest passed : ℕ) (words : List ℕ) → passed + rest ≡ capacity_of shape row.table
+        → length words ≡ words_of shape → BearKeys shape words row passed
+        → Places row words (load_from shape row rest passed words)
+    unfolding load_from
+    load_places zero passed words all whole past = record {
+      whole = whole;
+      placed = inr (λ k less. past k (omega arith));
+      kept = λ had of_table placed. placed;
+    }
+    load_places (suc rest) passed words all whole past =
+        let at = spot row fits passed in
+        let after = with_row shape at row words in
+        by_look (Places row words) (memory shape words (Key at)) after (load_from shape row rest (passed + 1) words)
+        (λ free.
+        let less : passed < capacity_of shape row.table = omega arith in
+        let loads = spot_loads row fits passed less words whole in
+        record {
+          whole = loads.whole;
+          placed = inl record {
+            passed = passed;
+            within = less;
+            has = has_row row fits passed less words after loads;
+            past = keys_kept at row words after loads free row fits passed (omega arith) past;
+          };
+          kept = place_kept at row words after loads free;
+        })
+        (λ bears. load_places rest (passed + 1) words (omega arith) whole (λ k less. elim (cases_eq k passed) [
+          | inl same ↦ λ none. bears (ap (λ n. memory shape words (Key (spot row fits n))) (sym same) ∙ none)
+          | inr other ↦ past k (omega arith)
+        ]))
+
+  -- those to be loaded will stand, and the others do
+  rows_stand : (those : List Row) (words : List ℕ) → length words ≡ words_of shape
+      → AllByRecursion (IsOfTable shape) those
+      → (row : Row) → IsOfTable shape row → Listed row those ⊎ IsPlaced words row
+      → IsPlaced (with_rows shape those words) row
+  rows_stand [] words whole all row fits (inl none) = absurd none
+  rows_stand [] words whole all row fits (inr placed) = placed
+  rows_stand (next ∷ those) words whole all row fits state =
+      let places = load_places next all.0 (capacity_of shape next.table) 0 words (omega arith) whole
+      (λ k less. absurd (omega arith)) in
+      rows_stand those (load_from shape next (capacity_of shape next.table) 0 words) places.whole all.1 row fits
+      (elim state [
+        | inl listed ↦ elim listed [
+          | inl same ↦
+              inr (subst (λ r. IsPlaced (load_from shape next (capacity_of shape next.table) 0 words) r) same
+              places.placed)
+          | inr later ↦ inl later
+        ]
+        | inr placed ↦ inr (places.kept row fits placed)
+      ])
+
+listed_fits : (P : Row → Type 0) (rows : List Row) (row : Row) → AllByRecursion P rows → Listed row rows → P row
+listed_fits P [] row all none = absurd none
+listed_fits P (r ∷ rows) row all (inl same) = subst P same all.0
+listed_fits P (r ∷ rows) row all (inr later) = listed_fits P rows row all.1 later
+
+pub path_law : PathLaw
+path_law shape rows all row listed =
+    rows_stand shape rows (blank_words shape) (blank_law shape).whole all row
+    (listed_fits (IsOfTable shape) rows row all listed) (inl listed)
 
 pub opening_law : OpeningLaw
 opening_law shape rows all =

@@ -1,15 +1,14 @@
 -- A step of a world, by the words as a function of fields.
-use Rattle.std.proofs.Common.{◌≡◌, ℕ, List, length, Option, Some, refl, sym, ap, subst}
+use Rattle.std.proofs.Common.{◌≡◌, ℕ, length, Option, sym, ap, subst}
 use Rattle.nam_verbs.specs.Verb.{after_verb}
 use Rattle.nam_verbs.specs.VerbAt.{VerbAt}
 use Rattle.nam_catalog.specs.declared.shape.Shape.{Shape}
-use Rattle.nam_catalog.specs.Fits.{FitsLimits}
 use Rattle.nam_catalog.specs.Words.{words_of}
 use Rattle.nam_layout.specs.declared.field.Field.{Field}
 use Rattle.nam_calls.specs.Memory.{verb_there}
 use Rattle.nam_calls.proofs.MemoryLemmas.{verb_changes}
 use Rattle.nam_protocol.specs.declared.session.SessionState.{SessionState}
-use Rattle.nam_protocol.specs.Session.{session_verb, session_after}
+use Rattle.nam_protocol.specs.Session.{session_after}
 use Rattle.nam_protocol.specs.World.{World, with_session, step_by, step_of, taken_by}
 use Rattle.nam_protocol.specs.FieldLaw.{IsAtField}
 use Rattle.nam_protocol.specs.StepLaw.{StepsBy, StepLaw}
@@ -34,7 +33,7 @@ module _ (shape : Shape) (world : World) (worker : ℕ) (session : SessionState)
 pub step_law : StepLaw
 step_law shape limits world worker session verb whole here fits stands =
     let is = client_fields shape limits session.client verb fits stands in
-    subst (λ (s : Option SessionState). IsStep shape world worker session verb (step_of shape world worker s)) (sym here)
-    (subst (λ (v : Option (VerbAt Field)). IsStep shape world worker session verb
-    (step_by shape world worker session v)) (sym stands)
+    let Is : World → Type 0 = IsStep shape world worker session verb in
+    subst (λ (s : Option SessionState). Is (step_of shape world worker s)) (sym here)
+    (subst (λ (v : Option (VerbAt Field)). Is (step_by shape world worker session v)) (sym stands)
     (taken_steps shape world worker session verb whole is))

@@ -1,5 +1,5 @@
 -- What each field has at the opening.
-use Rattle.std.specs.Prelude.{◌≡◌, ◌⊎◌, ℕ, ◌<◌, List, length, slice_index}
+use Rattle.std.specs.Prelude.{◌≡◌, ◌≢◌, ◌⊎◌, ℕ, ◌+◌, ◌<◌, List, length, slice_index}
 use Rattle.std.specs.List.{AllByRecursion}
 use Rattle.si_model.specs.declared.row.Row.{Row}
 use Rattle.si_model.specs.Lists.{Listed}
@@ -10,7 +10,8 @@ use Rattle.nam_layout.specs.declared.field.Field.{Field}
 use Rattle.nam_layout.specs.declared.field.Field.TheVariants.{Key, Header, Word}
 use Rattle.nam_layout.specs.Rows.{row_of, width_at}
 use Rattle.nam_layout.specs.Address.{IsRow, IsField}
-use Rattle.nam_calls.specs.Words.{width_of, capacity_of, key_word}
+use Rattle.nam_calls.specs.Words.{width_of, capacity_of, key_word, path_of}
+use Rattle.nam_calls.specs.Index.{nth_position, nth_key}
 use Rattle.nam_calls.specs.Memory.{memory}
 use Rattle.nam_calls.specs.Fits.{IsTableOf}
 use Rattle.nam_protocol.specs.Opening.{blank_words, blank_at, opening_words}
@@ -60,6 +61,25 @@ pub record IsOpening (shape : Shape) (rows : List Row) (words : List ℕ) : Type
       → IsFree shape words at ⊎ ((row : Row) × Listed row rows × HasRow shape words at row)
   pub untouched : (f : Field) → IsField shape f → IsUntouched f → memory shape words f ≡ blank_at shape f
 
+-- so many positions of the row's path bear keys
+abbrev pub BearKeys : Shape → List ℕ → Row → ℕ → Type 0
+BearKeys shape words row count =
+    (k : ℕ) → k < count → memory shape words (nth_key (path_of shape row.table row.key) k) ≢ 0
+
+-- the row stands on its key's path, after positions that bear keys
+pub record StandsOnPath (shape : Shape) (words : List ℕ) (row : Row) : Type 0 where
+  pub passed : ℕ
+  pub within : passed < capacity_of shape row.table
+  pub has : let path = path_of shape row.table row.key in HasRow shape words (path.row + nth_position path passed) row
+  pub past : BearKeys shape words row passed
+
 abbrev pub OpeningLaw : Type 0
 OpeningLaw = (shape : Shape) (rows : List Row) → AllByRecursion (IsOfTable shape) rows
     → IsOpening shape rows (opening_words shape rows)
+
+-- each of the rows stands on its path, or its table is full
+abbrev pub PathLaw : Type 0
+PathLaw = (shape : Shape) (rows : List Row) → AllByRecursion (IsOfTable shape) rows
+    → (row : Row) → Listed row rows
+    → let words = opening_words shape rows in
+    StandsOnPath shape words row ⊎ BearKeys shape words row (capacity_of shape row.table)

@@ -1,5 +1,5 @@
 -- A step of a world, by the words as a function of fields.
-use Rattle.std.specs.Prelude.{◌≡◌, ℕ, List, length, Some}
+use Rattle.std.specs.Prelude.{◌≡◌, ℕ, length, Some}
 use Rattle.nam_verbs.specs.VerbAt.{VerbAt, target, found_at, left_at}
 use Rattle.nam_catalog.specs.declared.shape.Shape.{Shape}
 use Rattle.nam_catalog.specs.Fits.{FitsLimits}

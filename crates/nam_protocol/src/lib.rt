@@ -5,7 +5,8 @@
 //! run. The definitions compute: proofs/ has worked runs. The crate promises, by its laws, that in each call of a
 //! transaction and of a client the number of verbs to come falls with each word and begins within its bound, that an
 //! attempt takes no more than the sum of these, that each verb is at the field of the layout that its place names, what
-//! each field has at the opening, that clients' and sessions' logs only grow, and that a commit is one straight program.
+//! each field has at the opening, what a step of the world does to the fields, that clients' and sessions' logs only
+//! grow, and that a commit is one straight program.
 #![tactic(auto)]
 
 mod client;

@@ -1,7 +1,9 @@
 //! Plain stores.
 
-ghost use Rattle.std.specs.Prelude.{◌≡◌, ◌≤◌, ◌<◌, ◌+◌, ◌^◌, ◌↔◌, [], ◌∷◌, length, slice_index, slice_set, None, IfSome, IsSome, IfOk};
+ghost use Rattle.std.specs.Prelude.{◌≡◌, ◌≤◌, ◌<◌, ◌+◌, ◌^◌, ◌↔◌, [], ◌∷◌, length, slice_index, slice_set};
+ghost use Rattle.std.specs.Prelude.{None, IfSome, IsSome, IfOk};
 ghost use Rattle.nam_verbs.specs.Verb.{address_of};
+ghost use Rattle.nam_verbs.specs.Running.{end_of};
 ghost use Rattle.nam_catalog.specs.declared.form.Form.TheVariants.{Narrow};
 ghost use Rattle.nam_catalog.specs.Tables.{widths_of, capacities_of, rings_of};
 ghost use Rattle.nam_catalog.specs.Limits.{fault_of};
@@ -9,23 +11,16 @@ ghost use Rattle.nam_catalog.specs.Fits.{FitsLimits};
 ghost use Rattle.nam_layout.specs.PlaceFits.{FitsPlace, FitsCells};
 
 use lists::ShortList;
+use nam_catalog::bounds::{MOST_CAPACITY, MOST_WIDTH, MOST_WORDS};
 use nam_catalog::{Form, Shape, Table, TableName, check};
+use nam_header::MARK;
 use nam_layout::{Cells, Layout, Place};
 use nam_verbs::{Machine, PlainRegion, Region, Verb};
 use std::alloc::{AllocError, Global};
 use std::marker::Model;
 
-/// The greatest number of words that a shape can have: so many words the region has, whatever the shape.
-const MOST_WORDS: usize = 4_194_304;
-
-/// The greatest number of positions that a table can have.
-const MOST_POSITIONS: u32 = 4096;
-
 /// A position without a version.
 const BLANK: u64 = 2;
-
-/// A slot without a version.
-const MARK: u64 = 5;
 
 /// A shape of two workers and one table, whose headers are narrow.
 pub fn plain_shape(width: u32, capacity: u32, ring: u32, cells: u32) -> Shape
@@ -71,12 +66,13 @@ pub struct PlainStore {
 
 impl Model for PlainStore {
     ghost use Rattle.std.specs.Prelude.{◌≡◌, length, List, ℕ};
+    ghost use Rattle.nam_catalog.specs.declared.bounds.TheConstants.{MOST_WORDS};
 
     ghost Value = { List ℕ };
 
     ghost view = { λ a. a.region };
 
-    ghost invariant = { λ a. (a.layout ≡ a.shape) × (length a.region ≡ 4194304) };
+    ghost invariant = { λ a. (a.layout ≡ a.shape) × (length a.region ≡ MOST_WORDS) };
 }
 
 impl PlainStore {
@@ -89,7 +85,7 @@ impl PlainStore {
             return Ok(None);
         }
         let layout = Layout::new(&shape);
-        let words = zeros(alloc, MOST_WORDS)?;
+        let words = zeros(alloc, MOST_WORDS as usize)?;
         let mut store = PlainStore {
             shape,
             layout,
@@ -103,7 +99,7 @@ impl PlainStore {
 
     // The positions of a table, up to the first that it doesn't have.
     fn open(&mut self, table: u32) {
-        for position in 0..MOST_POSITIONS {
+        for position in 0..MOST_CAPACITY {
             match self.place(table, position) {
                 Some(place) => self.open_place(&place),
                 None => return,
@@ -116,7 +112,7 @@ impl PlainStore {
     {
         self.set(place.header_at, BLANK);
         for slot in 0..place.ring {
-            self.set(place.ring_at + slot as u64 * (2 + place.width as u64), MARK);
+            self.set(place.slot_header(slot), MARK);
         }
     }
 
@@ -154,21 +150,21 @@ impl PlainStore {
     pub fn load(&mut self, place: &Place, key: u64, value: &[u64])
         requires fits { FitsPlace place.now }
         requires key { key + 1 < 2 ^ 64 }
-        requires width { length value.now ≤ 8 }
+        requires width { length value.now ≤ MOST_WIDTH }
     {
         self.set(place.key_at, key + 1);
         self.set(place.header_at, 0);
-        for nth in 0..value.len() {
-            self.set(place.words_at + nth as u64, value[nth]);
+        for (nth, word) in value.iter().enumerate() {
+            self.set(place.words_at + nth as u64, *word);
         }
     }
 
     /// The word at an address, and 0 where there is none.
     pub fn word(&mut self, at: u64) -> u64
-        ensures value { at < 4194304 → result ≡ slice_index self.old at }
+        ensures value { at < MOST_WORDS → result ≡ slice_index self.old at }
         ensures unchanged { self.new ≡ self.old }
     {
-        if at < MOST_WORDS as u64 {
+        if at < MOST_WORDS {
             self.region.verb(Verb::Read { at })
         } else {
             0
@@ -177,17 +173,17 @@ impl PlainStore {
 
     /// Puts a word at an address, where there is one.
     pub fn set(&mut self, at: u64, word: u64)
-        ensures there { at < 4194304 → self.new ≡ slice_set self.old at word }
-        ensures beyond { 4194304 ≤ at → self.new ≡ self.old }
+        ensures there { at < MOST_WORDS → self.new ≡ slice_set self.old at word }
+        ensures beyond { MOST_WORDS ≤ at → self.new ≡ self.old }
     {
-        if at < MOST_WORDS as u64 {
+        if at < MOST_WORDS {
             self.region.verb(Verb::Write { at, word });
         }
     }
 
     // The word that a verb finds.
     fn verb(&mut self, verb: Verb) -> u64
-        requires { address_of verb < 4194304 }
+        requires { address_of verb < MOST_WORDS }
     {
         self.region.verb(verb)
     }
@@ -198,8 +194,8 @@ impl PlainStore {
         alloc: Global,
         machine: &mut M,
     ) -> Result<Vec<Verb>, AllocError>
-        requires { M.reach machine.old ≤ 4194304 }
-        ensures { IfOk result (λ verbs. IsSome (M.ended machine.new)) }
+        requires { (M.running machine.old).reach ≤ MOST_WORDS }
+        ensures { IfOk result (λ verbs. IsSome (end_of (M.running machine.new))) }
     {
         let mut verbs = Vec::new(alloc);
         while let Some(verb) = machine.verb() {

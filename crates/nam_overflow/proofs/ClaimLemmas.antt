@@ -37,7 +37,8 @@ module _ (cells : Cells) (some : 0 < cells.cells) where
   -- the end of a claim that took a cell
   takes : (cell tag : ℕ) → is_free tag ≡ true → (steps : List (Step Field)) (end : ClaimEnd)
       → EndsFrom (Over (Claimed cell (written tag))) steps end
-      → Stops end cell (saw (field.Tag cells.bucket cell) tag ∷ tried (field.Tag cells.bucket cell) tag (written tag) tag ∷ steps)
+      → Stops end cell
+      (saw (field.Tag cells.bucket cell) tag ∷ tried (field.Tag cells.bucket cell) tag (written tag) tag ∷ steps)
   takes cell tag free [] NoRoom ends = absurd (cc)
   takes cell tag free [] (Claimed taken now) ends = record
       { tag = tag; free = free; cell_is = cc; now_is = cc; steps_are = refl }
@@ -74,7 +75,8 @@ module _ (cells : Cells) (some : 0 < cells.cells) where
 
   -- The other way round: what each test says, put together.
 
-  chosen : (test : Bool) (is : Bool) (a b : Now ClaimPlace ClaimEnd) (steps : List (Step Field)) (end : ClaimEnd) → test ≡ is
+  chosen : (test : Bool) (is : Bool) (a b : Now ClaimPlace ClaimEnd) (steps : List (Step Field)) (end : ClaimEnd)
+      → test ≡ is
       → EndsFrom (if is then a else b) steps end → EndsFrom (if test then a else b) steps end
   chosen test is a b steps end same ends = rw same ends
 
@@ -104,7 +106,8 @@ module _ (cells : Cells) (some : 0 < cells.cells) where
   stopped_cell cell steps NoRoom stops = absurd stops
   stopped_cell cell steps (Claimed taken now) t =
       rw (t.steps_are, t.cell_is, t.now_is)
-      (from_tag cell t.tag (tried (field.Tag cells.bucket cell) t.tag (written t.tag) t.tag ∷ []) (Claimed cell (written t.tag))
+      (from_tag cell t.tag (tried (field.Tag cells.bucket cell) t.tag (written t.tag) t.tag ∷ [])
+      (Claimed cell (written t.tag))
       t.free (
         refl,
         chosen (t.tag == t.tag) true (Over (Claimed cell (written t.tag))) (claim_next cells cell) []

@@ -50,7 +50,8 @@ module _ (cells : Cells) (place : Place) (room : FitsCells cells) (fits : FitsPl
       → sees place.form seen ending ≡ false
       → length words ≡ place.width → (steps : List (Step Field)) (end : SearchEnd)
       → EndsFrom (Over (Found (value_of header words))) steps end
-      → Stops end cell (looked cells place seen cell tag header ending words ++ saw (field.Tag cells.bucket cell) tag ∷ steps)
+      → Stops end cell
+      (looked cells place seen cell tag header ending words ++ saw (field.Tag cells.bucket cell) tag ∷ steps)
   gives cell tag header ending words shows newest whole [] NotThere ends = absurd (cc)
   gives cell tag header ending words shows newest whole [] (Found value) ends = record {
     tag = tag;
@@ -95,7 +96,8 @@ module _ (cells : Cells) (place : Place) (room : FitsCells cells) (fits : FitsPl
       (end : SearchEnd) → EndsFrom (At (CellWords cell tag header [])) steps end
       → Parts cell (dated cells place seen cell tag header ending ++ steps) end
   part_words cell tag header ending shows newest steps end ends =
-      let all = words_read (cell_verb cells) (cell_after cells place seen) (field.CellWord cells.bucket cell) place.width
+      let all =
+      words_read (cell_verb cells) (cell_after cells place seen) (field.CellWord cells.bucket cell) place.width
       (CellWords cell tag header)
       (λ words. At (CellAgain cell tag header words)) (λ got. refl) (λ got word. if_in At _ _ _) fits.least_width
       steps end ends in
@@ -161,7 +163,8 @@ module _ (cells : Cells) (place : Place) (room : FitsCells cells) (fits : FitsPl
 
   -- The other way round: what each test says, put together.
 
-  chosen : (test : Bool) (is : Bool) (a b : Now CellPlace SearchEnd) (steps : List (Step Field)) (end : SearchEnd) → test ≡ is
+  chosen : (test : Bool) (is : Bool) (a b : Now CellPlace SearchEnd) (steps : List (Step Field)) (end : SearchEnd)
+      → test ≡ is
       → EndsFrom (if is then a else b) steps end → EndsFrom (if test then a else b) steps end
   chosen test is a b steps end same ends = rw same ends
 
@@ -184,9 +187,11 @@ module _ (cells : Cells) (place : Place) (room : FitsCells cells) (fits : FitsPl
             (grind (arith, nat_tests)) ends,
       )
 
-  from_header : (cell tag header : ℕ) (steps : List (Step Field)) (end : SearchEnd) → HasSeen cells place seen tag header
+  from_header : (cell tag header : ℕ) (steps : List (Step Field)) (end : SearchEnd)
+      → HasSeen cells place seen tag header
       → EndsFrom (At (CellEnding cell tag header)) steps end
-      → EndsFrom (At (CellTag cell)) (owned cells place seen cell tag ++ saw (field.Begin cells.bucket cell) header ∷ steps) end
+      → EndsFrom (At (CellTag cell))
+      (owned cells place seen cell tag ++ saw (field.Begin cells.bucket cell) header ∷ steps) end
   from_header cell tag header steps end shows ends =
       from_owner cell tag (saw (field.Begin cells.bucket cell) header ∷ steps) end shows.full (
         refl,
@@ -200,7 +205,8 @@ module _ (cells : Cells) (place : Place) (room : FitsCells cells) (fits : FitsPl
       → EndsFrom (At (CellAgain cell tag header words)) steps end
       → EndsFrom (At (CellTag cell)) (looked cells place seen cell tag header ending words ++ steps) end
   from_words cell tag header ending words steps end shows newest whole ends =
-      from_header cell tag header (saw (field.End cells.bucket cell) ending ∷ saw_words (field.CellWord cells.bucket cell) words
+      from_header cell tag header
+      (saw (field.End cells.bucket cell) ending ∷ saw_words (field.CellWord cells.bucket cell) words
       ++ steps) end shows (
         refl,
         chosen (sees place.form seen ending) false (next_cell cells cell) (At (CellWords cell tag header []))

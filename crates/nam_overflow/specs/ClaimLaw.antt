@@ -1,5 +1,5 @@
 -- When a cell is claimed, and when there is no room.
-use Rattle.std.specs.Prelude.{◌≡◌, ◌≢◌, ℕ, ◌<◌, true, false, List, [], ◌∷◌, ◌↔◌}
+use Rattle.std.specs.Prelude.{◌≡◌, ◌≢◌, ℕ, true, false, List, [], ◌∷◌, ◌↔◌}
 use Rattle.nam_verbs.specs.Steps.{Step, saw, tried, EndsWith, Stretches, StopsAt}
 use Rattle.nam_verbs.specs.Machine.{Always}
 use Rattle.nam_verbs.specs.VerbAt.{target}
@@ -16,9 +16,11 @@ use Rattle.nam_overflow.specs.Claim.{claiming, running}
 module _ (cells : Cells) where
   -- a cell was not to be had: its tag was found not free, or its exchange found another tag
   pub data CellLost (cell : ℕ) (steps : List (Step Field)) : Type 0 where
-    not_free : (tag : ℕ) → is_free tag ≡ false → steps ≡ saw (field.Tag cells.bucket cell) tag ∷ [] → CellLost cell steps
+    not_free : (tag : ℕ) → is_free tag ≡ false → steps ≡ saw (field.Tag cells.bucket cell) tag ∷ []
+        → CellLost cell steps
     exchange_lost : (tag other : ℕ) → is_free tag ≡ true → other ≢ tag
-        → steps ≡ saw (field.Tag cells.bucket cell) tag ∷ tried (field.Tag cells.bucket cell) tag (written tag) other ∷ []
+        → steps ≡ saw (field.Tag cells.bucket cell) tag ∷ tried (field.Tag cells.bucket cell) tag
+        (written tag) other ∷ []
         → CellLost cell steps
 
   -- a cell was taken: its tag was found free, and its exchange found the same tag; it bears `now`, the tag of the same
@@ -28,7 +30,8 @@ module _ (cells : Cells) where
     pub free : is_free tag ≡ true
     pub cell_is : taken ≡ cell
     pub now_is : now ≡ written tag
-    pub steps_are : steps ≡ saw (field.Tag cells.bucket cell) tag ∷ tried (field.Tag cells.bucket cell) tag (written tag) tag ∷ []
+    pub steps_are : steps ≡ saw (field.Tag cells.bucket cell) tag ∷ tried (field.Tag cells.bucket cell) tag
+        (written tag) tag ∷ []
 
 -- claimed exactly where a cell was taken, after each cell before it was lost
 abbrev pub ClaimedLaw : Type 0

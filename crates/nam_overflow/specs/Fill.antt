@@ -30,11 +30,14 @@ pub record FillingFits (cells : Cells) (cell : ℕ) (version : Version) (state :
   pub most : length version.value ≤ MOST_WIDTH
   pub at : FitsNow (FillFits (length version.value)) state
 
+abbrev pub filling_at : Cells → ℕ → ℕ → Version → Now FillPlace (Unit {0}) → Filling
+filling_at cells cell owner version state =
+    record { cells = cells; cell = cell; owner = owner; version = version; state = state }
+
 -- a new filling
 abbrev pub filling : Cells → ℕ → ℕ → ℕ → ℕ → List ℕ → Filling
 filling cells cell owner begin ending words =
-    let version : Version = record { begin = begin; «end» = ending; value = words } in
-    record { cells = cells; cell = cell; owner = owner; version = version; state = At fill_begin }
+    filling_at cells cell owner record { begin = begin; «end» = ending; value = words } (At fill_begin)
 
 -- the same as a running call
 abbrev pub running : Filling → Running Field FillPlace (Unit {0})

@@ -1,5 +1,5 @@
 -- When a search of a bucket's cells finds a version, and when it finds none.
-use Rattle.std.specs.Prelude.{◌≡◌, ◌≢◌, ℕ, ◌<◌, true, false, List, [], ◌∷◌, ◌++◌, length, Option, Some, None}
+use Rattle.std.specs.Prelude.{◌≡◌, ◌≢◌, ℕ, true, false, List, [], ◌∷◌, ◌++◌, length, Option, Some, None}
 use Rattle.std.specs.Prelude.{if◌then◌else◌, ◌↔◌}
 use Rattle.nam_verbs.specs.Steps.{Step, saw, saw_words, EndsWith, Stretches, StopsAt}
 use Rattle.nam_verbs.specs.Machine.{Always}
@@ -33,13 +33,15 @@ module _ (cells : Cells) (place : Place) (seen : List ℕ) where
 
   -- and after these its words
   abbrev pub looked : ℕ → ℕ → ℕ → ℕ → List ℕ → List (Step Field)
-  looked cell tag header ending words = dated cell tag header ending ++ saw_words (field.CellWord cells.bucket cell) words
+  looked cell tag header ending words =
+      dated cell tag header ending ++ saw_words (field.CellWord cells.bucket cell) words
 
   -- a cell was ended by a word found: by its tag, its owner, its header, its end, or by its tag read again
   pub data CellEnded (cell : ℕ) (steps : List (Step Field)) : Type 0 where
     by_tag : (tag : ℕ) → is_full tag ≡ false → steps ≡ saw (field.Tag cells.bucket cell) tag ∷ [] → CellEnded cell steps
     by_owner : (tag owner : ℕ) → is_full tag ≡ true → owner ≢ place.row
-        → steps ≡ saw (field.Tag cells.bucket cell) tag ∷ saw (field.Owner cells.bucket cell) owner ∷ [] → CellEnded cell steps
+        → steps ≡ saw (field.Tag cells.bucket cell) tag ∷ saw (field.Owner cells.bucket cell) owner ∷ []
+        → CellEnded cell steps
     by_header : (tag header : ℕ) → is_full tag ≡ true → sees place.form seen header ≡ false
         → steps ≡ owned cell tag ++ saw (field.Begin cells.bucket cell) header ∷ [] → CellEnded cell steps
     by_end : (tag header ending : ℕ) → HasSeen tag header → sees place.form seen ending ≡ true
@@ -73,7 +75,8 @@ FoundLaw =
 
 -- not there exactly where each cell was ended by a word found
 abbrev pub NotThereLaw : Type 0
-NotThereLaw = (cells : Cells) (place : Place) → FitsCells cells → FitsPlace place → (seen : List ℕ) (steps : List (Step Field))
+NotThereLaw =
+    (cells : Cells) (place : Place) → FitsCells cells → FitsPlace place → (seen : List ℕ) (steps : List (Step Field))
     → EndsWith (running (searching cells place seen)) steps NotThere
     ↔ Stretches (CellEnded cells place seen) 0 cells.cells steps
 

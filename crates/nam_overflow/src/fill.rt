@@ -99,11 +99,11 @@ pub struct FillCell {
 }
 
 impl Model for FillCell {
-    ghost use Rattle.nam_overflow.specs.Fill.{Filling, FillingFits};
+    ghost use Rattle.nam_overflow.specs.Fill.{Filling, FillingFits, filling_at};
 
     ghost Value = { Filling };
 
-    ghost view = { λ a. record { cells = a.cells; cell = a.cell; owner = a.owner; version = a.version; state = a.state } };
+    ghost view = { λ a. filling_at a.cells a.cell a.owner a.version a.state };
 
     ghost invariant = { λ a. FillingFits a.cells a.cell a.version a.state };
 }

@@ -25,8 +25,8 @@ pub fn fill_law()
     ensures { FillLaw }
 {}
 
-/// Whatever words are found, each verb is at a field of the bucket's cells. `place_law` of `nam_layout` says where such a
-/// field stands.
+/// Whatever words are found, each verb is at a field of the bucket's cells. `place_law` of `nam_layout` says where such
+/// a field stands.
 pub fn field_law()
     ensures search { SearchFieldLaw }
     ensures claim { ClaimFieldLaw }

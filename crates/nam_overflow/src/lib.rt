@@ -16,6 +16,6 @@ mod tests;
 
 pub use claim::{ClaimCell, claim_after, claim_begin, claim_left, claim_verb};
 pub use fill::{FillCell, fill_after, fill_begin, fill_left, fill_verb};
-pub use laws::{claim_law, fill_law, field_law, search_law};
+pub use laws::{claim_law, field_law, fill_law, search_law};
 pub use nam_calls::{ClaimEnd, SearchEnd as CellEnd};
 pub use search::{SearchCells, cell_after, cell_begin, cell_left, cell_verb};

@@ -16,6 +16,7 @@ use Rattle.si_model.specs.declared.log.Log.{Log}
 use Rattle.si_model.specs.declared.report.CommitLine.{CommitLine}
 use Rattle.si_model.specs.declared.report.AuditRow.{AuditRow}
 use Rattle.si_model.specs.declared.report.Report.{Report}
+use Rattle.si_model.specs.Tells.{reads_in, locks_in}
 use Rattle.nam_catalog.specs.declared.shape.Table.{Table}
 use Rattle.nam_catalog.specs.Tables.{name_of}
 use Rattle.nam_text.specs.Value.{words_text, value_text}
@@ -107,30 +108,6 @@ event_line tables (TidyCut t k) = tidy_cut_line tables t k
 event_line tables TailCut = codes "tail cut\n"
 event_line tables (Finished how) = codes "medic " ++ finish_text how ++ codes "\n"
 
--- how many of its log's reads an event owns
-abbrev pub reads_of : Event → ℕ
-reads_of (Tried a) = a.reads
-reads_of (NoRoom b) = 0
-reads_of (Moved b t k stamp how) = 0
-reads_of (Collected b p entries cut) = 0
-reads_of (CollectAgain b j first second) = 0
-reads_of (CollectCut b) = 0
-reads_of (TidyCut t k) = 0
-reads_of TailCut = 0
-reads_of (Finished how) = 0
-
--- how many of its log's locks an event owns
-abbrev pub locks_of : Event → ℕ
-locks_of (Tried a) = a.locks
-locks_of (NoRoom b) = 0
-locks_of (Moved b t k stamp how) = 0
-locks_of (Collected b p entries cut) = 0
-locks_of (CollectAgain b j first second) = 0
-locks_of (CollectCut b) = 0
-locks_of (TidyCut t k) = 0
-locks_of TailCut = 0
-locks_of (Finished how) = 0
-
 -- an event's line, and those of the reads and locks that it owns
 abbrev pub event_text : List Table → Event → List Item → List Lock → List ℕ
 event_text tables e reads locks = event_line tables e ++ items_text tables (codes "r") reads ++ locks_text tables locks
@@ -139,8 +116,8 @@ event_text tables e reads locks = event_line tables e ++ items_text tables (code
 abbrev pub events_text : List Table → List Event → List Item → List Lock → List ℕ
 events_text tables [] reads locks = []
 events_text tables (e ∷ es) reads locks =
-    event_text tables e (take (reads_of e) reads) (take (locks_of e) locks)
-    ++ events_text tables es (drop (reads_of e) reads) (drop (locks_of e) locks)
+    event_text tables e (take (reads_in e) reads) (take (locks_in e) locks)
+    ++ events_text tables es (drop (reads_in e) reads) (drop (locks_in e) locks)
 
 -- the log of worker j
 abbrev pub log_text : List Table → ℕ → Log → List ℕ

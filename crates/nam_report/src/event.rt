@@ -1,7 +1,7 @@
 //! The lines of an event.
 
 ghost use Rattle.std.specs.Prelude.{◌≡◌, ◌++◌, OnOk, string_bytes};
-ghost use Rattle.nam_report.specs.Text.{lock_text, move_end_text, move_line, collect_end_text, collect_line, tidy_cut_line, finish_text, event_line, event_text, reads_of, locks_of};
+ghost use Rattle.nam_report.specs.Text.{lock_text, move_end_text, move_line, collect_end_text, collect_line, tidy_cut_line, finish_text, event_line, event_text};
 
 use crate::attempt::push_attempt;
 use crate::item::{push_items, push_key, push_lock, push_locks};
@@ -10,26 +10,6 @@ use nam_text::push_words;
 use si_model::{Event, Finish, Item, Lock, MoveEnd};
 use std::alloc::AllocError;
 use std::fmt::Write;
-
-/// How many of its log's reads an event owns.
-pub fn reads_of(event: &Event) -> u32
-    ensures { result ≡ reads_of event.now }
-{
-    match event {
-        Event::Tried(attempt) => attempt.reads,
-        _ => 0,
-    }
-}
-
-/// How many of its log's locks an event owns.
-pub fn locks_of(event: &Event) -> u32
-    ensures { result ≡ locks_of event.now }
-{
-    match event {
-        Event::Tried(attempt) => attempt.locks,
-        _ => 0,
-    }
-}
 
 fn move_end_word(how: MoveEnd) -> &'static str
     ensures { result.now ≡ move_end_text how }

@@ -5,7 +5,8 @@ use Rattle.std.proofs.lemmas.Bool.{ltb-true}
 use Rattle.si_model.specs.declared.row.Row.{Row}
 use Rattle.si_model.specs.declared.row.Key.{Key}
 use Rattle.si_model.specs.declared.op.Op.{Op}
-use Rattle.si_model.specs.Rows.{same_key, row_key}
+use Rattle.si_model.specs.Rows.{same_key, row_key, has_key}
+use Rattle.si_model.proofs.WriteLemmas.{guarded_has, guarded_new}
 use Rattle.si_model.specs.Evaluation.{guarded, key_claimed, keys_from}
 use Rattle.nam_catalog.specs.declared.shape.Shape.{Shape}
 use Rattle.nam_catalog.specs.Tables.{capacities_of}
@@ -18,7 +19,7 @@ use Rattle.nam_script.specs.declared.draft.Body.{Body}
 use Rattle.nam_script.specs.declared.stage.Stage.{Stage}
 use Rattle.nam_script.specs.declared.stage.Stage.TheVariants.{Overflow, Tables, Rows, Open, Between, Turns, Seed}
 use Rattle.nam_script.specs.Stages.{rank, is_at, takes_table, takes_row, is_loaded, takes_turns}
-use Rattle.nam_script.specs.Checks.{is_given, rows_in, ops_cost, txns_cost, op_cost, has_key, claimed_key, steps_of}
+use Rattle.nam_script.specs.Checks.{is_given, rows_in, ops_cost, txns_cost, op_cost, claimed_key, steps_of}
 use Rattle.nam_script.specs.Admit.{no_body, is_held}
 use Rattle.nam_script.specs.Limits.{RowsFit, AreDistinct, OpsFit, TxnFits, StintFits}
 use Rattle.nam_script.proofs.Chains.{at_is, either, same_Ok}
@@ -205,27 +206,6 @@ loaded_at false n m h le = omega arith
 pub keys_more : (f : Op → Option Key) (ks : List Key) (ops : List Op) (op : Op) → keys_from f ks (ops ++ op ∷ []) ≡ keys_from f (keys_from f ks ops) (op ∷ [])
 keys_more f ks [] op = refl
 keys_more f ks (o ∷ ops) op = keys_more f (elim (f o) [ None ↦ ks | Some key ↦ guarded ks key ]) ops op
-
-if_same : (c : Bool) (q : Key) (ks gs : List Key) → c ≡ true → cond c (q ∷ ks) (q ∷ gs) ≡ q ∷ ks
-if_same c q ks gs e = rw e refl
-
-guard_cases : (c : Bool) (q : Key) (ks gs hs : List Key) → (c ≡ false → gs ≡ hs) → (c ≡ true → ks ≡ hs) → cond c (q ∷ ks) (q ∷ gs) ≡ q ∷ hs
-guard_cases true q ks gs hs e f = ap (λ (x : List Key). q ∷ x) (f refl)
-guard_cases false q ks gs hs e f = ap (λ (x : List Key). q ∷ x) (e refl)
-
-or_rest : (x y : Bool) → (x || y) ≡ true → x ≡ false → y ≡ true
-or_rest true y e f = absurd cc
-or_rest false y e f = e
-
-pub guarded_has : (ks : List Key) (key : Key) → has_key ks key ≡ true → guarded ks key ≡ ks
-guarded_has [] key e = absurd cc
-guarded_has (q ∷ ks) key e = guard_cases (same_key q key) q ks (guarded ks key) ks (λ f. guarded_has ks key (or_rest _ (has_key ks key) e f)) (λ _. refl)
-
-pub guarded_new : (ks : List Key) (key : Key) → has_key ks key ≡ false → guarded ks key ≡ ks ++ key ∷ []
-guarded_new [] key e = refl
-guarded_new (q ∷ ks) key e =
-    let p = neither (same_key q key) (has_key ks key) e in
-    guard_cases (same_key q key) q ks (guarded ks key) (ks ++ key ∷ []) (λ _. guarded_new ks key p.1) (λ t. absurd (differ _ p.0 t))
 
 -- the keys with one more
 abbrev pub with_key : List Key → Option Key → List Key

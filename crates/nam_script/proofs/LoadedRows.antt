@@ -7,8 +7,9 @@ use Rattle.std.proofs.lemmas.Bool.Decides.{nat_tests}
 use Rattle.std.proofs.lemmas.Bool.{cases_eq, eq-eqb, ne_eqb}
 use Rattle.std.specs.Prelude.{slice_set, slice_index}
 use Rattle.si_model.specs.declared.row.Row.{Row}
+use Rattle.si_model.specs.Rows.{key_at}
+use Rattle.si_model.specs.Held.{key_cmp}
 use Rattle.nam_script.specs.Checks.{is_given, rows_in}
-use Rattle.nam_script.specs.Keys.{key_cmp}
 
 pair_cases : (l e m f : Bool) → (l ≡ true → e ≡ false) → is_eq (ordering_then (cond l Ordering.Less (cond e Ordering.Equal Ordering.Greater)) (cond m Ordering.Less (cond f Ordering.Equal Ordering.Greater))) ≡ (e && (not m && f))
 pair_cases true e m f h = rw (h refl) refl
@@ -23,7 +24,7 @@ apart a b h = grind (arith, nat_tests)
 both_tests : (a b : ℕ) → (not (ltb a b) && eqb a b) ≡ eqb a b
 both_tests a b = grind (arith, nat_tests)
 
-pub at_pair : (a b t k : ℕ) → is_eq (key_cmp (a, b) (t, k)) ≡ (eqb a t && eqb b k)
+pub at_pair : (a b t k : ℕ) → is_eq (key_cmp (key_at a b) (key_at t k)) ≡ (eqb a t && eqb b k)
 at_pair a b t k = pair_cases (ltb a t) (eqb a t) (ltb b k) (eqb b k) (apart a t) ∙ ap (λ (x : Bool). eqb a t && x) (both_tests b k)
 
 or_cond : (x y : Bool) → (x || (y || false)) ≡ cond y true x
@@ -32,7 +33,7 @@ or_cond true false = refl
 or_cond false true = refl
 or_cond false false = refl
 
-pub given_push : (rows : List Row) (r : Row) (t k : ℕ) → is_given (rows ++ r ∷ []) t k ≡ cond (is_eq (key_cmp (r.table, r.key) (t, k))) true (is_given rows t k)
+pub given_push : (rows : List Row) (r : Row) (t k : ℕ) → is_given (rows ++ r ∷ []) t k ≡ cond (is_eq (key_cmp (key_at r.table r.key) (key_at t k))) true (is_given rows t k)
 given_push rows r t k = list_any-append (λ r. eqb r.table t && eqb r.key k) rows (r ∷ []) ∙ or_cond (is_given rows t k) (eqb r.table t && eqb r.key k) ∙ ap (λ (b : Bool). cond b true (is_given rows t k)) (sym (at_pair r.table r.key t k))
 
 pub set_length : (xs : List ℕ) (i a : ℕ) → length (slice_set xs i a) ≡ length xs

@@ -6,7 +6,7 @@ use Rattle.si_model.specs.declared.row.Key.{Key}
 use Rattle.si_model.specs.declared.row.Row.{Row}
 use Rattle.si_model.specs.declared.op.Op.{Op}
 use Rattle.si_model.specs.declared.op.Op.TheVariants.{Scan}
-use Rattle.si_model.specs.Rows.{same_key}
+use Rattle.si_model.specs.Rows.{has_key}
 use Rattle.si_model.specs.Evaluation.{key_claimed}
 use Rattle.nam_catalog.specs.declared.shape.Table.{Table}
 use Rattle.nam_script.specs.declared.refusal.Kind.{Kind}
@@ -95,9 +95,6 @@ txns_cost capacities (x ∷ xs) = ops_cost capacities x.ops + txns_cost capaciti
 -- so many more, where that is not more than the most
 abbrev pub counted : ℕ → ℕ → ℕ → Result ℕ Kind
 counted so_far more most = if nat_le (so_far + more) most then Ok (so_far + more) else Err kind.Size
-
-abbrev pub has_key : List Key → Key → Bool
-has_key keys key = list_any (λ q. same_key q key) keys
 
 -- the keys with one more, each once and 16 at the most
 abbrev pub claimed_key : List Key → Option Key → Result (List Key) Kind

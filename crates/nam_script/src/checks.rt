@@ -1,8 +1,7 @@
 //! The tests of numbers and names.
 
 ghost use Rattle.std.specs.Prelude.{◌≡◌, ◌≤◌, ◌<◌, length, IfOk};
-ghost use Rattle.si_model.specs.Evaluation.{key_claimed};
-ghost use Rattle.nam_script.specs.Checks.{within, small, all_small, key_of, stint_within, all_stints, place_of, counted, has_key, claimed, steps_of};
+ghost use Rattle.nam_script.specs.Checks.{within, small, all_small, key_of, stint_within, all_stints, place_of, counted, claimed, steps_of};
 ghost use Rattle.nam_script.specs.Admit.{Takes};
 
 use crate::line::{Numbers, SpeltStint, SpeltStints};
@@ -136,37 +135,14 @@ pub fn counted(so_far: u64, more: u64, most: u64) -> Result<u64, Kind>
     }
 }
 
-/// The key that an operation writes or guards.
-fn key_claimed(op: &Op) -> Option<Key>
-    ensures { result ≡ key_claimed op.now }
-{
-    match op {
-        Op::Put { table, key, .. }
-        | Op::Add { table, key, .. }
-        | Op::Del { table, key }
-        | Op::Guard { table, key } => Some(Key {
-            table: *table,
-            key: *key,
-        }),
-        Op::Get { .. } | Op::Need { .. } | Op::Scan { .. } => None,
-    }
-}
-
-fn has_key(keys: &[Key], key: Key) -> bool
-    ensures { result ≡ has_key keys.now key }
-{
-    keys.iter()
-        .any(|other| other.table == key.table && other.key == key.key)
-}
-
 /// Notes the key that an operation writes or guards, each key once and 16 at the most.
 pub fn claim(keys: &mut List<Key>, op: &Op) -> Result<(), LineEnd>
     ensures { Takes result keys.new (claimed keys.old op.now) }
 {
-    let Some(key) = key_claimed(op) else {
+    let Some(key) = op.key_claimed() else {
         return Ok(());
     };
-    if has_key(keys.as_slice(), key) {
+    if keys.as_slice().contains(&key) {
         return Ok(());
     }
     if keys.len() >= MAX_KEYS {

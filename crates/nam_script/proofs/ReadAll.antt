@@ -2,8 +2,7 @@
 use Rattle.std.proofs.Common.{◌≡◌, ℕ, ◌+◌, ◌≤◌, Bool, true, false, cond, eqb, leb, List, [], ◌∷◌, ◌++◌, length, Option, Some, None, refl, sym, ap, ◌∙◌, append_assoc, arith, length-append}
 use Rattle.std.proofs.lemmas.List.{append-nil}
 use Rattle.std.proofs.lemmas.Bool.{lt-leb, le-leb}
-use Rattle.nam_text.specs.Read.{◌>>=◌}
-use Rattle.nam_script.specs.Lines.{all_read, some_read}
+use Rattle.nam_text.specs.Read.{◌>>=◌, all_read, some_read}
 
 abbrev pub with_front : {A : Type 0} → List A → Option (List A) → Option (List A)
 with_front front read = read >>= (λ xs. Some (front ++ xs))

@@ -31,8 +31,9 @@ use Rattle.nam_script.specs.Stages.{rank, is_at, takes_table, takes_row, is_load
 use Rattle.nam_script.specs.Checks.{small, op_cost, counted, claimed, steps_of}
 use Rattle.nam_script.specs.Admit.{no_body, is_held, with_table, push_op}
 use Rattle.nam_script.specs.Limits.{RowsFit, OpHasKeys, TxnFits, StintFits}
-use Rattle.nam_script.specs.Spelling.{somes, spelt, setting_lines, table_line, row_line, op_line, turns_line, lines_of_draft}
-use Rattle.nam_script.proofs.Spells.{AllSmall, AllStintsSmall, LineIsSmall}
+use Rattle.nam_text.specs.Spelling.{IsWord}
+use Rattle.nam_script.specs.Lines.{spelt_line}
+use Rattle.nam_script.specs.Spelling.{LineIsSmall, somes, spelt, setting_lines, table_line, row_line, op_line, turns_line, lines_of_draft}
 use Rattle.nam_script.proofs.Chains.{ok_then, must_then, same_Ok, counted_is, IsFound, at_is}
 use Rattle.nam_script.proofs.Concat.{joined, same_parts, setting_more, table_more, row_more, txn_more, op_more, end_more, turns_more, seed_more}
 use Rattle.nam_script.proofs.Kept.{InOrder, Late, late_rows, late_between, late_turns, before_table, before_row, before_txn, before_turns, opened, Kept, bare_kept, absent_worker, all_more, all_both, keys_more, with_key, claimed_is, ops_cost_more, txns_cost_more, steps_both}
@@ -190,6 +191,7 @@ row_follows d r s y fit small =
     }
 
 pub txn_follows : (d : Draft) (w : ℕ) → Stands d → is_loaded d.stage ≡ true → (1 ≤ w) × (w ≤ d.shape.workers) → length d.body.txns < 8192 → Follows d (line.Txn (Some w)) (record d { stage = stage.Open; body = record d.body { worker = w } })
+unfolding spelt_line
 txn_follows d w s y range few =
     let b = before_txn d.stage d.shape d.body y s.order in
     let next : Draft = record d { stage = stage.Open; body = record d.body { worker = w } } in
@@ -242,22 +244,23 @@ table_is s name f good is =
     let all = recursion_from_All FitsTable s.tables (fits_limits s good).tables in
     (omega (arith, length-map s.tables (λ (t : Table). t.width), is.within), width_most s.tables all f.table)
 
-pub all_somes : (ms : List ℕ) → AllSmall (somes ms)
+pub all_somes : (ms : List ℕ) → AllByRecursion IsWord (somes ms)
 all_somes [] = tt
 all_somes (m ∷ ms) = (tt, all_somes ms)
 
-pub all_spelt : (ms : List Stint) → AllStintsSmall (map spelt ms)
+pub all_spelt : (ms : List Stint) → AllByRecursion (λ s. IsWord s.worker × IsWord s.steps) (map spelt ms)
 all_spelt [] = tt
 all_spelt (m ∷ ms) = ((tt, tt), all_spelt ms)
 
 op_small : (ts : List Table) (o : Op) → LineIsSmall (op_line ts o)
-op_small ts (op.Get t k) = tt
-op_small ts (op.Put t k v) = (tt, all_somes v)
-op_small ts (op.Add t k f up by) = (tt, tt, tt)
-op_small ts (op.Del t k) = tt
-op_small ts (op.Need t k f least) = (tt, tt, tt)
-op_small ts (op.Guard t k) = tt
-op_small ts (op.Scan t low high) = (tt, tt)
+unfolding spelt_line
+op_small ts (op.Get t k) = (tt, tt)
+op_small ts (op.Put t k v) = (tt, (tt, all_somes v))
+op_small ts (op.Add t k f up by) = (tt, (tt, (tt, tt)))
+op_small ts (op.Del t k) = (tt, tt)
+op_small ts (op.Need t k f least) = (tt, (tt, (tt, tt)))
+op_small ts (op.Guard t k) = (tt, tt)
+op_small ts (op.Scan t low high) = (tt, (tt, tt))
 
 pub pushes : (d : Draft) (o : Op) (cost : ℕ) (e : Draft) (l : Line) → Stands d → is_at d.stage stage.Open ≡ true → push_op d o cost ≡ Ok e → OpFits (widths_of d.shape.tables) o → OpHasKeys o → op_cost (capacities_of d.shape.tables) o ≡ cost → op_line d.shape.tables o ≡ l → Follows d l e
 pushes d o cost e l s y given fit has costs spelt =
@@ -313,6 +316,7 @@ pushes d o cost e l s y given fit has costs spelt =
     subst (λ (x : Draft). Follows d l x) (same_Ok _ _ e3) (subst (λ (m : Line). Follows d m next) spelt made))))
 
 pub end_follows : (d : Draft) → Stands d → is_at d.stage stage.Open ≡ true → 0 < length d.body.ops → Follows d line.End (record d { stage = stage.Between; body = record d.body { txns = d.body.txns ++ (record { worker = d.body.worker; ops = d.body.ops }) ∷ []; ops = []; keys = [] } })
+unfolding spelt_line
 end_follows d s y some =
     let k = s.kept in
     let at = at_is d.stage stage.Open y in
@@ -354,6 +358,7 @@ end_follows d s y some =
     }
 
 pub turns_follow : (d : Draft) (ms : List Stint) (sum : ℕ) → Stands d → takes_turns d.stage ≡ true → AllByRecursion (StintFits d.shape.workers) ms → (1 ≤ length ms) × (length ms ≤ 64) → sum ≡ d.body.steps + steps_of ms → sum ≤ 10000000 → Follows d (turns_line ms) (record d { stage = stage.Turns; body = record d.body { stints = d.body.stints ++ ms; steps = sum } })
+unfolding spelt_line
 turns_follow d ms sum s y fit short is most =
     let b = before_turns d.stage d.shape d.body y s.order in
     let k = s.kept in
@@ -392,6 +397,7 @@ turns_follow d ms sum s y fit short is most =
     }
 
 pub seed_follows : (d : Draft) (seed picks : ℕ) → Stands d → is_loaded d.stage ≡ true → picks ≤ 1000000 → Follows d (line.Seed (Some seed) (Some picks)) (record d { stage = stage.Seed; body = record d.body { seed = seed; picks = picks } })
+unfolding spelt_line
 seed_follows d seed picks s y most =
     let b = before_txn d.stage d.shape d.body y s.order in
     let k = s.kept in

@@ -18,7 +18,8 @@ use Rattle.nam_script.specs.declared.line.Line.TheVariants as line
 use Rattle.nam_script.specs.declared.script.ScriptTxn.{ScriptTxn}
 use Rattle.nam_script.specs.declared.script.Stint.{Stint}
 use Rattle.nam_script.specs.Text.{form_word, switch_word, opening_text, store_text, table_text, row_text, sign_text, op_text, txn_text, stint_text, group_text}
-use Rattle.nam_script.specs.Spelling.{somes, spelt, spelt_stint_text, fields, line_text, text_of, setting_lines, table_line, row_line, op_line, txn_lines, turns_line}
+use Rattle.nam_script.specs.Lines.{spelt_stint_text, spelt_line}
+use Rattle.nam_script.specs.Spelling.{somes, spelt, line_text, text_of, setting_lines, table_line, row_line, op_line, txn_lines, turns_line}
 
 -- a line more, ended by its newline
 line_more : (f rest to : List ℕ) → rest ≡ to → (f ++ 10 ∷ []) ++ rest ≡ f ++ (10 ∷ to)
@@ -38,7 +39,7 @@ store_right : (h o a s b c d e n : List ℕ) → h ++ o ++ a ++ s ++ b ++ c ++ d
 store_right h o a s b c d e n = append_assoc _ e n ∙ append_assoc _ d _ ∙ append_assoc _ c _ ∙ append_assoc _ b _ ∙ append_assoc _ s _ ∙ append_assoc _ a _ ∙ append_assoc h o _
 
 pub settings_are : (s : Shape) (p : Policy) → text_of (setting_lines s p) ≡ opening_text s p ++ store_text s p
-unfolding fields
+unfolding spelt_line
 settings_are s p =
     let f = form_word s.form in
     let w = decimal s.workers in
@@ -53,7 +54,7 @@ settings_are s p =
     (store_right (codes "tidy ") o (codes "\nstart ") st (codes "\noverflow ") b (codes " ") c (codes "\n")))
 
 table_is : (t : Table) → line_text (table_line t) ≡ table_text t
-unfolding fields
+unfolding spelt_line
 table_is t = simp (append_assoc)
 
 pub tables_are : (ts : List Table) → text_of (map table_line ts) ≡ flat_map table_text ts
@@ -68,7 +69,7 @@ values_plain : (w n k v : List ℕ) → (w ++ (n ++ 32 ∷ (k ++ v))) ++ 10 ∷ 
 values_plain w n k v = simp (append_assoc)
 
 row_is : (ts : List Table) (r : Row) → line_text (row_line ts r) ≡ row_text ts r
-unfolding fields
+unfolding spelt_line
 row_is ts r =
     ap (λ (t : List ℕ). (codes "row" ++ 32 ∷ (name_of ts r.table ++ 32 ∷ t)) ++ 10 ∷ []) (values_are (decimal r.key) r.value)
     ∙ values_plain (codes "row ") (name_of ts r.table) (decimal r.key) (words_text r.value)
@@ -82,7 +83,7 @@ add_is x k f n true = simp (append_assoc)
 add_is x k f n false = simp (append_assoc)
 
 pub op_is : (ts : List Table) (o : Op) → line_text (op_line ts o) ≡ op_text ts o
-unfolding fields
+unfolding spelt_line
 op_is ts (op.Get t k) = simp (append_assoc)
 op_is ts (op.Put t k v) =
     ap (λ (x : List ℕ). (codes "put" ++ 32 ∷ (name_of ts t ++ 32 ∷ x)) ++ 10 ∷ []) (values_are (decimal k) v)
@@ -98,11 +99,11 @@ ops_are ts [] = refl
 ops_are ts (o ∷ os) = rw (op_is ts o, ops_are ts os) refl
 
 txn_start : (w : ℕ) → line_text (line.Txn (Some w)) ≡ codes "txn " ++ decimal w ++ codes "\n"
-unfolding fields
+unfolding spelt_line
 txn_start w = simp (append_assoc)
 
 txn_end : line_text line.End ≡ codes "end\n"
-unfolding fields
+unfolding spelt_line
 txn_end = refl
 
 txn_is : (ts : List Table) (x : ScriptTxn) → text_of (txn_lines ts x) ≡ txn_text ts x
@@ -122,7 +123,7 @@ stints_are x (s ∷ ss) =
     ∙ ap (λ (y : List ℕ). x ++ 32 ∷ (y ++ flat_map stint_text ss)) (sym (append_assoc (decimal s.worker) (42 ∷ []) (decimal s.steps)))
 
 group_is : (g : List Stint) → line_text (turns_line g) ≡ group_text g
-unfolding fields
+unfolding spelt_line
 group_is g = ap (λ (t : List ℕ). t ++ 10 ∷ []) (stints_are (codes "turns") g)
 
 pub groups_are : (gs : List (List Stint)) → text_of (map turns_line gs) ≡ flat_map group_text gs
@@ -130,5 +131,5 @@ groups_are [] = refl
 groups_are (g ∷ gs) = rw (group_is g, groups_are gs) refl
 
 pub seed_is : (seed picks : ℕ) → line_text (line.Seed (Some seed) (Some picks)) ≡ codes "seed " ++ decimal seed ++ codes " " ++ decimal picks ++ codes "\n"
-unfolding fields
+unfolding spelt_line
 seed_is seed picks = simp (append_assoc)

@@ -1,16 +1,16 @@
 -- What is spelt so is read, and has no space and no newline in it.
-use Rattle.std.proofs.Common.{◌≡◌, ℕ, zero, suc, ◌^◌, ◌<◌, ◌≤◌, Bool, true, false, cond, ◌&&◌, eqb, ltb, leb, List, [], ◌∷◌, ◌++◌, map, length, get_or, Option, Some, None, refl, sym, ap, ◌∙◌, subst, arith, inl, inr, lit<, not}
-use Rattle.std.specs.List.{list_all, slice_split, join_with_byte, AllByRecursion}
+use Rattle.std.proofs.Common.{◌≡◌, ℕ, ◌^◌, ◌<◌, Bool, true, false, cond, eqb, ltb, leb, List, [], ◌∷◌, ◌++◌, length, get_or, Some, refl, ap, ◌∙◌, arith, inl, inr, lit<}
+use Rattle.std.specs.List.{list_all, join_with_byte, AllByRecursion}
 use Rattle.std.specs.Char.{is_ascii_digit}
 use Rattle.std.specs.Str.Parse.{digits_value}
 use Rattle.std.specs.Fmt.{decimal}
-use Rattle.std.proofs.lemmas.Bool.{and_from, lt-ltb, le-leb, leb-true, and_parts, ne_eqb, cases_lt}
+use Rattle.std.proofs.lemmas.Bool.{and_from, lt-ltb, leb-true, and_parts, ne_eqb, cases_lt}
 use Rattle.std.proofs.lemmas.Bool.Decides.{nat_tests}
 use Rattle.std.proofs.lemmas.Fmt.{digits_decimal, digits_value-decimal, first_decimal, decimal_nonempty, decimal_digit}
 use Rattle.std.proofs.lemmas.List.Splits.{slice_split_at, slice_split_none}
 use Rattle.std.proofs.lemmas.List.Elements.{All-from_recursion}
-use Rattle.nam_text.specs.Token.{is_number, number, is_name, is_name_byte}
-use Rattle.nam_text.specs.Read.{◌>>=◌, number_at, name_at}
+use Rattle.nam_text.specs.Token.{is_number, number_of, is_name, is_name_byte}
+use Rattle.nam_text.specs.Spelling.{IsPlain}
 use Rattle.nam_text.specs.Fields.{fields_of}
 use Rattle.nam_text.proofs.Tokens.{numerals}
 
@@ -20,26 +20,14 @@ shape_again n lt = elim (cases_lt 0 n) [
   | inr none ↦ (let is : n ≡ 0 = omega arith in rw (is, decimal_digit 0 (lit< tt)) refl)
 ]
 
-pub number_again : (n : ℕ) → n < 2 ^ 64 → number (decimal n) ≡ Some (Some n)
-unfolding number
+pub number_again : (n : ℕ) → n < 2 ^ 64 → number_of (decimal n) ≡ Some (Some n)
+unfolding number_of
 number_again n lt =
     let digits : list_all is_ascii_digit (decimal n) ≡ true = digits_decimal numerals n lt in
     let right : is_number (decimal n) ≡ true = and_from _ _ digits (shape_again n lt) in
     let value : digits_value 10 (decimal n) ≡ n = digits_value-decimal numerals n lt in
     let small : ltb n (2 ^ 64) ≡ true = lt-ltb _ _ lt in
     rw (right, value, small) refl
-
-pub number_at_again : (n : ℕ) (fs : List (List ℕ)) → n < 2 ^ 64 → number_at (decimal n ∷ fs) ≡ Some (Some n, fs)
-unfolding number_at
-number_at_again n fs lt = rw (number_again n lt) refl
-
-pub name_at_again : (name : List ℕ) (fs : List (List ℕ)) → is_name name ≡ true → name_at (name ∷ fs) ≡ Some (name, fs)
-unfolding name_at
-name_at_again name fs good = rw good refl
-
--- no byte below 42, which is the star
-abbrev pub IsPlain : List ℕ → Type 0
-IsPlain f = list_all (leb 42) f ≡ true
 
 apart : (b c : ℕ) → c < 42 → leb 42 b ≡ true → eqb b c ≡ false
 apart b c lt h = ne_eqb _ _ (λ e. absurd (omega (arith, leb-true 42 b h)))

@@ -1,5 +1,5 @@
 -- What a field spells.
-use Rattle.std.specs.Prelude.{ℕ, ◌^◌, List, [], ◌∷◌, length, Option, Some, None, Bool, true, false, ◌&&◌, ◌||◌, not, ◌==◌, nat_lt, nat_le, if◌then◌else◌, slice_index}
+use Rattle.std.specs.Prelude.{ℕ, ◌^◌, List, [], length, Option, Some, None, Bool, ◌&&◌, ◌||◌, ◌==◌, nat_lt, nat_le, if◌then◌else◌, slice_index}
 use Rattle.std.specs.List.{list_all}
 use Rattle.std.specs.Char.{is_ascii_digit, is_ascii_lowercase}
 use Rattle.std.specs.Str.Parse.{digits_value}
@@ -14,8 +14,8 @@ abbrev pub number_value : List ℕ → Option ℕ
 number_value field = if nat_lt (digits_value 10 field) (2 ^ 64) then Some (digits_value 10 field) else None
 
 -- the number that a field spells: nothing where it spells none
-unfoldable pub number : List ℕ → Option (Option ℕ)
-number field = if is_number field then Some (number_value field) else None
+unfoldable pub number_of : List ℕ → Option (Option ℕ)
+number_of field = if is_number field then Some (number_value field) else None
 
 -- the one spelling of a number
 abbrev pub number_text : Option ℕ → List ℕ

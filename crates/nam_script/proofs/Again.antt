@@ -27,7 +27,7 @@ admits_again : (d : Draft) (l : Line) → IsReadable l → admit_text d (join_wi
 unfolding admit_text
 admits_again d l s =
     let k = spelt_line l in
-    let split : fields_of (join_with_byte 32 (fields k)) ≡ fields k = split_again k.kind.word (k.kind.rest.fields k.value) s.plain.0 s.plain.1 in
+    let split : fields_of (join_with_byte 32 (fields k)) ≡ fields k = split_again k.word k.rest s.plain.0 s.plain.1 in
     rw (split, s.again) refl
 
 first_again : (l : Line) (ls : List Line) → IsReadable l → lines_of (text_of (l ∷ ls)) ≡ join_with_byte 32 (fields (spelt_line l)) ∷ lines_of (text_of ls)

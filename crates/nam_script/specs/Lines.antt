@@ -140,7 +140,7 @@ abbrev pub seed_line : LineKind Line
 seed_line = kind (codes "seed") (next number (last number)) (λ (x, n). Seed x n)
 
 -- how a line is spelt
-unfoldable pub spelt_line : Line → Spelt Line
+unfoldable pub spelt_line : Line → Spelt
 spelt_line Version = of version_line tt
 spelt_line (Header form) = of header_line form
 spelt_line (Workers n) = of workers_line n

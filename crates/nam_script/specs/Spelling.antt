@@ -8,7 +8,7 @@ use Rattle.si_model.specs.declared.op.Policy.{Policy}
 use Rattle.nam_catalog.specs.declared.shape.Shape.{Shape}
 use Rattle.nam_catalog.specs.declared.shape.Table.{Table}
 use Rattle.nam_catalog.specs.Tables.{name_of}
-use Rattle.nam_text.specs.Kinds.{Fits, IsSmall, fields}
+use Rattle.nam_text.specs.Kinds.{fields}
 use Rattle.nam_script.specs.declared.refusal.Kind.{Kind}
 use Rattle.nam_script.specs.declared.line.SpeltStint.{SpeltStint}
 use Rattle.nam_script.specs.declared.line.Line.{Line}
@@ -34,11 +34,11 @@ text_of ls = flat_map line_text ls
 
 -- the line can be read again: its names are names, its numbers words, and it has 1 to 8 values or 1 to 64 stints
 abbrev pub IsGood : Line → Type 0
-IsGood l = Fits (spelt_line l)
+IsGood l = (spelt_line l).Fits
 
 -- none of its numbers is above 2^64 - 1
 abbrev pub LineIsSmall : Line → Type 0
-LineIsSmall l = IsSmall (spelt_line l)
+LineIsSmall l = (spelt_line l).IsSmall
 
 -- ---- the lines of a script
 

@@ -1,5 +1,6 @@
 -- A spelling as a value: how values are written in the fields of a line, and how they are read from them.
-use Rattle.std.specs.Prelude.{◌≡◌, ℕ, ◌^◌, ◌<◌, ◌≤◌, List, [], ◌∷◌, map, length, Option, Some, None, true, nat_le, if◌then◌else◌}
+use Rattle.std.specs.Prelude.{◌≡◌, ℕ, ◌^◌, ◌<◌, ◌≤◌, List, [], ◌∷◌, ◌++◌, map, length, codes, Option, Some, None, Bool, true, false, nat_le, nat_lt, if◌then◌else◌}
+use Rattle.std.specs.Fmt.{decimal}
 use Rattle.std.specs.List.{list_all, AllByRecursion}
 use Rattle.std.specs.Str.{bytes_eq}
 use Rattle.nam_text.specs.Token.{number_of, number_text, is_name}
@@ -55,6 +56,37 @@ name_of f = if is_name f then Some f else None
 abbrev pub name : Field (List ℕ)
 name = record { Fits = λ x. is_name x ≡ true; IsSmall = λ _. Unit {0}; text = λ x. x; read = name_of }
 
+-- a number below a bound
+abbrev pub below_of : ℕ → Option ℕ → Option ℕ
+below_of bound None = None
+below_of bound (Some n) = if nat_lt n bound then Some n else None
+
+-- a number below a bound of at most 2^64; another one is not read
+abbrev pub below : ℕ → Field ℕ
+below bound = record {
+  Fits = λ n. (n < bound) × (n < 2 ^ 64);
+  IsSmall = λ _. Unit {0};
+  text = decimal;
+  read = λ f. number_of f >>= below_of bound;
+}
+
+abbrev pub dash_text : {A : Type 0} → (A → List ℕ) → Option A → List ℕ
+dash_text text None = codes "-"
+dash_text text (Some x) = text x
+
+abbrev pub FitsIfSome : {A : Type 0} → (A → Type 0) → Option A → Type 0
+FitsIfSome Fits None = Unit {0}
+FitsIfSome Fits (Some x) = Fits x
+
+-- a value, or a dash where there is none
+abbrev pub or_dash : {A : Type 0} → Field A → Field (Option A)
+or_dash f = record {
+  Fits = FitsIfSome f.Fits;
+  IsSmall = FitsIfSome f.IsSmall;
+  text = dash_text f.text;
+  read = λ t. if bytes_eq t (codes "-") then Some None else (f.read t >>= (λ x. Some (Some x)));
+}
+
 -- the first of the values with this text
 abbrev pub among : {A : Type 0} → (A → List ℕ) → List A → List ℕ → Option A
 among text [] f = None
@@ -103,4 +135,63 @@ some most f = record {
   IsSmall = λ xs. AllByRecursion f.IsSmall xs;
   fields = λ xs. map f.text xs;
   read = λ fs. some_read most f.read fs;
+}
+
+abbrev pub dash_fields : {A : Type 0} → (A → List (List ℕ)) → Option A → List (List ℕ)
+dash_fields fields None = codes "-" ∷ []
+dash_fields fields (Some x) = fields x
+
+abbrev pub if_dash : {A : Type 0} → Option (Unit {0}) → Option (Option A) → Option (Option A)
+if_dash None read = read
+if_dash (Some u) read = Some None
+
+-- all fields but the last, and the last
+unfoldable pub split_last : List (List ℕ) → Option (List (List ℕ) × List ℕ)
+split_last [] = None
+split_last (f ∷ []) = Some ([], f)
+split_last (f ∷ g ∷ fs) = split_last (g ∷ fs) >>= (λ x. Some (f ∷ x.0, x.1))
+
+-- one in all fields but the last, and another in that
+abbrev pub before : {A B : Type 0} → Spelling A → Field B → Spelling (A × B)
+before s f = record {
+  Fits = λ x. s.Fits x.0 × f.Fits x.1;
+  IsSmall = λ x. s.IsSmall x.0 × f.IsSmall x.1;
+  fields = λ x. s.fields x.0 ++ f.text x.1 ∷ [];
+  read = λ fs. split_last fs >>= (λ x. s.read x.0 >>= (λ a. f.read x.1 >>= (λ b. Some (a, b))));
+}
+
+-- a word, if it is so
+abbrev pub mark : List ℕ → Bool → List (List ℕ)
+mark w true = w ∷ []
+mark w false = []
+
+abbrev pub marked_read : {A : Type 0} → List ℕ → Spelling A → List (List ℕ) → List (List ℕ) × List ℕ → Option (A × Bool)
+marked_read w s fs x =
+    if bytes_eq x.1 w then (s.read x.0 >>= (λ a. Some (a, true))) else (s.read fs >>= (λ a. Some (a, false)))
+
+-- a word follows, or none
+abbrev pub marked : {A : Type 0} → List ℕ → Spelling A → Spelling (A × Bool)
+marked w s = record {
+  Fits = λ x. s.Fits x.0;
+  IsSmall = λ x. s.IsSmall x.0;
+  fields = λ x. s.fields x.0 ++ mark w x.1;
+  read = λ fs. split_last fs >>= marked_read w s fs;
+}
+
+-- a value, or a dash where there is none
+abbrev pub dashed : {A : Type 0} → Spelling A → Spelling (Option A)
+dashed s = record {
+  Fits = FitsIfSome s.Fits;
+  IsSmall = FitsIfSome s.IsSmall;
+  fields = dash_fields s.fields;
+  read = λ fs. if_dash (word_at (codes "-") fs >>= done) (s.read fs >>= (λ x. Some (Some x)));
+}
+
+-- seen as another value
+abbrev pub mapped : {A B : Type 0} → (A → B) → (B → A) → Spelling A → Spelling B
+mapped to from s = record {
+  Fits = λ y. s.Fits (from y);
+  IsSmall = λ y. s.IsSmall (from y);
+  fields = λ y. s.fields (from y);
+  read = λ fs. s.read fs >>= (λ x. Some (to x));
 }

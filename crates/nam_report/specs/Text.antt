@@ -15,11 +15,8 @@ use Rattle.si_model.specs.declared.report.AuditRow.{AuditRow}
 use Rattle.si_model.specs.declared.report.Report.{Report}
 use Rattle.nam_catalog.specs.declared.shape.Table.{Table}
 use Rattle.nam_catalog.specs.Tables.{name_of}
-use Rattle.nam_text.specs.Kinds.{Spelt, of, behind_spaces, text}
+use Rattle.nam_text.specs.Kinds.{of, behind_spaces, text, line_text}
 use Rattle.nam_report.specs.Spelling.{lock, spelt_outcome, attempt, move, collect, tidy_cut, item, lock_kind, spelt_event, history_kind, entry, worker, audit_kind, audit_row}
-
-abbrev pub line_text : Spelt → List ℕ
-line_text l = text l ++ codes "\n"
 
 -- a key: the name of its table and its number, each behind a space
 abbrev pub key_text : List Table → ℕ → ℕ → List ℕ

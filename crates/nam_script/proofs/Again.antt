@@ -1,10 +1,11 @@
 -- What is spelt so is read.
-use Rattle.std.proofs.Common.{◌≡◌, ℕ, ◌+◌, true, eqb, List, [], ◌∷◌, Result, Ok, refl, sym, ap, ◌∙◌, subst, append_assoc}
+use Rattle.std.proofs.Common.{◌≡◌, ℕ, ◌+◌, true, false, eqb, List, [], ◌∷◌, Result, Ok, refl, sym, ap, ◌∙◌, subst, append_assoc}
 use Rattle.std.specs.List.{join_with_byte, AllByRecursion}
 use Rattle.std.proofs.lemmas.List.Elements.{All-from_recursion}
 use Rattle.std.proofs.lemmas.List.Splits.{slice_split_at}
 use Rattle.nam_text.specs.Fields.{fields_of, lines_of}
-use Rattle.nam_text.specs.Kinds.{fields}
+use Rattle.nam_text.specs.Kinds.{fields, text}
+use Rattle.nam_text.proofs.KindLemmas.{parted}
 use Rattle.nam_text.proofs.Again.{no_newline, split_again}
 use Rattle.nam_script.specs.declared.line.Line.{Line}
 use Rattle.nam_script.specs.declared.draft.Draft.{Draft}
@@ -23,18 +24,19 @@ all_readable : (ls : List Line) → AllByRecursion IsGood ls → AllByRecursion 
 all_readable [] h = tt
 all_readable (l ∷ ls) h = (readable l h.0, all_readable ls h.1)
 
-admits_again : (d : Draft) (l : Line) → IsReadable l → admit_text d (join_with_byte 32 (fields (spelt_line l))) ≡ admit d l
+admits_again : (d : Draft) (l : Line) → IsReadable l → admit_text d (text (spelt_line l)) ≡ admit d l
 unfolding admit_text
 admits_again d l s =
     let k = spelt_line l in
-    let split : fields_of (join_with_byte 32 (fields k)) ≡ fields k = split_again k.word k.rest s.plain.0 s.plain.1 in
+    let split : fields_of (text k) ≡ fields k = ap fields_of (sym (parted k.word k.rest)) ∙ split_again k.word k.rest s.plain.0 s.plain.1 in
     rw (split, s.again) refl
 
-first_again : (l : Line) (ls : List Line) → IsReadable l → lines_of (text_of (l ∷ ls)) ≡ join_with_byte 32 (fields (spelt_line l)) ∷ lines_of (text_of ls)
+first_again : (l : Line) (ls : List Line) → IsReadable l → lines_of (text_of (l ∷ ls)) ≡ text (spelt_line l) ∷ lines_of (text_of ls)
 first_again l ls s =
-    let f = join_with_byte 32 (fields (spelt_line l)) in
-    ap lines_of (append_assoc f (10 ∷ []) (text_of ls))
-    ∙ slice_split_at (λ b. eqb b 10) f 10 (text_of ls) (All-from_recursion _ _ (no_newline (fields (spelt_line l)) s.plain)) refl
+    let k = spelt_line l in
+    let clean = subst (AllByRecursion (λ b. eqb b 10 ≡ false)) (parted k.word k.rest) (no_newline (fields k) s.plain) in
+    ap lines_of (append_assoc (text k) (10 ∷ []) (text_of ls))
+    ∙ slice_split_at (λ b. eqb b 10) (text k) 10 (text_of ls) (All-from_recursion _ _ clean) refl
 
 all_then : (d : Draft) (l : Line) (ls : List Line) (e : Draft) (P : Type 0) → admit_all d (l ∷ ls) ≡ Ok e → ((c : Draft) → admit d l ≡ Ok c → admit_all c ls ≡ Ok e → P) → P
 unfolding admit_all
@@ -52,7 +54,7 @@ draft_again n d [] e spelt given ends =
     rw here (ap (λ (x : Draft). Ok x) is)
 draft_again n d (l ∷ ls) e spelt given ends =
     all_then d l ls e _ given (λ c ec e1.
-    ap (draft_from n d) (first_again l ls spelt.0) ∙ goes_on n d c (join_with_byte 32 (fields (spelt_line l))) (text_of ls) (admits_again d l spelt.0 ∙ ec) ∙ draft_again (n + 1) c ls e spelt.1 e1 ends)
+    ap (draft_from n d) (first_again l ls spelt.0) ∙ goes_on n d c (text (spelt_line l)) (text_of ls) (admits_again d l spelt.0 ∙ ec) ∙ draft_again (n + 1) c ls e spelt.1 e1 ends)
 
 -- a text of lines that may come in this order, where a script may end, is read
 only_law : (ls : List Line) (e : Draft) → AllByRecursion IsReadable ls → admit_all start ls ≡ Ok e → can_end e.stage ≡ true → draft_of (text_of ls) ≡ Ok e

@@ -20,16 +20,16 @@ use Rattle.nam_script.specs.declared.draft.Draft.{Draft}
 use Rattle.nam_script.specs.declared.stage.Stage.{Stage}
 use Rattle.nam_script.specs.declared.stage.Stage.TheVariants as stage
 use Rattle.nam_script.specs.Stages.{rank, is_at, takes_turns}
-use Rattle.nam_script.specs.Text.{opening_text, store_text, table_text, row_text, txn_text, group_text, IsSpelt}
+use Rattle.nam_script.specs.Text.{settings_text, table_text, row_text, txn_text, group_text, IsSpelt}
 use Rattle.nam_script.specs.Limits.{IsScript, TurnsFit}
 use Rattle.nam_script.specs.Parse.{Fault, draft_of, turns_of, finished, finished_if, script_of, Gives}
-use Rattle.nam_script.specs.Spelling.{line_text, text_of, setting_lines, table_line, row_line, txn_lines, turns_line}
+use Rattle.nam_script.specs.Spelling.{line_text, text_of, opening_lines, store_lines, setting_lines, table_line, row_line, txn_lines, turns_line}
 use Rattle.nam_script.proofs.Chains.{at_is, either}
 use Rattle.nam_script.proofs.Concat.{joined, same_parts}
 use Rattle.nam_script.proofs.Kept.{InOrder, before_turns}
 use Rattle.nam_script.proofs.Steps.{Stands, late_parts, late_settings, if_none, no_groups}
 use Rattle.nam_script.proofs.Texts.{Taken, draft_is_taken}
-use Rattle.nam_script.proofs.Wording.{settings_are, tables_are, rows_are, txns_are, groups_are, seed_is}
+use Rattle.nam_script.proofs.Wording.{each_line, txns_are}
 
 both : (x y z w : List ℕ) → x ≡ z → y ≡ w → x ++ y ≡ z ++ w
 both x y z w e f = rw (e, f) refl
@@ -37,15 +37,15 @@ both x y z w e f = rw (e, f) refl
 left_nested : (a t r x g l : List ℕ) → a ++ (t ++ (r ++ (x ++ (g ++ l)))) ≡ a ++ t ++ r ++ x ++ g ++ l
 left_nested a t r x g l = sym (append_assoc _ g l ∙ append_assoc _ x _ ∙ append_assoc _ r _ ∙ append_assoc a t _)
 
-joined_text : (s : Shape) (p : Policy) (rs : List Row) (xs : List ScriptTxn) (gs : List (List Stint)) (sd : List Line) → text_of (joined (setting_lines s p) s.tables rs xs [] gs sd) ≡ opening_text s p ++ store_text s p ++ flat_map table_text s.tables ++ flat_map (row_text s.tables) rs ++ flat_map (txn_text s.tables) xs ++ flat_map group_text gs ++ text_of sd
+joined_text : (s : Shape) (p : Policy) (rs : List Row) (xs : List ScriptTxn) (gs : List (List Stint)) (sd : List Line) → text_of (joined (setting_lines s p) s.tables rs xs [] gs sd) ≡ settings_text s p ++ flat_map table_text s.tables ++ flat_map (row_text s.tables) rs ++ flat_map (txn_text s.tables) xs ++ flat_map group_text gs ++ text_of sd
 joined_text s p rs xs gs sd =
     flat_map-append line_text (setting_lines s p) _
-    ∙ both _ _ _ _ (settings_are s p) (flat_map-append line_text (map table_line s.tables) _
-    ∙ both _ _ _ _ (tables_are s.tables) (flat_map-append line_text (map (row_line s.tables) rs) _
-    ∙ both _ _ _ _ (rows_are s.tables rs) (flat_map-append line_text (flat_map (txn_lines s.tables) xs) _
+    ∙ both _ _ _ _ (flat_map-append line_text (opening_lines s p) (store_lines s p)) (flat_map-append line_text (map table_line s.tables) _
+    ∙ both _ _ _ _ (each_line table_line s.tables) (flat_map-append line_text (map (row_line s.tables) rs) _
+    ∙ both _ _ _ _ (each_line (row_line s.tables) rs) (flat_map-append line_text (flat_map (txn_lines s.tables) xs) _
     ∙ both _ _ _ _ (txns_are s.tables xs) (flat_map-append line_text (map turns_line gs) sd
-    ∙ both _ _ _ _ (groups_are gs) refl))))
-    ∙ left_nested (opening_text s p ++ store_text s p) (flat_map table_text s.tables) (flat_map (row_text s.tables) rs) (flat_map (txn_text s.tables) xs) (flat_map group_text gs) (text_of sd)
+    ∙ both _ _ _ _ (each_line turns_line gs) refl))))
+    ∙ left_nested (settings_text s p) (flat_map table_text s.tables) (flat_map (row_text s.tables) rs) (flat_map (txn_text s.tables) xs) (flat_map group_text gs) (text_of sd)
 
 ended_by : (x y z : List ℕ) → y ≡ z → (x ++ []) ++ y ≡ x ++ z
 ended_by x y z e = rw (append-nil x, e) refl
@@ -117,7 +117,7 @@ seeded d text t at =
         stints = refl;
         short = tt;
         is = t.told ∙ ap text_of parts ∙ joined_text d.shape d.policy d.body.rows d.body.txns [] (l ∷ [])
-            ∙ ended_by (opening_text d.shape d.policy ++ store_text d.shape d.policy ++ flat_map table_text d.shape.tables ++ flat_map (row_text d.shape.tables) d.body.rows ++ flat_map (txn_text d.shape.tables) d.body.txns) (text_of (l ∷ [])) _ (append-nil (line_text l) ∙ seed_is d.body.seed d.body.picks);
+            ∙ ended_by (settings_text d.shape d.policy ++ flat_map table_text d.shape.tables ++ flat_map (row_text d.shape.tables) d.body.rows ++ flat_map (txn_text d.shape.tables) d.body.txns) (text_of (l ∷ [])) _ (append-nil (line_text l));
       };
       good = law d (turns.Seed d.body.seed d.body.picks) s o.0 o.1 k.picks;
     })

@@ -7,7 +7,8 @@ use Rattle.std.proofs.lemmas.List.{append-nil}
 use Rattle.nam_script.specs.declared.script.Stint.{Stint}
 use Rattle.nam_script.specs.declared.script.Turns.{Turns}
 use Rattle.nam_script.specs.declared.script.Turns.TheVariants as turns
-use Rattle.nam_script.specs.Text.{opening_text, store_text, table_text, row_text, txn_text, stint_text, stints_text, turns_text, group_text, grouped_turns, stints_in}
+use Rattle.nam_script.specs.Text.{settings_text, table_text, row_text, txn_text, stint_text, stints_text, turns_text, group_text, grouped_turns, stints_in}
+use Rattle.nam_script.proofs.Wording.{group_is}
 use Rattle.nam_script.specs.Grouping.{AreFull, GroupingLaw}
 
 abbrev AreShort : List (List Stint) → Type 0
@@ -43,6 +44,7 @@ groups_are : (g : List Stint) (gs : List (List Stint)) → AreShort (g ∷ gs) �
 groups_are g [] short full =
     ap (λ (x : List ℕ). codes "turns" ++ x) (on_line g [] 64 short.0.1)
     ∙ sym (append_assoc (codes "turns") (flat_map stint_text g) (codes "\n"))
+    ∙ sym (group_is g)
     ∙ sym (append-nil (group_text g))
 groups_are g (h ∷ gs) short full =
     let none : 64 - length g ≡ 0 = omega (arith, full.0) in
@@ -50,6 +52,7 @@ groups_are g (h ∷ gs) short full =
     ∙ ap (λ (x : List ℕ). flat_map stint_text g ++ x) (next_group h gs short.1.0.0 ∙ ap (λ (x : List ℕ). 10 ∷ x) (groups_are h gs short.1 full.1)))
     ∙ sym (append_assoc (codes "turns") (flat_map stint_text g) (10 ∷ flat_map group_text (h ∷ gs)))
     ∙ sym (append_assoc (codes "turns" ++ flat_map stint_text g) (10 ∷ []) (flat_map group_text (h ∷ gs)))
+    ∙ ap (λ (x : List ℕ). x ++ flat_map group_text (h ∷ gs)) (sym (group_is g))
 
 list_text : (ss : List Stint) → 1 ≤ length ss → turns_text (turns.List ss) ≡ codes "turns" ++ stints_text 64 ss
 list_text [] some = absurd (omega (arith, some))
@@ -67,4 +70,4 @@ turns_are (turns.List ss) (g ∷ gs) e short full =
 
 pub grouping : GroupingLaw
 grouping s text spelt full =
-    spelt.is ∙ ap (λ (x : List ℕ). opening_text s.shape s.policy ++ store_text s.shape s.policy ++ flat_map table_text s.shape.tables ++ flat_map (row_text s.shape.tables) s.rows ++ flat_map (txn_text s.shape.tables) s.txns ++ x) (turns_are s.turns spelt.groups spelt.stints spelt.short full)
+    spelt.is ∙ ap (λ (x : List ℕ). settings_text s.shape s.policy ++ flat_map table_text s.shape.tables ++ flat_map (row_text s.shape.tables) s.rows ++ flat_map (txn_text s.shape.tables) s.txns ++ x) (turns_are s.turns spelt.groups spelt.stints spelt.short full)

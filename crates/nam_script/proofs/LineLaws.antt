@@ -17,8 +17,7 @@ use Rattle.nam_script.specs.declared.line.Change.{Change}
 use Rattle.nam_script.specs.declared.line.SpeltStint.{SpeltStint}
 use Rattle.nam_script.specs.declared.line.Line.{Line}
 use Rattle.nam_script.specs.declared.line.Line.TheVariants.{Version, Header, Workers, Tries, Tidy, Start, Overflow, Table, Row, Txn, Get, Put, Add, Del, Need, Guard, Scan, End, Turns, Seed}
-use Rattle.nam_script.specs.Text.{form_word, switch_word}
-use Rattle.nam_script.specs.Lines.{form, switch, change_text, is_zero as zero_amount, signed, change_of, FitsChange, change, spelt_stint_text, parted_at, stint_of, FitsStint, stint, version_line, header_line, workers_line, tries_line, tidy_line, start_line, overflow_line, table_line, row_line, txn_line, get_line, put_line, add_line, del_line, need_line, guard_line, scan_line, end_line, turns_line, seed_line, spelt_line, op_of, body_of, word_of, line_of}
+use Rattle.nam_script.specs.Lines.{form_word, form, switch_word, switch, change_text, is_zero as zero_amount, signed, change_of, FitsChange, change, spelt_stint_text, parted_at, stint_of, FitsStint, stint, version_line, header_line, workers_line, tries_line, tidy_line, start_line, overflow_line, table_line, row_line, txn_line, get_line, put_line, add_line, del_line, need_line, guard_line, scan_line, end_line, turns_line, seed_line, spelt_line, op_of, body_of, word_of, line_of}
 use Rattle.nam_script.specs.Spelling.{IsGood, LineIsSmall}
 use Rattle.nam_script.proofs.StintFields.{at_star, star_at, before_star, behind_star}
 

@@ -15,7 +15,8 @@ use Rattle.nam_script.specs.Stages.{can_end}
 use Rattle.nam_script.specs.Lines.{spelt_line, line_of}
 use Rattle.nam_script.specs.Admit.{start, admit, admit_spelt, admit_text}
 use Rattle.nam_script.specs.Parse.{Fault, at_line, draft_from, draft_of}
-use Rattle.nam_text.specs.Kinds.{fields}
+use Rattle.nam_text.specs.Kinds.{fields, text as spelt_text}
+use Rattle.nam_text.proofs.KindLemmas.{parted}
 use Rattle.nam_script.specs.Spelling.{line_text, text_of, lines_of_draft}
 use Rattle.nam_script.proofs.LineLaws.{line_takes}
 use Rattle.nam_script.proofs.Kept.{bare_kept}
@@ -44,7 +45,8 @@ text_step d text e gs s a given =
     spelt_then d (line_of (fields_of text)) e given (λ l el ea.
     let f = admitted d l e s (λ small. (line_takes (fields_of text) l el small).0) ea in
     let same : fields_of text ≡ fields (spelt_line l) = (line_takes (fields_of text) l el f.small).1 in
-    let spelt : join_with_byte 32 (fields (spelt_line l)) ≡ text = ap (join_with_byte 32) (sym same) ∙ join_with_byte-slice_split 32 text in
+    let k = spelt_line l in
+    let spelt : spelt_text k ≡ text = sym (parted k.word k.rest) ∙ ap (join_with_byte 32) (sym same) ∙ join_with_byte-slice_split 32 text in
     let t = f.told gs a in
     record {
       groups = t.groups;

@@ -11,18 +11,28 @@ use Rattle.nam_script.specs.declared.line.Change.{Change}
 use Rattle.nam_script.specs.declared.line.SpeltStint.{SpeltStint}
 use Rattle.nam_script.specs.declared.line.Line.{Line}
 use Rattle.nam_script.specs.declared.line.Line.TheVariants.{Version, Header, Workers, Tries, Tidy, Start, Overflow, Table, Row, Txn, Get, Put, Add, Del, Need, Guard, Scan, End, Turns, Seed}
-use Rattle.nam_script.specs.Text.{form_word, switch_word}
 
 -- ---- parts of lines
+
+abbrev pub form_word : Form → List ℕ
+form_word Narrow = codes "narrow"
+form_word Wide = codes "wide"
+form_word Held = codes "held"
 
 abbrev pub form : Field Form
 form = choice form_word (Narrow ∷ Wide ∷ Held ∷ [])
 
+abbrev pub switch_word : Bool → List ℕ
+switch_word on = if on then codes "on" else codes "off"
+
 abbrev pub switch : Field Bool
 switch = choice switch_word (true ∷ false ∷ [])
 
+abbrev pub sign_text : Bool → List ℕ
+sign_text up = (if up then 43 else 45) ∷ []
+
 abbrev pub change_text : Change → List ℕ
-change_text c = (if c.up then 43 else 45) ∷ number_text c.by
+change_text c = sign_text c.up ++ number_text c.by
 
 abbrev pub is_zero : Option ℕ → Bool
 is_zero None = false

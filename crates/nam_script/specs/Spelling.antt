@@ -8,7 +8,7 @@ use Rattle.si_model.specs.declared.op.Policy.{Policy}
 use Rattle.nam_catalog.specs.declared.shape.Shape.{Shape}
 use Rattle.nam_catalog.specs.declared.shape.Table.{Table}
 use Rattle.nam_catalog.specs.Tables.{name_of}
-use Rattle.nam_text.specs.Kinds.{fields}
+use Rattle.nam_text.specs.Kinds.{line_text as spelt_text}
 use Rattle.nam_script.specs.declared.refusal.Kind.{Kind}
 use Rattle.nam_script.specs.declared.line.SpeltStint.{SpeltStint}
 use Rattle.nam_script.specs.declared.line.Line.{Line}
@@ -25,9 +25,9 @@ use Rattle.nam_script.specs.Admit.{admit}
 
 -- ---- a line
 
--- parted by spaces, and ended by a newline
+-- its fields, parted by spaces and ended by a newline
 abbrev pub line_text : Line → List ℕ
-line_text l = join_with_byte 32 (fields (spelt_line l)) ++ 10 ∷ []
+line_text l = spelt_text (spelt_line l)
 
 abbrev pub text_of : List Line → List ℕ
 text_of ls = flat_map line_text ls
@@ -48,10 +48,18 @@ somes ns = map (λ n. Some n) ns
 abbrev pub spelt : Stint → SpeltStint
 spelt s = record { worker = Some s.worker; steps = Some s.steps }
 
+-- the lines before the tables, as far as the workers' retries
+abbrev pub opening_lines : Shape → Policy → List Line
+opening_lines shape policy =
+    line.Version ∷ line.Header shape.form ∷ line.Workers (Some shape.workers) ∷ line.Tries (Some policy.tries) ∷ []
+
+-- the rest of the lines before the tables
+abbrev pub store_lines : Shape → Policy → List Line
+store_lines shape policy =
+    line.Tidy policy.tidy ∷ line.Start (Some shape.start) ∷ line.Overflow (Some shape.buckets) (Some shape.cells) ∷ []
+
 abbrev pub setting_lines : Shape → Policy → List Line
-setting_lines shape policy =
-    line.Version ∷ line.Header shape.form ∷ line.Workers (Some shape.workers) ∷ line.Tries (Some policy.tries)
-    ∷ line.Tidy policy.tidy ∷ line.Start (Some shape.start) ∷ line.Overflow (Some shape.buckets) (Some shape.cells) ∷ []
+setting_lines shape policy = opening_lines shape policy ++ store_lines shape policy
 
 abbrev pub table_line : Table → Line
 table_line t = line.Table t.name (Some t.width) (Some t.capacity) (Some t.ring)

@@ -1,6 +1,7 @@
 -- Lines of kinds that keep both laws.
 use Rattle.std.proofs.Common.{◌≡◌, ℕ, List, [], ◌∷◌, ◌++◌, append_assoc, Some, refl, sym, ap, ◌∙◌, subst}
-use Rattle.std.specs.List.{AllByRecursion}
+use Rattle.std.specs.List.{AllByRecursion, join_with_byte}
+use Rattle.std.proofs.lemmas.List.{append-nil}
 use Rattle.std.specs.Str.{bytes_eq}
 use Rattle.std.proofs.lemmas.Option.{same_Some}
 use Rattle.std.proofs.lemmas.Slice.Eq.{bytes_eq-Decides}
@@ -49,3 +50,8 @@ by_word_is spelt read takes again plain = record { again = again; only = first_t
 pub behind_both : (xs ys : List (List ℕ)) → behind_spaces (xs ++ ys) ≡ behind_spaces xs ++ behind_spaces ys
 behind_both [] ys = refl
 behind_both (x ∷ xs) ys = ap (λ (t : List ℕ). 32 ∷ (x ++ t)) (behind_both xs ys) ∙ sym (ap (λ (t : List ℕ). 32 ∷ t) (append_assoc x (behind_spaces xs) (behind_spaces ys)))
+
+-- fields parted by spaces are those behind spaces, but for the first
+pub parted : (f : List ℕ) (fs : List (List ℕ)) → join_with_byte 32 (f ∷ fs) ≡ f ++ behind_spaces fs
+parted f [] = sym (append-nil f)
+parted f (g ∷ fs) = ap (λ (t : List ℕ). f ++ 32 ∷ t) (parted g fs)

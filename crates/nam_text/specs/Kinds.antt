@@ -37,6 +37,10 @@ behind_spaces (f ∷ fs) = codes " " ++ f ++ behind_spaces fs
 abbrev pub text : Spelt → List ℕ
 text l = l.word ++ behind_spaces l.rest
 
+-- the same, ended by a newline
+abbrev pub line_text : Spelt → List ℕ
+line_text l = text l ++ codes "\n"
+
 -- the line of a kind, behind its first word
 abbrev pub line_at : {L : Type 0} → LineKind L → List (List ℕ) → Option L
 line_at k fs = k.rest.read fs >>= (λ x. Some (k.line x))

@@ -20,9 +20,9 @@ use Rattle.nam_text.specs.Spelling.{IsPlain, IsField, IsSpelling, among, some}
 use Rattle.nam_text.specs.Kinds.{of, fields, IsKind}
 use Rattle.nam_text.proofs.Takes.{if_then}
 use Rattle.nam_text.proofs.Again.{name_plain}
-use Rattle.nam_text.proofs.Spellings.{below_is, or_dash_is, choice_is, nothing_is, word_is, last_is, next_is, some_is, before_is, marked_is, dashed_is, mapped_is}
+use Rattle.nam_text.proofs.Spellings.{below_is, or_dash_is, choice_is, nothing_is, word_is, last_is, next_is, some_is, before_is, with_mark_is, or_lone_dash_is, through_is}
 use Rattle.nam_text.proofs.KindLemmas.{Takes, none_takes, or_takes, line_again, line_plain, by_word_is}
-use Rattle.nam_report.specs.Spelling.{u32, u64, table, value, lock_in, lock_parts, lock, move_end_word, move_end, collect_end_word, collect_end, finish_word, finish, commit, read_only, declined, no_space, spent, again, locked, newer, too_old, full, cut, left, spelt_outcome, outcome_of, outcome, attempt, no_room, move, Collect, collected, collect_again, collect_cut, spelt_collect, collect_of, collect_in, collect, tidy_cut, tail_cut, finished, spelt_event, event_of, item, lock_kind, history_kind, entry, worker, audit_kind, audit_row}
+use Rattle.nam_report.specs.Spelling.{u32, u64, table, value, lock_in, lock_parts, lock, move_end_word, move_end, collect_end_word, collect_end, finish_word, finish, commit_kind, read_only_kind, declined_kind, no_space_kind, spent_kind, again_kind, locked_kind, newer_kind, too_old_kind, full_kind, cut_kind, left_kind, spelt_outcome, outcome_of, outcome, attempt_kind, no_room_kind, move_kind, Collect, collect_done_kind, collect_again_kind, collect_cut_kind, spelt_collect, collect_of, collect_in, collect_kind, tidy_cut_kind, tail_cut_kind, medic_kind, spelt_event, event_of, item_kind, lock_kind, history_kind, entry_kind, worker_kind, audit_kind, audit_row_kind}
 
 -- ---- parts of lines
 
@@ -33,7 +33,8 @@ u64_is : IsField u64
 u64_is = below_is (2 ^ 64)
 
 -- the table that is found bears the name
-named_at : (name : List ℕ) (ts : List Table) (i t : ℕ) → position_from (λ u. bytes_eq u.name name) i ts ≡ Some t → (k : ℕ) × (t ≡ i + k) × (name_of ts k ≡ name)
+named_at : (name : List ℕ) (ts : List Table) (i t : ℕ) → position_from (λ u. bytes_eq u.name name) i ts ≡ Some t
+    → (k : ℕ) × (t ≡ i + k) × (name_of ts k ≡ name)
 named_at name [] i t e = absurd cc
 named_at name (u ∷ ts) i t e =
     if_then (bytes_eq u.name name) _ _ _ e
@@ -49,11 +50,14 @@ cond_none : {A : Type 0} (b : Bool) (o : Option A) (x : A) → cond b o None ≡
 cond_none true o x e = (refl, e)
 cond_none false o x e = absurd cc
 
-table_only : (tables : List Table) (f : List ℕ) (t : ℕ) → (table tables).read f ≡ Some t → (table tables).Fits t × (f ≡ name_of tables t)
+table_only : (tables : List Table) (f : List ℕ) (t : ℕ) → (table tables).read f ≡ Some t
+    → (table tables).Fits t × (f ≡ name_of tables t)
 table_only tables f t e =
     let h = cond_none (is_name f) (first_named f tables) t e in
-    let is = named tables f t h.1 in
-    ((subst (λ (x : List ℕ). is_name x ≡ true) is h.0, subst (λ (x : List ℕ). first_named x tables ≡ Some t) is h.1), is)
+    let is = named tables f t h.1 in (
+      (subst (λ (x : List ℕ). is_name x ≡ true) is h.0, subst (λ (x : List ℕ). first_named x tables ≡ Some t) is h.1),
+      is,
+    )
 
 table_is : (tables : List Table) → IsField (table tables)
 table_is tables = record {
@@ -67,10 +71,12 @@ unfolding some_read all_read number_of
 dash_is_none = refl
 
 value_is : IsSpelling value
-value_is = dashed_is (some_is 8 u64_is) dash_is_none
+value_is = or_lone_dash_is (some_is 8 u64_is) dash_is_none
 
 lock_is : (tables : List Table) → IsSpelling (lock tables)
-lock_is tables = mapped_is lock_in lock_parts (λ _. refl) (λ _. refl) (next_is (table_is tables) (next_is u64_is (next_is u32_is (last_is u64_is))))
+lock_is tables =
+    through_is lock_in lock_parts (λ _. refl) (λ _. refl)
+    (next_is (table_is tables) (next_is u64_is (next_is u32_is (last_is u64_is))))
 
 move_end_again : (x : MoveEnd) → among move_end_word (Done ∷ Back ∷ MoveCut ∷ []) (move_end_word x) ≡ Some x
 move_end_again Done = refl
@@ -111,58 +117,59 @@ finish_is = choice_is finish_word (Clean ∷ Undone ∷ RolledOn ∷ []) finish_
 
 -- ---- outcomes
 
-commit_is : (tables : List Table) → IsKind (spelt_outcome tables) commit
+commit_is : (tables : List Table) → IsKind (spelt_outcome tables) commit_kind
 unfolding spelt_outcome
 commit_is tables = record { rest = last_is u64_is; word = refl; is = λ _. refl }
 
-read_only_is : (tables : List Table) → IsKind (spelt_outcome tables) read_only
+read_only_is : (tables : List Table) → IsKind (spelt_outcome tables) read_only_kind
 unfolding spelt_outcome
 read_only_is tables = record { rest = nothing_is; word = refl; is = λ _. refl }
 
-declined_is : (tables : List Table) → IsKind (spelt_outcome tables) declined
+declined_is : (tables : List Table) → IsKind (spelt_outcome tables) declined_kind
 unfolding spelt_outcome
 declined_is tables = record { rest = last_is u32_is; word = refl; is = λ _. refl }
 
-no_space_is : (tables : List Table) → IsKind (spelt_outcome tables) (no_space tables)
+no_space_is : (tables : List Table) → IsKind (spelt_outcome tables) (no_space_kind tables)
 unfolding spelt_outcome
 no_space_is tables = record { rest = last_is (table_is tables); word = refl; is = λ _. refl }
 
-spent_is : (tables : List Table) → IsKind (spelt_outcome tables) spent
+spent_is : (tables : List Table) → IsKind (spelt_outcome tables) spent_kind
 unfolding spelt_outcome
 spent_is tables = record { rest = nothing_is; word = refl; is = λ _. refl }
 
-again_is : (tables : List Table) → IsKind (spelt_outcome tables) again
+again_is : (tables : List Table) → IsKind (spelt_outcome tables) again_kind
 unfolding spelt_outcome
 again_is tables = record { rest = next_is u32_is (next_is u64_is (last_is u64_is)); word = refl; is = λ _. refl }
 
-locked_is : (tables : List Table) → IsKind (spelt_outcome tables) (locked tables)
+locked_is : (tables : List Table) → IsKind (spelt_outcome tables) (locked_kind tables)
 unfolding spelt_outcome
 locked_is tables = record { rest = lock_is tables; word = refl; is = λ _. refl }
 
-newer_is : (tables : List Table) → IsKind (spelt_outcome tables) (newer tables)
+newer_is : (tables : List Table) → IsKind (spelt_outcome tables) (newer_kind tables)
 unfolding spelt_outcome
 newer_is tables = record { rest = lock_is tables; word = refl; is = λ _. refl }
 
-too_old_is : (tables : List Table) → IsKind (spelt_outcome tables) too_old
+too_old_is : (tables : List Table) → IsKind (spelt_outcome tables) too_old_kind
 unfolding spelt_outcome
 too_old_is tables = record { rest = next_is u32_is (next_is u64_is (last_is u64_is)); word = refl; is = λ _. refl }
 
-full_is : (tables : List Table) → IsKind (spelt_outcome tables) (full tables)
+full_is : (tables : List Table) → IsKind (spelt_outcome tables) (full_kind tables)
 unfolding spelt_outcome
 full_is tables = record { rest = lock_is tables; word = refl; is = λ _. refl }
 
-cut_is : (tables : List Table) → IsKind (spelt_outcome tables) cut
+cut_is : (tables : List Table) → IsKind (spelt_outcome tables) cut_kind
 unfolding spelt_outcome
 cut_is tables = record { rest = nothing_is; word = refl; is = λ _. refl }
 
-left_is : (tables : List Table) → IsKind (spelt_outcome tables) left
+left_is : (tables : List Table) → IsKind (spelt_outcome tables) left_kind
 unfolding spelt_outcome
 left_is tables = record { rest = nothing_is; word = refl; is = λ _. refl }
 
 outcome_takes : (tables : List Table) → Takes (spelt_outcome tables) (outcome_of tables)
 unfolding outcome_of
 outcome_takes tables =
-    or_takes (commit_is tables) (or_takes (read_only_is tables) (or_takes (declined_is tables) (or_takes (no_space_is tables)
+    or_takes (commit_is tables)
+    (or_takes (read_only_is tables) (or_takes (declined_is tables) (or_takes (no_space_is tables)
     (or_takes (spent_is tables) (or_takes (again_is tables) (or_takes (locked_is tables) (or_takes (newer_is tables)
     (or_takes (too_old_is tables) (or_takes (full_is tables) (or_takes (cut_is tables) (or_takes (left_is tables)
     (none_takes (spelt_outcome tables)))))))))))))
@@ -184,13 +191,18 @@ outcome_told tables (NoSpace t) fits =
 outcome_told tables Spent fits =
     record { again = line_again (spent_is tables) tt fits; plain = line_plain (spent_is tables) tt fits }
 outcome_told tables (Again j x y) fits =
-    record { again = line_again (again_is tables) (j, (x, y)) fits; plain = line_plain (again_is tables) (j, (x, y)) fits }
+    record
+    { again = line_again (again_is tables) (j, (x, y)) fits; plain = line_plain (again_is tables) (j, (x, y)) fits }
 outcome_told tables (Locked l) fits =
     record { again = line_again (locked_is tables) l fits; plain = line_plain (locked_is tables) l fits }
 outcome_told tables (Newer l) fits =
     record { again = line_again (newer_is tables) l fits; plain = line_plain (newer_is tables) l fits }
 outcome_told tables (TooOld j x y) fits =
-    record { again = line_again (too_old_is tables) (j, (x, y)) fits; plain = line_plain (too_old_is tables) (j, (x, y)) fits }
+    record {
+      again = line_again (too_old_is tables) (j, (x, y)) fits;
+      plain = line_plain (too_old_is tables) (j, (x, y))
+          fits;
+    }
 outcome_told tables (Full l) fits =
     record { again = line_again (full_is tables) l fits; plain = line_plain (full_is tables) l fits }
 outcome_told tables Cut fits =
@@ -209,7 +221,7 @@ dash_is_no_number : u64.read (codes "-") ≡ None
 unfolding number_of
 dash_is_no_number = refl
 
-attempt_is : (tables : List Table) → IsKind (spelt_event tables) (attempt tables)
+attempt_is : (tables : List Table) → IsKind (spelt_event tables) (attempt_kind tables)
 unfolding spelt_event
 attempt_is tables = record {
   rest =
@@ -219,32 +231,35 @@ attempt_is tables = record {
   is = λ _. refl;
 }
 
-no_room_is : (tables : List Table) → IsKind (spelt_event tables) no_room
+no_room_is : (tables : List Table) → IsKind (spelt_event tables) no_room_kind
 unfolding spelt_event
 no_room_is tables = record { rest = last_is u32_is; word = refl; is = λ _. refl }
 
-move_is : (tables : List Table) → IsKind (spelt_event tables) (move tables)
+move_is : (tables : List Table) → IsKind (spelt_event tables) (move_kind tables)
 unfolding spelt_event
 move_is tables = record {
-  rest = next_is u32_is (next_is (table_is tables) (next_is u64_is (next_is u32_is (next_is u64_is (last_is move_end_is)))));
+  rest = next_is u32_is
+      (next_is (table_is tables) (next_is u64_is (next_is u32_is (next_is u64_is (last_is move_end_is)))));
   word = refl;
   is = λ _. refl;
 }
 
-collected_is : IsKind spelt_collect collected
-collected_is = record { rest = next_is u64_is (before_is (some_is 16 u64_is) collect_end_is); word = refl; is = λ _. refl }
+collected_is : IsKind spelt_collect collect_done_kind
+collected_is =
+    record { rest = next_is u64_is (before_is (some_is 16 u64_is) collect_end_is); word = refl; is = λ _. refl }
 
-collect_again_is : IsKind spelt_collect collect_again
+collect_again_is : IsKind spelt_collect collect_again_kind
 collect_again_is = record { rest = next_is u32_is (next_is u64_is (last_is u64_is)); word = refl; is = λ _. refl }
 
-collect_cut_is : IsKind spelt_collect collect_cut
+collect_cut_is : IsKind spelt_collect collect_cut_kind
 collect_cut_is = record { rest = nothing_is; word = refl; is = λ _. refl }
 
 collect_takes : Takes spelt_collect collect_of
 unfolding collect_of
 collect_takes = or_takes collected_is (or_takes collect_again_is (or_takes collect_cut_is (none_takes spelt_collect)))
 
-collect_reads : (x : Collect) → (spelt_collect x).Fits → collect_of (spelt_collect x).word (spelt_collect x).rest ≡ Some x
+collect_reads : (x : Collect) → (spelt_collect x).Fits
+    → collect_of (spelt_collect x).word (spelt_collect x).rest ≡ Some x
 unfolding collect_of
 collect_reads (inl x) fits = line_again collected_is x fits
 collect_reads (inr (inl x)) fits = line_again collect_again_is x fits
@@ -255,28 +270,35 @@ collect_plain (inl x) fits = line_plain collected_is x fits
 collect_plain (inr (inl x)) fits = line_plain collect_again_is x fits
 collect_plain (inr (inr x)) fits = line_plain collect_cut_is x fits
 
-collect_made : (tables : List Table) (b : ℕ) (x : Collect) → spelt_event tables (collect_in b x) ≡ of collect (b, x)
+collect_made : (tables : List Table) (b : ℕ) (x : Collect)
+    → spelt_event tables (collect_in b x) ≡ of collect_kind (b, x)
 unfolding spelt_event
 collect_made tables b (inl x) = refl
 collect_made tables b (inr (inl x)) = refl
 collect_made tables b (inr (inr x)) = refl
 
-collect_is : (tables : List Table) → IsKind (spelt_event tables) collect
+collect_is : (tables : List Table) → IsKind (spelt_event tables) collect_kind
 collect_is tables = record {
   rest = next_is u32_is (by_word_is spelt_collect collect_of collect_takes collect_reads collect_plain);
   word = refl;
   is = λ x. collect_made tables x.0 x.1;
 }
 
-tidy_cut_is : (tables : List Table) → IsKind (spelt_event tables) (tidy_cut tables)
+tidy_cut_is : (tables : List Table) → IsKind (spelt_event tables) (tidy_cut_kind tables)
 unfolding spelt_event
-tidy_cut_is tables = record { rest = next_is (table_is tables) (next_is u64_is (word_is (codes "cut") refl nothing_is)); word = refl; is = λ _. refl }
+tidy_cut_is tables =
+    record {
+      rest = next_is (table_is tables) (next_is u64_is (word_is (codes "cut") refl nothing_is));
+      word = refl;
+      is
+          = λ _. refl;
+    }
 
-tail_cut_is : (tables : List Table) → IsKind (spelt_event tables) tail_cut
+tail_cut_is : (tables : List Table) → IsKind (spelt_event tables) tail_cut_kind
 unfolding spelt_event
 tail_cut_is tables = record { rest = word_is (codes "cut") refl nothing_is; word = refl; is = λ _. refl }
 
-finished_is : (tables : List Table) → IsKind (spelt_event tables) finished
+finished_is : (tables : List Table) → IsKind (spelt_event tables) medic_kind
 unfolding spelt_event
 finished_is tables = record { rest = last_is finish_is; word = refl; is = λ _. refl }
 
@@ -294,13 +316,16 @@ bare (Tried a) = Tried (record a { reads = 0; locks = 0; writes = 0 })
 bare e = e
 
 -- what is spelt as an event is read, without the counts of the lines that it owns
-pub event_again : (tables : List Table) (e : Event) → (spelt_event tables e).Fits → event_of tables (spelt_event tables e).word (spelt_event tables e).rest ≡ Some (bare e)
+pub event_again : (tables : List Table) (e : Event) → (spelt_event tables e).Fits
+    → event_of tables (spelt_event tables e).word (spelt_event tables e).rest ≡ Some (bare e)
 unfolding event_of spelt_event
 event_again tables (Tried a) fits = line_again (attempt_is tables) (a.txn, (a.nth, (a.prefix, a.outcome))) fits
 event_again tables (NoRoom b) fits = line_again (no_room_is tables) b fits
-event_again tables (Moved b t k stamp how) fits = line_again (move_is tables) (b, (t, (k, (stamp.thread, (stamp.number, how))))) fits
+event_again tables (Moved b t k stamp how) fits =
+    line_again (move_is tables) (b, (t, (k, (stamp.thread, (stamp.number, how))))) fits
 event_again tables (Collected b p entries cut) fits = line_again (collect_is tables) (b, inl (p, (entries, cut))) fits
-event_again tables (CollectAgain b j first second) fits = line_again (collect_is tables) (b, inr (inl (j, (first, second)))) fits
+event_again tables (CollectAgain b j first second) fits =
+    line_again (collect_is tables) (b, inr (inl (j, (first, second)))) fits
 event_again tables (CollectCut b) fits = line_again (collect_is tables) (b, inr (inr tt)) fits
 event_again tables (TidyCut t k) fits = line_again (tidy_cut_is tables) (t, (k, tt)) fits
 event_again tables TailCut fits = line_again (tail_cut_is tables) tt fits
@@ -308,13 +333,13 @@ event_again tables (Finished how) fits = line_again (finished_is tables) how fit
 
 -- ---- the other lines
 
-pub item_is : (tables : List Table) (letter : List ℕ) → IsSpelling (item tables letter).rest
+pub item_is : (tables : List Table) (letter : List ℕ) → IsSpelling (item_kind tables letter).rest
 item_is tables letter = next_is (table_is tables) (next_is u64_is value_is)
 
-pub entry_is : IsSpelling entry.rest
+pub entry_is : IsSpelling entry_kind.rest
 entry_is =
     next_is u64_is (word_is (codes "worker") refl (next_is u32_is (word_is (codes "number") refl (next_is u64_is
     (word_is (codes "prefix") refl (next_is u64_is (word_is (codes "txn") refl (last_is u32_is))))))))
 
-pub worker_is : IsSpelling worker.rest
+pub worker_is : IsSpelling worker_kind.rest
 worker_is = next_is u64_is (word_is (codes "events") refl (last_is u64_is))

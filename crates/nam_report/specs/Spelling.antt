@@ -16,7 +16,7 @@ use Rattle.si_model.specs.declared.report.AuditRow.{AuditRow}
 use Rattle.nam_catalog.specs.declared.shape.Table.{Table}
 use Rattle.nam_catalog.specs.Tables.{name_of, first_named}
 use Rattle.nam_text.specs.Token.{is_name}
-use Rattle.nam_text.specs.Spelling.{Field, Spelling, below, or_dash, choice, nothing, word, last, next, some, before, marked, dashed, mapped}
+use Rattle.nam_text.specs.Spelling.{Field, Spelling, below, or_dash, choice, nothing, word, last, next, some, before, with_mark, or_lone_dash, through}
 use Rattle.nam_text.specs.Kinds.{LineKind, kind, Spelt, of, Reader, no_line, or, by_word}
 
 -- ---- parts of lines
@@ -38,7 +38,7 @@ table tables = record {
 
 -- the words of a value, or a dash where it is absent
 abbrev pub value : Spelling (Option (List ℕ))
-value = dashed (some 8 u64)
+value = or_lone_dash (some 8 u64)
 
 abbrev pub lock_in : ℕ × (ℕ × (ℕ × ℕ)) → Lock
 lock_in (t, (k, (thread, number))) = record { table = t; key = k; stamp = record { thread = thread; number = number } }
@@ -48,7 +48,7 @@ lock_parts l = (l.table, (l.key, (l.stamp.thread, l.stamp.number)))
 
 -- a record and its stamp
 abbrev pub lock : List Table → Spelling Lock
-lock tables = mapped lock_in lock_parts (next (table tables) (next u64 (next u32 (last u64))))
+lock tables = through lock_in lock_parts (next (table tables) (next u64 (next u32 (last u64))))
 
 abbrev pub move_end_word : MoveEnd → List ℕ
 move_end_word Done = codes "done"
@@ -76,60 +76,61 @@ finish = choice finish_word (Clean ∷ Undone ∷ RolledOn ∷ [])
 
 -- ---- outcomes
 
-abbrev pub commit : LineKind Outcome
-commit = kind (codes "commit") (last u64) (λ number. Commit number)
+abbrev pub commit_kind : LineKind Outcome
+commit_kind = kind (codes "commit") (last u64) (λ number. Commit number)
 
-abbrev pub read_only : LineKind Outcome
-read_only = kind (codes "read") nothing (λ _. ReadOnly)
+abbrev pub read_only_kind : LineKind Outcome
+read_only_kind = kind (codes "read") nothing (λ _. ReadOnly)
 
-abbrev pub declined : LineKind Outcome
-declined = kind (codes "declined") (last u32) (λ op. Declined op)
+abbrev pub declined_kind : LineKind Outcome
+declined_kind = kind (codes "declined") (last u32) (λ op. Declined op)
 
-abbrev pub no_space : List Table → LineKind Outcome
-no_space tables = kind (codes "nospace") (last (table tables)) (λ t. NoSpace t)
+abbrev pub no_space_kind : List Table → LineKind Outcome
+no_space_kind tables = kind (codes "nospace") (last (table tables)) (λ t. NoSpace t)
 
-abbrev pub spent : LineKind Outcome
-spent = kind (codes "spent") nothing (λ _. Spent)
+abbrev pub spent_kind : LineKind Outcome
+spent_kind = kind (codes "spent") nothing (λ _. Spent)
 
-abbrev pub again : LineKind Outcome
-again = kind (codes "again") (next u32 (next u64 (last u64))) (λ (j, (first, second)). Again j first second)
+abbrev pub again_kind : LineKind Outcome
+again_kind = kind (codes "again") (next u32 (next u64 (last u64))) (λ (j, (first, second)). Again j first second)
 
-abbrev pub locked : List Table → LineKind Outcome
-locked tables = kind (codes "locked") (lock tables) (λ l. Locked l)
+abbrev pub locked_kind : List Table → LineKind Outcome
+locked_kind tables = kind (codes "locked") (lock tables) (λ l. Locked l)
 
-abbrev pub newer : List Table → LineKind Outcome
-newer tables = kind (codes "newer") (lock tables) (λ l. Newer l)
+abbrev pub newer_kind : List Table → LineKind Outcome
+newer_kind tables = kind (codes "newer") (lock tables) (λ l. Newer l)
 
-abbrev pub too_old : LineKind Outcome
-too_old = kind (codes "old") (next u32 (next u64 (last u64))) (λ (j, (entry, horizon)). TooOld j entry horizon)
+abbrev pub too_old_kind : LineKind Outcome
+too_old_kind = kind (codes "old") (next u32 (next u64 (last u64))) (λ (j, (entry, horizon)). TooOld j entry horizon)
 
-abbrev pub full : List Table → LineKind Outcome
-full tables = kind (codes "full") (lock tables) (λ l. Full l)
+abbrev pub full_kind : List Table → LineKind Outcome
+full_kind tables = kind (codes "full") (lock tables) (λ l. Full l)
 
-abbrev pub cut : LineKind Outcome
-cut = kind (codes "cut") nothing (λ _. Cut)
+abbrev pub cut_kind : LineKind Outcome
+cut_kind = kind (codes "cut") nothing (λ _. Cut)
 
-abbrev pub left : LineKind Outcome
-left = kind (codes "left") nothing (λ _. Left)
+abbrev pub left_kind : LineKind Outcome
+left_kind = kind (codes "left") nothing (λ _. Left)
 
 unfoldable pub spelt_outcome : List Table → Outcome → Spelt
-spelt_outcome tables (Commit number) = of commit number
-spelt_outcome tables ReadOnly = of read_only tt
-spelt_outcome tables (Declined op) = of declined op
-spelt_outcome tables (NoSpace t) = of (no_space tables) t
-spelt_outcome tables Spent = of spent tt
-spelt_outcome tables (Again j first second) = of again (j, (first, second))
-spelt_outcome tables (Locked l) = of (locked tables) l
-spelt_outcome tables (Newer l) = of (newer tables) l
-spelt_outcome tables (TooOld j entry horizon) = of too_old (j, (entry, horizon))
-spelt_outcome tables (Full l) = of (full tables) l
-spelt_outcome tables Cut = of cut tt
-spelt_outcome tables Left = of left tt
+spelt_outcome tables (Commit number) = of commit_kind number
+spelt_outcome tables ReadOnly = of read_only_kind tt
+spelt_outcome tables (Declined op) = of declined_kind op
+spelt_outcome tables (NoSpace t) = of (no_space_kind tables) t
+spelt_outcome tables Spent = of spent_kind tt
+spelt_outcome tables (Again j first second) = of again_kind (j, (first, second))
+spelt_outcome tables (Locked l) = of (locked_kind tables) l
+spelt_outcome tables (Newer l) = of (newer_kind tables) l
+spelt_outcome tables (TooOld j entry horizon) = of too_old_kind (j, (entry, horizon))
+spelt_outcome tables (Full l) = of (full_kind tables) l
+spelt_outcome tables Cut = of cut_kind tt
+spelt_outcome tables Left = of left_kind tt
 
 unfoldable pub outcome_of : List Table → Reader Outcome
 outcome_of tables =
-    or commit (or read_only (or declined (or (no_space tables) (or spent (or again (or (locked tables)
-    (or (newer tables) (or too_old (or (full tables) (or cut (or left no_line)))))))))))
+    or commit_kind (or read_only_kind
+    (or declined_kind (or (no_space_kind tables) (or spent_kind (or again_kind (or (locked_kind tables)
+    (or (newer_kind tables) (or too_old_kind (or (full_kind tables) (or cut_kind (or left_kind no_line)))))))))))
 
 abbrev pub outcome : List Table → Spelling Outcome
 outcome tables = by_word (spelt_outcome tables) (outcome_of tables)
@@ -137,18 +138,18 @@ outcome tables = by_word (spelt_outcome tables) (outcome_of tables)
 -- ---- events
 
 -- an attempt, whose reads, locks and writes are counted elsewhere
-abbrev pub attempt : List Table → LineKind Event
-attempt tables =
+abbrev pub attempt_kind : List Table → LineKind Event
+attempt_kind tables =
     kind (codes "t")
     (next u32 (word (codes "try") (next u32 (word (codes "prefix") (next (or_dash u64) (outcome tables))))))
     (λ (txn, (nth, (prefix, outcome))).
-        Tried (record { txn = txn; nth = nth; prefix = prefix; reads = 0; locks = 0; writes = 0; outcome = outcome }))
+    Tried (record { txn = txn; nth = nth; prefix = prefix; reads = 0; locks = 0; writes = 0; outcome = outcome }))
 
-abbrev pub no_room : LineKind Event
-no_room = kind (codes "noroom") (last u32) (λ b. NoRoom b)
+abbrev pub no_room_kind : LineKind Event
+no_room_kind = kind (codes "noroom") (last u32) (λ b. NoRoom b)
 
-abbrev pub move : List Table → LineKind Event
-move tables =
+abbrev pub move_kind : List Table → LineKind Event
+move_kind tables =
     kind (codes "move") (next u32 (next (table tables) (next u64 (next u32 (next u64 (last move_end))))))
     (λ (b, (t, (k, (thread, (number, how))))). Moved b t k (record { thread = thread; number = number }) how)
 
@@ -156,62 +157,63 @@ move tables =
 abbrev pub Collect : Type 0
 Collect = (ℕ × (List ℕ × Bool)) ⊎ ((ℕ × (ℕ × ℕ)) ⊎ Unit {0})
 
-abbrev pub collected : LineKind Collect
-collected = kind (codes "prefix") (next u64 (before (some 16 u64) collect_end)) (λ x. inl x)
+abbrev pub collect_done_kind : LineKind Collect
+collect_done_kind = kind (codes "prefix") (next u64 (before (some 16 u64) collect_end)) (λ x. inl x)
 
-abbrev pub collect_again : LineKind Collect
-collect_again = kind (codes "again") (next u32 (next u64 (last u64))) (λ x. inr (inl x))
+abbrev pub collect_again_kind : LineKind Collect
+collect_again_kind = kind (codes "again") (next u32 (next u64 (last u64))) (λ x. inr (inl x))
 
-abbrev pub collect_cut : LineKind Collect
-collect_cut = kind (codes "cut") nothing (λ x. inr (inr x))
+abbrev pub collect_cut_kind : LineKind Collect
+collect_cut_kind = kind (codes "cut") nothing (λ x. inr (inr x))
 
 abbrev pub spelt_collect : Collect → Spelt
-spelt_collect (inl x) = of collected x
-spelt_collect (inr (inl x)) = of collect_again x
-spelt_collect (inr (inr x)) = of collect_cut x
+spelt_collect (inl x) = of collect_done_kind x
+spelt_collect (inr (inl x)) = of collect_again_kind x
+spelt_collect (inr (inr x)) = of collect_cut_kind x
 
 unfoldable pub collect_of : Reader Collect
-collect_of = or collected (or collect_again (or collect_cut no_line))
+collect_of = or collect_done_kind (or collect_again_kind (or collect_cut_kind no_line))
 
 abbrev pub collect_in : ℕ → Collect → Event
 collect_in b (inl (p, (entries, cut))) = Collected b p entries cut
 collect_in b (inr (inl (j, (first, second)))) = CollectAgain b j first second
 collect_in b (inr (inr x)) = CollectCut b
 
-abbrev pub collect : LineKind Event
-collect = kind (codes "collect") (next u32 (by_word spelt_collect collect_of)) (λ (b, x). collect_in b x)
+abbrev pub collect_kind : LineKind Event
+collect_kind = kind (codes "collect") (next u32 (by_word spelt_collect collect_of)) (λ (b, x). collect_in b x)
 
-abbrev pub tidy_cut : List Table → LineKind Event
-tidy_cut tables =
+abbrev pub tidy_cut_kind : List Table → LineKind Event
+tidy_cut_kind tables =
     kind (codes "tidy") (next (table tables) (next u64 (word (codes "cut") nothing))) (λ (t, (k, x)). TidyCut t k)
 
-abbrev pub tail_cut : LineKind Event
-tail_cut = kind (codes "tail") (word (codes "cut") nothing) (λ _. TailCut)
+abbrev pub tail_cut_kind : LineKind Event
+tail_cut_kind = kind (codes "tail") (word (codes "cut") nothing) (λ _. TailCut)
 
-abbrev pub finished : LineKind Event
-finished = kind (codes "medic") (last finish) (λ how. Finished how)
+abbrev pub medic_kind : LineKind Event
+medic_kind = kind (codes "medic") (last finish) (λ how. Finished how)
 
 unfoldable pub spelt_event : List Table → Event → Spelt
-spelt_event tables (Tried a) = of (attempt tables) (a.txn, (a.nth, (a.prefix, a.outcome)))
-spelt_event tables (NoRoom b) = of no_room b
-spelt_event tables (Moved b t k stamp how) = of (move tables) (b, (t, (k, (stamp.thread, (stamp.number, how)))))
-spelt_event tables (Collected b p entries cut) = of collect (b, inl (p, (entries, cut)))
-spelt_event tables (CollectAgain b j first second) = of collect (b, inr (inl (j, (first, second))))
-spelt_event tables (CollectCut b) = of collect (b, inr (inr tt))
-spelt_event tables (TidyCut t k) = of (tidy_cut tables) (t, (k, tt))
-spelt_event tables TailCut = of tail_cut tt
-spelt_event tables (Finished how) = of finished how
+spelt_event tables (Tried a) = of (attempt_kind tables) (a.txn, (a.nth, (a.prefix, a.outcome)))
+spelt_event tables (NoRoom b) = of no_room_kind b
+spelt_event tables (Moved b t k stamp how) = of (move_kind tables) (b, (t, (k, (stamp.thread, (stamp.number, how)))))
+spelt_event tables (Collected b p entries cut) = of collect_kind (b, inl (p, (entries, cut)))
+spelt_event tables (CollectAgain b j first second) = of collect_kind (b, inr (inl (j, (first, second))))
+spelt_event tables (CollectCut b) = of collect_kind (b, inr (inr tt))
+spelt_event tables (TidyCut t k) = of (tidy_cut_kind tables) (t, (k, tt))
+spelt_event tables TailCut = of tail_cut_kind tt
+spelt_event tables (Finished how) = of medic_kind how
 
 unfoldable pub event_of : List Table → Reader Event
 event_of tables =
-    or (attempt tables) (or no_room (or (move tables) (or collect (or (tidy_cut tables) (or tail_cut
-    (or finished no_line))))))
+    or (attempt_kind tables)
+    (or no_room_kind (or (move_kind tables) (or collect_kind (or (tidy_cut_kind tables) (or tail_cut_kind
+    (or medic_kind no_line))))))
 
 -- ---- the other lines
 
 -- an item, behind the letter of its kind
-abbrev pub item : List Table → List ℕ → LineKind Item
-item tables letter =
+abbrev pub item_kind : List Table → List ℕ → LineKind Item
+item_kind tables letter =
     kind letter (next (table tables) (next u64 value)) (λ (t, (k, v)). record { table = t; key = k; value = v })
 
 abbrev pub lock_kind : List Table → LineKind Lock
@@ -222,22 +224,22 @@ abbrev pub history_kind : LineKind ℕ
 history_kind = kind (codes "history") (last u64) (λ n. n)
 
 -- an entry by its place, whose write set is told elsewhere
-abbrev pub entry : LineKind (ℕ × CommitLine)
-entry =
+abbrev pub entry_kind : LineKind (ℕ × CommitLine)
+entry_kind =
     kind (codes "c")
     (next u64 (word (codes "worker") (next u32 (word (codes "number") (next u64 (word (codes "prefix")
     (next u64 (word (codes "txn") (last u32)))))))))
     (λ (q, (worker, (number, (prefix, txn)))).
-        (q, record { worker = worker; number = number; prefix = prefix; txn = txn; writes = [] }))
+    (q, record { worker = worker; number = number; prefix = prefix; txn = txn; writes = [] }))
 
 -- a worker and the number of its events
-abbrev pub worker : LineKind (ℕ × ℕ)
-worker = kind (codes "worker") (next u64 (word (codes "events") (last u64))) (λ x. x)
+abbrev pub worker_kind : LineKind (ℕ × ℕ)
+worker_kind = kind (codes "worker") (next u64 (word (codes "events") (last u64))) (λ x. x)
 
 abbrev pub audit_kind : LineKind ℕ
 audit_kind = kind (codes "audit") (last u64) (λ n. n)
 
-abbrev pub audit_row : List Table → LineKind AuditRow
-audit_row tables =
-    kind (codes "a") (next (table tables) (next u64 (marked (codes "locked") value)))
+abbrev pub audit_row_kind : List Table → LineKind AuditRow
+audit_row_kind tables =
+    kind (codes "a") (next (table tables) (next u64 (with_mark (codes "locked") value)))
     (λ (t, (k, (v, b))). record { table = t; key = k; value = v; locked = b })

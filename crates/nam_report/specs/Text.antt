@@ -16,7 +16,7 @@ use Rattle.si_model.specs.declared.report.Report.{Report}
 use Rattle.nam_catalog.specs.declared.shape.Table.{Table}
 use Rattle.nam_catalog.specs.Tables.{name_of}
 use Rattle.nam_text.specs.Kinds.{of, behind_spaces, text, line_text}
-use Rattle.nam_report.specs.Spelling.{lock, spelt_outcome, attempt, move, collect, tidy_cut, item, lock_kind, spelt_event, history_kind, entry, worker, audit_kind, audit_row}
+use Rattle.nam_report.specs.Spelling.{lock, spelt_outcome, attempt_kind, move_kind, collect_kind, tidy_cut_kind, item_kind, lock_kind, spelt_event, history_kind, entry_kind, worker_kind, audit_kind, audit_row_kind}
 
 -- a key: the name of its table and its number, each behind a space
 abbrev pub key_text : List Table → ℕ → ℕ → List ℕ
@@ -28,7 +28,7 @@ lock_text tables l = behind_spaces ((lock tables).fields l)
 
 -- the line of an item, behind the letter of its kind
 abbrev pub item_line : List Table → List ℕ → Item → List ℕ
-item_line tables letter i = line_text (of (item tables letter) (i.table, (i.key, i.value)))
+item_line tables letter i = line_text (of (item_kind tables letter) (i.table, (i.key, i.value)))
 
 abbrev pub items_text : List Table → List ℕ → List Item → List ℕ
 items_text tables letter [] = []
@@ -46,16 +46,17 @@ abbrev pub outcome_text : List Table → Outcome → List ℕ
 outcome_text tables o = text (spelt_outcome tables o)
 
 abbrev pub attempt_line : List Table → Attempt → List ℕ
-attempt_line tables a = line_text (of (attempt tables) (a.txn, (a.nth, (a.prefix, a.outcome))))
+attempt_line tables a = line_text (of (attempt_kind tables) (a.txn, (a.nth, (a.prefix, a.outcome))))
 
 abbrev pub move_line : List Table → ℕ → Lock → MoveEnd → List ℕ
-move_line tables b l how = line_text (of (move tables) (b, (l.table, (l.key, (l.stamp.thread, (l.stamp.number, how))))))
+move_line tables b l how =
+    line_text (of (move_kind tables) (b, (l.table, (l.key, (l.stamp.thread, (l.stamp.number, how))))))
 
 abbrev pub collect_line : ℕ → ℕ → List ℕ → Bool → List ℕ
-collect_line b p entries cut = line_text (of collect (b, inl (p, (entries, cut))))
+collect_line b p entries cut = line_text (of collect_kind (b, inl (p, (entries, cut))))
 
 abbrev pub tidy_cut_line : List Table → ℕ → ℕ → List ℕ
-tidy_cut_line tables t k = line_text (of (tidy_cut tables) (t, (k, tt)))
+tidy_cut_line tables t k = line_text (of (tidy_cut_kind tables) (t, (k, tt)))
 
 abbrev pub event_line : List Table → Event → List ℕ
 event_line tables e = line_text (spelt_event tables e)
@@ -95,18 +96,18 @@ events_text tables (e ∷ es) reads locks =
     event_text tables e (take (reads_of e) reads) (take (locks_of e) locks)
     ++ events_text tables es (drop (reads_of e) reads) (drop (locks_of e) locks)
 
--- the log of worker j
+-- the log of worker_kind j
 abbrev pub log_text : List Table → ℕ → Log → List ℕ
 log_text tables j l =
-    line_text (of worker (j, length l.events)) ++ events_text tables l.events l.reads l.locks
+    line_text (of worker_kind (j, length l.events)) ++ events_text tables l.events l.reads l.locks
 
--- the logs of worker j and those after it
+-- the logs of worker_kind j and those after it
 abbrev pub logs_text : List Table → ℕ → List Log → List ℕ
 logs_text tables j [] = []
 logs_text tables j (l ∷ ls) = log_text tables j l ++ logs_text tables (j + 1) ls
 
 abbrev pub commit_line : ℕ → CommitLine → List ℕ
-commit_line q c = line_text (of entry (q, (c.worker, (c.number, (c.prefix, c.txn)))))
+commit_line q c = line_text (of entry_kind (q, (c.worker, (c.number, (c.prefix, c.txn)))))
 
 -- entry q of a history, and its write set
 abbrev pub entry_text : List Table → ℕ → CommitLine → List ℕ
@@ -118,7 +119,7 @@ entries_text tables q [] = []
 entries_text tables q (c ∷ cs) = entry_text tables q c ++ entries_text tables (q + 1) cs
 
 abbrev pub audit_line : List Table → AuditRow → List ℕ
-audit_line tables a = line_text (of (audit_row tables) (a.table, (a.key, (a.value, a.locked))))
+audit_line tables a = line_text (of (audit_row_kind tables) (a.table, (a.key, (a.value, a.locked))))
 
 abbrev pub audit_rows_text : List Table → List AuditRow → List ℕ
 audit_rows_text tables [] = []
@@ -132,4 +133,5 @@ audit_text tables audit = line_text (of audit_kind (length audit)) ++ audit_rows
 
 abbrev pub report_text : List Table → Report → List ℕ
 report_text tables r =
-    codes "report 1\n" ++ history_text tables r.history ++ logs_text tables 1 r.logs ++ audit_text tables r.audit ++ codes "end\n"
+    codes "report 1\n" ++ history_text tables r.history ++ logs_text tables 1 r.logs ++ audit_text tables r.audit ++
+    codes "end\n"

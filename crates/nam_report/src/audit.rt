@@ -14,7 +14,8 @@ use std::fmt::Write;
 
 /// Appends the mark of a row that was found locked.
 fn push_mark(out: &mut String, locked: bool) -> Result<(), AllocError>
-    ensures { OnOk result (string_bytes out.new ≡ string_bytes out.old ++ behind_spaces (mark (codes "locked") locked)) }
+    ensures { OnOk result
+        (string_bytes out.new ≡ string_bytes out.old ++ behind_spaces (mark (codes "locked") locked)) }
 {
     if locked {
         out.push_str(" locked")?;

@@ -145,7 +145,8 @@ pub fn push_event(
     reads: &[Item],
     locks: &[Lock],
 ) -> Result<(), AllocError>
-    ensures { OnOk result (string_bytes out.new ≡ string_bytes out.old ++ event_text tables.now event.now reads.now locks.now) }
+    ensures { OnOk result
+        (string_bytes out.new ≡ string_bytes out.old ++ event_text tables.now event.now reads.now locks.now) }
 {
     push_line(out, tables, event)?;
     push_items(out, tables, "r", reads)?;

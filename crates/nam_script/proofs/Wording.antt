@@ -36,7 +36,8 @@ txn_is ts x =
     ∙ ap (λ (t : List ℕ). flat_map (op_text ts) x.ops ++ t) (append-nil (line_text line.End)))
     ∙ sym (append_assoc start (flat_map (op_text ts) x.ops) (line_text line.End))
 
-pub txns_are : (ts : List Table) (xs : List ScriptTxn) → text_of (flat_map (txn_lines ts) xs) ≡ flat_map (txn_text ts) xs
+pub txns_are : (ts : List Table) (xs : List ScriptTxn)
+    → text_of (flat_map (txn_lines ts) xs) ≡ flat_map (txn_text ts) xs
 txns_are ts [] = refl
 txns_are ts (x ∷ xs) =
     flat_map-append line_text (txn_lines ts x) (flat_map (txn_lines ts) xs) ∙ rw (txn_is ts x, txns_are ts xs) refl

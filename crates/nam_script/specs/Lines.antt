@@ -39,8 +39,8 @@ is_zero None = false
 is_zero (Some n) = n == 0
 
 -- a sign and a number; -0 isn't one
-abbrev pub signed : ℕ → Option ℕ → Option Change
-signed sign n =
+abbrev pub change_by : ℕ → Option ℕ → Option Change
+change_by sign n =
     if sign == 43 then Some (record { up = true; by = n })
     else if sign == 45 then (if is_zero n then None else Some (record { up = false; by = n }))
     else None
@@ -49,7 +49,7 @@ unfoldable pub change_of : List ℕ → Option Change
 change_of [] = None
 change_of (sign ∷ digits) = do
   n ← number_of digits
-  signed sign n
+  change_by sign n
 
 -- a change by 0 has the sign +
 abbrev pub FitsChange : Change → Type 0
@@ -110,7 +110,8 @@ overflow_line = kind (codes "overflow") (next number (last number)) (λ (b, c). 
 abbrev pub table_line : LineKind Line
 table_line =
     kind (codes "table")
-    (next name (word (codes "width") (next number (word (codes "capacity") (next number (word (codes "ring") (last number)))))))
+    (next name (word (codes "width")
+    (next number (word (codes "capacity") (next number (word (codes "ring") (last number)))))))
     (λ (t, (w, (k, r))). Table t w k r)
 
 abbrev pub row_line : LineKind Line

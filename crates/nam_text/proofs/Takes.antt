@@ -15,12 +15,14 @@ use Rattle.nam_text.specs.Spelling.{FitsWord, IsWord}
 use Rattle.nam_text.proofs.Tokens.{numerals}
 
 -- what follows from a step and from what comes after it
-pub bind_then : {A B P : Type 0} (o : Option A) (f : A → Option B) (y : B) → (o >>= f) ≡ Some y → ((x : A) → o ≡ Some x → f x ≡ Some y → P) → P
+pub bind_then : {A B P : Type 0} (o : Option A) (f : A → Option B) (y : B) → (o >>= f) ≡ Some y
+    → ((x : A) → o ≡ Some x → f x ≡ Some y → P) → P
 bind_then (Some x) f y e p = p x refl e
 bind_then None f y e p = absurd cc
 
 -- what follows from a choice, whichever way its test went
-pub if_then : {A P : Type 0} (b : Bool) (x y z : A) → cond b x y ≡ z → (b ≡ true → x ≡ z → P) → (b ≡ false → y ≡ z → P) → P
+pub if_then : {A P : Type 0} (b : Bool) (x y z : A) → cond b x y ≡ z → (b ≡ true → x ≡ z → P) → (b ≡ false → y ≡ z → P)
+    → P
 if_then true x y z e p q = p refl e
 if_then false x y z e p q = q refl e
 
@@ -31,13 +33,16 @@ word_takes w (f ∷ fs) rest e =
     let same : f ≡ w = (bytes_eq-Decides f w).0 h.0 in
     rw (same, h.1) refl
 
-is_value : (f : List ℕ) (n : ℕ) → cond (ltb (digits_value 10 f) (2 ^ 64)) (Some (digits_value 10 f)) None ≡ Some n → (digits_value 10 f < 2 ^ 64) × (digits_value 10 f ≡ n)
+is_value : (f : List ℕ) (n : ℕ) → cond (ltb (digits_value 10 f) (2 ^ 64)) (Some (digits_value 10 f)) None ≡ Some n
+    → (digits_value 10 f < 2 ^ 64) × (digits_value 10 f ≡ n)
 is_value f n e = let h = cond_some (ltb (digits_value 10 f) (2 ^ 64)) (digits_value 10 f) n e in (ltb-true _ _ h.0, h.1)
 
 -- the lengths that `is_number` asks for
-shape : (f : List ℕ) → cond (eqb (get_or f 0 0) 48) (eqb (length f) 1) (ltb 0 (length f)) ≡ true → (0 < length f) × (get_or f 0 0 ≡ 48 → length f ≡ 1)
+shape : (f : List ℕ) → cond (eqb (get_or f 0 0) 48) (eqb (length f) 1) (ltb 0 (length f)) ≡ true
+    → (0 < length f) × (get_or f 0 0 ≡ 48 → length f ≡ 1)
 shape f e = elim (cases_eq (get_or f 0 0) 48) [
-  | inl is_zero ↦ (let one : length f ≡ 1 = eqb-true _ _ (sym (cond-true _ _ _ (eq-eqb _ _ is_zero)) ∙ e) in (omega arith, λ _. one))
+  | inl is_zero ↦ (let one : length f ≡ 1 = eqb-true _ _ (sym (cond-true _ _ _ (eq-eqb _ _ is_zero)) ∙ e) in
+      (omega arith, λ _. one))
   | inr other ↦ (ltb-true _ _ (sym (cond-false _ _ _ (ne_eqb _ _ other)) ∙ e), λ h. absurd (other h))
 ]
 
@@ -48,5 +53,8 @@ number_takes f (Some n) e small =
     let h = cond_some (is_number f) (number_value f) (Some n) e in
     let parts = and_parts (list_all is_ascii_digit f) _ h.0 in
     let fits = shape f parts.1 in
-    let v = is_value f n h.1 in
-    (subst (λ (m : ℕ). m < 2 ^ 64) v.1 v.0, sym (decimal-digits_value numerals f parts.0 fits.0 fits.1 v.0) ∙ ap decimal v.1)
+    let v = is_value f n h.1 in (
+      subst (λ (m : ℕ). m < 2 ^ 64) v.1 v.0,
+      sym (decimal-digits_value numerals f parts.0 fits.0 fits.1 v.0) ∙ ap decimal
+          v.1,
+    )

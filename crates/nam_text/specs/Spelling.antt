@@ -165,22 +165,22 @@ abbrev pub mark : List ℕ → Bool → List (List ℕ)
 mark w true = w ∷ []
 mark w false = []
 
-abbrev pub marked_read : {A : Type 0} → List ℕ → Spelling A → List (List ℕ) → List (List ℕ) × List ℕ → Option (A × Bool)
-marked_read w s fs x =
+abbrev pub mark_read : {A : Type 0} → List ℕ → Spelling A → List (List ℕ) → List (List ℕ) × List ℕ → Option (A × Bool)
+mark_read w s fs x =
     if bytes_eq x.1 w then (s.read x.0 >>= (λ a. Some (a, true))) else (s.read fs >>= (λ a. Some (a, false)))
 
 -- a word follows, or none
-abbrev pub marked : {A : Type 0} → List ℕ → Spelling A → Spelling (A × Bool)
-marked w s = record {
+abbrev pub with_mark : {A : Type 0} → List ℕ → Spelling A → Spelling (A × Bool)
+with_mark w s = record {
   Fits = λ x. s.Fits x.0;
   IsSmall = λ x. s.IsSmall x.0;
   fields = λ x. s.fields x.0 ++ mark w x.1;
-  read = λ fs. split_last fs >>= marked_read w s fs;
+  read = λ fs. split_last fs >>= mark_read w s fs;
 }
 
 -- a value, or a dash where there is none
-abbrev pub dashed : {A : Type 0} → Spelling A → Spelling (Option A)
-dashed s = record {
+abbrev pub or_lone_dash : {A : Type 0} → Spelling A → Spelling (Option A)
+or_lone_dash s = record {
   Fits = FitsIfSome s.Fits;
   IsSmall = FitsIfSome s.IsSmall;
   fields = dash_fields s.fields;
@@ -188,8 +188,8 @@ dashed s = record {
 }
 
 -- seen as another value
-abbrev pub mapped : {A B : Type 0} → (A → B) → (B → A) → Spelling A → Spelling B
-mapped to from s = record {
+abbrev pub through : {A B : Type 0} → (A → B) → (B → A) → Spelling A → Spelling B
+through to from s = record {
   Fits = λ y. s.Fits (from y);
   IsSmall = λ y. s.IsSmall (from y);
   fields = λ y. s.fields (from y);

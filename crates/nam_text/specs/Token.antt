@@ -7,7 +7,8 @@ use Rattle.std.specs.Fmt.{decimal}
 
 -- decimal digits without a leading zero, 0 alone excepted
 abbrev pub is_number : List ℕ → Bool
-is_number field = list_all is_ascii_digit field && (if slice_index field 0 == 48 then length field == 1 else nat_lt 0 (length field))
+is_number field =
+    list_all is_ascii_digit field && (if slice_index field 0 == 48 then length field == 1 else nat_lt 0 (length field))
 
 -- the number that digits spell, and none where it is above 2^64 - 1
 abbrev pub number_value : List ℕ → Option ℕ
@@ -27,4 +28,6 @@ is_name_byte b = is_ascii_lowercase b || is_ascii_digit b || b == 95
 
 -- 1 to 16 characters: a letter, then letters, digits or underscores
 abbrev pub is_name : List ℕ → Bool
-is_name field = nat_lt 0 (length field) && nat_le (length field) 16 && is_ascii_lowercase (slice_index field 0) && list_all is_name_byte field
+is_name field =
+    nat_lt 0 (length field) && nat_le (length field) 16 && is_ascii_lowercase (slice_index field 0) && list_all
+    is_name_byte field

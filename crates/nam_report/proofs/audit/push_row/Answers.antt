@@ -8,5 +8,6 @@ use Rattle.nam_report.proofs.audit.push_row.Goals as goal
 
 pub returns : goal.returns
 returns c =
-    let parts = behind_both (dash_fields (map decimal) c.args.row.now.value) (mark (codes "locked") c.args.row.now.locked) in
+    let parts = behind_both (dash_fields (map decimal) c.args.row.now.value)
+    (mark (codes "locked") c.args.row.now.locked) in
     grind (arith, common_steps, parts)

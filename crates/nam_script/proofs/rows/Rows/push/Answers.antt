@@ -15,7 +15,11 @@ invariant_of-self-2 c =
     let known = c.self.invariant in
     let now = c.set.ensures in
     let is = sym c.in_ok-push.ensures.items in (
-      λ t k. c.in_default.ensures.updates.0 (t, k) ∙ ap (λ (b : Bool). cond (is_eq (key_cmp (row.table, row.key) (t, k))) true b) (known.0 t k) ∙ sym (given_push old row t k) ∙ ap (λ (rs : List Row). is_given rs t k) is,
+      λ t k. c.in_default.ensures.updates.0 (t, k)
+          ∙ ap (λ (b : Bool). cond (is_eq (key_cmp (row.table, row.key) (t, k))) true b) (known.0 t k)
+          ∙ sym (given_push old row t k) ∙ ap (λ (rs : List Row). is_given rs t k) is,
       ap length now ∙ set_length c.self.inside.counts row.table _ ∙ known.1,
-      λ t lt. ap (λ (xs : List ℕ). slice_index xs t) now ∙ counts_push c.self.inside.counts old row _ known.1 c.requires.table c.at-count.ensures known.2 t lt ∙ ap (λ (rs : List Row). rows_in rs t) is,
+      λ t lt. ap (λ (xs : List ℕ). slice_index xs t) now
+          ∙ counts_push c.self.inside.counts old row _ known.1 c.requires.table c.at-count.ensures known.2 t lt
+          ∙ ap (λ (rs : List Row). rows_in rs t) is,
     )

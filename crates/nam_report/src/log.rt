@@ -14,7 +14,9 @@ use std::fmt::Write;
 /// Appends the events of a log, each with the reads and locks that it owns.
 fn push_events(out: &mut String, tables: &[Table], log: &Log) -> Result<(), AllocError>
     requires { ItemsFit log.now }
-    ensures { OnOk result (string_bytes out.new ≡ string_bytes out.old ++ events_text tables.now log.now.events log.now.reads log.now.locks) }
+    ensures { OnOk result
+        (string_bytes out.new ≡ string_bytes out.old
+        ++ events_text tables.now log.now.events log.now.reads log.now.locks) }
 {
     let mut reads = log.reads.as_slice();
     let mut locks = log.locks.as_slice();

@@ -103,8 +103,8 @@ fn bank_shape() -> Shape
     }
 }
 
-/// A bank: 16 accounts of 1,000 each, and `size` transfers between accounts that a generator picks from a seed, for four
-/// workers in turn. A transfer declines where its account has too little.
+/// A bank: 16 accounts of 1,000 each, and `size` transfers between accounts that a generator picks from a seed, for
+/// four workers in turn. A transfer declines where its account has too little.
 ///
 /// The generator is linear congruential, modulo 2^64, and a pick takes the upper 31 bits of its state.
 pub fn bank(alloc: Global, seed: u64, size: u32) -> Result<Script, AllocError>

@@ -1,7 +1,7 @@
 //! The tests of numbers and names.
 
 ghost use Rattle.std.specs.Prelude.{◌≡◌, ◌≤◌, ◌<◌, length, IfOk};
-ghost use Rattle.nam_script.specs.Checks.{within, small, all_small, key_of, stint_within, all_stints, place_of, counted, claimed, steps_of};
+ghost use Rattle.nam_script.specs.Checks.{within, small, all_small, key_of, stint_within, all_stints, place_of, total_within, keys_after, steps_of};
 ghost use Rattle.nam_script.specs.Admit.{Takes};
 
 use crate::line::{Numbers, SpeltStint, SpeltStints};
@@ -100,11 +100,7 @@ pub fn steps_of(stints: &[Stint]) -> u64
     requires { length stints.now ≤ 64 }
     ensures { result ≡ steps_of stints.now }
 {
-    let mut sum: u64 = 0;
-    for stint in stints {
-        sum += stint.steps as u64;
-    }
-    sum
+    stints.iter().map(|stint| stint.steps as u64).sum()
 }
 
 /// The first table of a name.
@@ -126,8 +122,8 @@ pub fn place_of(tables: &[Table], name: &str) -> Result<Found, Kind>
 }
 
 /// So many more, where that is not more than `most`.
-pub fn counted(so_far: u64, more: u64, most: u64) -> Result<u64, Kind>
-    ensures { result ≡ counted so_far more most }
+pub fn total_within(so_far: u64, more: u64, most: u64) -> Result<u64, Kind>
+    ensures { result ≡ total_within so_far more most }
 {
     match so_far.checked_add(more) {
         Some(sum) if sum <= most => Ok(sum),
@@ -137,7 +133,7 @@ pub fn counted(so_far: u64, more: u64, most: u64) -> Result<u64, Kind>
 
 /// Notes the key that an operation writes or guards, each key once and 16 at the most.
 pub fn claim(keys: &mut List<Key>, op: &Op) -> Result<(), LineEnd>
-    ensures { Takes result keys.new (claimed keys.old op.now) }
+    ensures { Takes result keys.new (keys_after keys.old op.now) }
 {
     let Some(key) = op.key_claimed() else {
         return Ok(());

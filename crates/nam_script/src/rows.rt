@@ -30,7 +30,9 @@ impl Model for Rows {
 
     ghost view = { λ r. r.rows.items };
 
-    ghost invariant = { λ r. ((t k : ℕ) → contains key_cmp r.keys (key_at t k) ≡ has_row r.rows.items t k) × (length r.counts ≡ 8) × ((t : ℕ) → t < 8 → slice_index r.counts t ≡ count_in r.rows.items t) };
+    ghost invariant = { λ r. ((t k : ℕ) → contains key_cmp r.keys (key_at t k) ≡ has_row r.rows.items t k)
+        × (length r.counts ≡ 8)
+        × ((t : ℕ) → t < 8 → slice_index r.counts t ≡ count_in r.rows.items t) };
 }
 
 fn no_counts() -> ShortList<u32, 8>

@@ -9,5 +9,6 @@ abbrev pub invariant-loop-event : goal.invariant-loop-event
 invariant-loop-event l = record {
   reads : total reads_in (drop l.event-index l.log.events) ≡ length l.reads;
   locks : total locks_in (drop l.event-index l.log.events) ≡ length l.locks;
-  told : string_bytes l.out ++ events_text l.tables (drop l.event-index l.log.events) l.reads l.locks ≡ string_bytes l.initial.out ++ events_text l.tables l.log.events l.initial.reads l.initial.locks;
+  told : string_bytes l.out ++ events_text l.tables (drop l.event-index l.log.events) l.reads l.locks ≡ string_bytes
+      l.initial.out ++ events_text l.tables l.log.events l.initial.reads l.initial.locks;
 }

@@ -9,5 +9,6 @@ use Rattle.nam_report.proofs.log.push_logs.Given as goal
 abbrev pub invariant-loop-place : goal.invariant-loop-place
 invariant-loop-place l = record {
   fit : AllByRecursion ItemsFit (drop l.place l.logs);
-  told : string_bytes l.out ++ logs_text l.tables (l.place + 1) (drop l.place l.logs) ≡ string_bytes l.initial.out ++ logs_text l.tables 1 l.logs;
+  told : string_bytes l.out ++ logs_text l.tables (l.place + 1) (drop l.place l.logs) ≡ string_bytes l.initial.out ++
+      logs_text l.tables 1 l.logs;
 }

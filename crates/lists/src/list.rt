@@ -1,6 +1,7 @@
 //! Lists on the heap.
 
-ghost use Rattle.std.specs.Prelude.{◌≡◌, ◌<◌, [], ◌∷◌, ◌++◌, length, slice_index_or, slice_set, OnOk, OnErr, IsTrue, ◌↔◌};
+ghost use Rattle.std.specs.Prelude.{◌≡◌, ◌<◌, [], ◌∷◌, ◌++◌, length, slice_index_or, slice_set};
+ghost use Rattle.std.specs.Prelude.{OnOk, OnErr, IsTrue, ◌↔◌};
 
 use std::alloc::{AllocError, Global};
 use std::marker::Model;
@@ -88,6 +89,13 @@ impl<T: Drop> List<T> {
     {
         let mut items = other.into_vec();
         self.buffer.append(&mut items)
+    }
+
+    /// Makes the list empty. It keeps its memory.
+    pub fn clear(&mut self)
+        ensures { self.new ≡ [] }
+    {
+        self.buffer.clear();
     }
 
     /// Puts an element in the place of another.

@@ -61,6 +61,15 @@ impl<T, const N: usize> ShortList<T, N> {
     }
 }
 
+impl<T: Default + Drop, const N: usize> ShortList<T, N> {
+    /// Makes the list empty. Only the places that were used are written.
+    pub fn clear(&mut self)
+        ensures { self.new ≡ [] }
+    {
+        self.buffer.clear();
+    }
+}
+
 impl<T: Drop, const N: usize> ShortList<T, N> {
     /// Appends an element, for which there is room.
     pub fn push(&mut self, item: T)

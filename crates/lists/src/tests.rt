@@ -18,7 +18,10 @@ fn a_list_grows_and_changes(rt: HostRuntime) -> Result<(), AllocError> {
     list.append(more)?;
     let vector = list.into_vec();
     assert!(rt; vector.as_slice() == [9, 8, 6].as_slice());
-    assert_eq!(rt; List::from_vec(vector).len(), 3);
+    let mut list = List::from_vec(vector);
+    assert_eq!(rt; list.len(), 3);
+    list.clear();
+    assert!(rt; list.is_empty());
     Ok(())
 }
 
@@ -35,4 +38,6 @@ fn a_short_list_grows_changes_and_is_copied(rt: HostRuntime) {
     assert_eq!(rt; *list.at(1), 8);
     assert_eq!(rt; list.len(), 2);
     assert!(rt; copy != list);
+    list.clear();
+    assert!(rt; list.is_empty());
 }

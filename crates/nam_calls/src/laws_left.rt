@@ -1,8 +1,9 @@
-//! Verbs to come: fewer with each word taken, and how many there are at a read's begin; and which field each of them is at.
+//! Verbs to come: fewer with each word taken, and how many there are at a read's begin; and which field each of them
+//! is at.
 
-ghost use Rattle.nam_calls.specs.FallsLaw.{FindLaw, ClaimKeyLaw, CurrentLaw, WordsLaw, InstallLaw, SlotLaw, CopyLaw, RingLaw};
-ghost use Rattle.nam_calls.specs.FallsLaw.{CellLaw, ClaimLaw, FillLaw, MoveLaw, CollectLaw, OldLaw, LockLaw, UnlockLaw};
-ghost use Rattle.nam_calls.specs.FallsLaw.{ReadLaw, ReadBeginsLaw};
+ghost use Rattle.nam_calls.specs.FallsLaw.{FindLaw, ClaimKeyLaw, CurrentLaw, WordsLaw, InstallLaw, SlotLaw, CopyLaw};
+ghost use Rattle.nam_calls.specs.FallsLaw.{RingLaw, CellLaw, ClaimLaw, FillLaw, MoveLaw, CollectLaw, OldLaw, LockLaw};
+ghost use Rattle.nam_calls.specs.FallsLaw.{UnlockLaw, ReadLaw, ReadBeginsLaw};
 ghost use Rattle.nam_calls.specs.FieldLaw.{PlaceVerbsLaw, CellVerbsLaw, MoveVerbsLaw, CollectVerbsLaw, ReadVerbsLaw};
 ghost use Rattle.nam_calls.specs.FieldLaw.{PathLaw};
 

@@ -1,16 +1,18 @@
 //! The single calls of the memory side as data: where each can stand, how it can end, and what it has at hand.
 //!
 //! A call of one position (its search and claim, its current version, its ring, a lock), of a bucket's cells, of the
-//! horizon, and the whole read, move and collection that are made of them. Each place has exactly one verb, and stands for
-//! it in the order of verbs. `specs/` defines what a call does: where it begins, the verb of each place, what follows each
-//! found word, and how many verbs are to come at the most. The crate promises, by its laws, that this number falls with
-//! each word, that each verb is at the field of the layout that its place names, and that a read, a claim, a move and a
-//! collection are each one straight program. Transactions and clients stand in nam_protocol, on these definitions.
+//! horizon, and the whole read, move and collection that are made of them. Each place has exactly one verb, and stands
+//! for it in the order of verbs. `specs/` defines what a call does: where it begins, the verb of each place, what
+//! follows each found word, and how many verbs are to come at the most. The crate promises, by its laws, that this
+//! number falls with each word, that each verb is at the field of the layout that its place names, what a verb at a
+//! field does to the words, and that a read, a claim, a move and a collection are each one straight program.
+//! Transactions and clients stand in nam_protocol, on these definitions.
 #![tactic(auto)]
 
 mod horizon;
 mod index;
 mod laws_left;
+mod laws_memory;
 mod laws_programs;
 mod lock;
 mod mover;
@@ -22,6 +24,7 @@ mod ring;
 pub use horizon::{CollectPlace, OldEnd};
 pub use index::{ClaimKeyEnd, ClaimKeyPlace, FindEnd, Path};
 pub use laws_left::{cells_fall, locks_fall, position_falls, read_falls, verbs_at_fields};
+pub use laws_memory::memory_law;
 pub use laws_programs::{
     claim_program_law, collect_program_law, move_program_law, read_program_law,
 };

@@ -1,5 +1,6 @@
 -- A shape has no fault exactly where it fits the limits.
-use Rattle.std.proofs.Common.{◌≡◌, ℕ, ◌+◌, ◌≤◌, Bool, true, false, List, [], ◌∷◌, length, refl, sym, arith, Option, Some, None, cond}
+use Rattle.std.proofs.Common.{◌≡◌, ℕ, ◌+◌, ◌≤◌, Bool, true, false, List, [], ◌∷◌, length, refl, sym, arith, Option}
+use Rattle.std.proofs.Common.{Some, None, cond}
 use Rattle.std.specs.Prelude.{◌==◌, All, option_map, nat_lt}
 use Rattle.std.specs.List.{position_from}
 use Rattle.std.proofs.lemmas.Bool.{eqb-false, ltb-false, ne_eqb, le-ltb}
@@ -9,12 +10,15 @@ use Rattle.std.proofs.lemmas.Option.{none-some}
 use Rattle.nam_catalog.specs.declared.bounds.TheConstants.{MOST_WORKERS, MOST_WIDTH, MOST_CAPACITY, MOST_RING}
 use Rattle.nam_catalog.specs.declared.bounds.TheConstants.{MOST_BUCKETS, MOST_CELLS, MOST_WORDS}
 use Rattle.nam_catalog.specs.declared.fault.ShapeFault.{ShapeFault}
-use Rattle.nam_catalog.specs.declared.fault.ShapeFault.TheVariants.{NoWorkers, TooManyWorkers, NoTables, BadWidth, BadCapacity, BadRing, BadBuckets, BadCells, BadStart, TwiceNamed, TooManyWords}
+use Rattle.nam_catalog.specs.declared.fault.ShapeFault.TheVariants.{NoWorkers, TooManyWorkers, NoTables, BadWidth}
+use Rattle.nam_catalog.specs.declared.fault.ShapeFault.TheVariants.{BadCapacity, BadRing, BadBuckets, BadCells}
+use Rattle.nam_catalog.specs.declared.fault.ShapeFault.TheVariants.{BadStart, TwiceNamed, TooManyWords}
 use Rattle.nam_catalog.specs.declared.shape.Table.{Table}
 use Rattle.nam_catalog.specs.declared.shape.Shape.{Shape}
 use Rattle.nam_catalog.specs.Greatest.{greatest_number}
 use Rattle.nam_catalog.specs.Words.{words_of}
-use Rattle.nam_catalog.specs.Limits.{◌or_else◌, fault_if, is_outside, first_table, first_twice_named, limit_fault_of, fault_of}
+use Rattle.nam_catalog.specs.Limits.{◌or_else◌, fault_if, is_outside, first_table, first_twice_named, limit_fault_of}
+use Rattle.nam_catalog.specs.Limits.{fault_of}
 use Rattle.nam_catalog.specs.Fits.{FitsTable, FitsLimits}
 use Rattle.nam_catalog.proofs.NameLemmas.{found_from, none_twice}
 
@@ -36,7 +40,8 @@ none_before_table None fault_at None none = (refl, refl)
 none_before_table None fault_at (Some k) none = absurd (none-some (fault_at k) (sym none))
 none_before_table (Some first) fault_at table none = absurd (none-some first (sym none))
 
-still_none_at_table : (before : Option ShapeFault) (fault_at : ℕ → ShapeFault) (table : Option ℕ) → before ≡ None → table ≡ None
+still_none_at_table : (before : Option ShapeFault) (fault_at : ℕ → ShapeFault) (table : Option ℕ) → before ≡ None
+    → table ≡ None
     → before or_else option_map fault_at table ≡ None
 still_none_at_table before fault_at table none good = rw (none, good) refl
 
@@ -47,7 +52,8 @@ inside : (greatest n : ℕ) → 1 ≤ n → n ≤ greatest → is_outside greate
 inside greatest n least most = grind (arith, nat_tests)
 
 -- where no table is the first that fails, none fails
-none_fails : (fails : Table → Bool) (ts : List Table) (i : ℕ) → position_from fails i ts ≡ None → All (λ t. fails t ≡ false) ts
+none_fails : (fails : Table → Bool) (ts : List Table) (i : ℕ) → position_from fails i ts ≡ None
+    → All (λ t. fails t ≡ false) ts
 none_fails fails [] i none = All-nil (λ t. fails t ≡ false)
 none_fails fails (t ∷ ts) i none =
     let Claim : Bool → Type 0 = λ b.
@@ -59,10 +65,12 @@ none_fails fails (t ∷ ts) i none =
     let both = either (fails t) none in
     All-cons (λ t. fails t ≡ false) t ts both.0 both.1
 
-all_pass : (fails : Table → Bool) (ts : List Table) (i : ℕ) → All (λ t. fails t ≡ false) ts → position_from fails i ts ≡ None
+all_pass : (fails : Table → Bool) (ts : List Table) (i : ℕ) → All (λ t. fails t ≡ false) ts
+    → position_from fails i ts ≡ None
 all_pass fails [] i good = refl
 all_pass fails (t ∷ ts) i good =
-    rw (All-head (λ t. fails t ≡ false) t ts good) (all_pass fails ts (i + 1) (All-tail (λ t. fails t ≡ false) t ts good))
+    rw (All-head (λ t. fails t ≡ false) t ts good)
+    (all_pass fails ts (i + 1) (All-tail (λ t. fails t ≡ false) t ts good))
 
 -- the tests of a table's numbers
 abbrev width_fails : Table → Bool
@@ -109,7 +117,8 @@ is_within shape none =
     let capacities = none_before_table _ BadCapacity (first_table capacity_fails ts) rings.0 in
     let widths = none_before_table _ BadWidth (first_table width_fails ts) capacities.0 in
     let some_table = none_before _ (length ts == 0) NoTables widths.0 in
-    let workers = none_before (fault_if (shape.workers == 0) NoWorkers) (nat_lt MOST_WORKERS shape.workers) TooManyWorkers some_table.0 in
+    let workers = none_before (fault_if (shape.workers == 0) NoWorkers)
+    (nat_lt MOST_WORKERS shape.workers) TooManyWorkers some_table.0 in
     let some_worker = none_before None (shape.workers == 0) NoWorkers workers.0 in
     let most_workers = ltb-false MOST_WORKERS shape.workers workers.1 in
     let tables = table_fits ts (none_fails width_fails ts 0 widths.1)
@@ -148,18 +157,24 @@ has_no_fault shape fits =
     let ts = shape.tables in
     let passes : (fails : Table → Bool) → ((t : Table) → FitsTable t → fails t ≡ false) → first_table fails ts ≡ None =
     λ fails good. all_pass fails ts 0 (All-weaker FitsTable (λ t. fails t ≡ false) good ts fits.tables) in
-    let some_worker = still_none None (shape.workers == 0) NoWorkers refl (ne_eqb shape.workers 0 (λ e. omega (arith, fits.least_workers))) in
-    let workers = still_none _ (nat_lt MOST_WORKERS shape.workers) TooManyWorkers some_worker (le-ltb MOST_WORKERS shape.workers fits.most_workers) in
-    let some_table = still_none _ (length ts == 0) NoTables workers (ne_eqb (length ts) 0 (λ e. omega (arith, fits.least_tables))) in
+    let some_worker = still_none None (shape.workers == 0) NoWorkers refl
+    (ne_eqb shape.workers 0 (λ e. omega (arith, fits.least_workers))) in
+    let workers = still_none _ (nat_lt MOST_WORKERS shape.workers) TooManyWorkers some_worker
+    (le-ltb MOST_WORKERS shape.workers fits.most_workers) in
+    let some_table = still_none _ (length ts == 0) NoTables workers
+    (ne_eqb (length ts) 0 (λ e. omega (arith, fits.least_tables))) in
     let widths = still_none_at_table _ BadWidth (first_table width_fails ts) some_table
     (passes width_fails (λ t is. inside MOST_WIDTH t.width is.least_width is.most_width)) in
     let capacities = still_none_at_table _ BadCapacity (first_table capacity_fails ts) widths
     (passes capacity_fails (λ t is. inside MOST_CAPACITY t.capacity is.least_capacity is.most_capacity)) in
     let rings = still_none_at_table _ BadRing (first_table ring_fails ts) capacities
     (passes ring_fails (λ t is. inside MOST_RING t.ring is.least_ring is.most_ring)) in
-    let buckets = still_none _ (is_outside MOST_BUCKETS shape.buckets) BadBuckets rings (inside MOST_BUCKETS shape.buckets fits.least_buckets fits.most_buckets) in
-    let cells = still_none _ (is_outside MOST_CELLS shape.cells) BadCells buckets (inside MOST_CELLS shape.cells fits.least_cells fits.most_cells) in
+    let buckets = still_none _ (is_outside MOST_BUCKETS shape.buckets) BadBuckets rings
+    (inside MOST_BUCKETS shape.buckets fits.least_buckets fits.most_buckets) in
+    let cells = still_none _ (is_outside MOST_CELLS shape.cells) BadCells buckets
+    (inside MOST_CELLS shape.cells fits.least_cells fits.most_cells) in
     let start = still_none _ (nat_lt (greatest_number shape.form) shape.start) BadStart cells
     (le-ltb (greatest_number shape.form) shape.start fits.start) in
-    let names = still_none_at_table _ TwiceNamed (first_twice_named [] 0 ts) start (none_twice [] 0 ts refl (λ k from here. fits.names k here)) in
+    let names = still_none_at_table _ TwiceNamed (first_twice_named [] 0 ts) start
+    (none_twice [] 0 ts refl (λ k from here. fits.names k here)) in
     still_none _ (nat_lt MOST_WORDS (words_of shape)) TooManyWords names (le-ltb MOST_WORDS (words_of shape) fits.words)

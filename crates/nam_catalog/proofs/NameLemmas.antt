@@ -1,5 +1,6 @@
 -- Where the first table of a name is, and what it means that no table bears the name of an earlier one.
-use Rattle.std.proofs.Common.{◌≡◌, ℕ, ◌+◌, ◌<◌, ◌≤◌, Bool, true, false, inl, inr, List, [], ◌∷◌, ◌++◌, length, refl, ap, sym, ◌∙◌, subst, arith, Option, Some, None, cond}
+use Rattle.std.proofs.Common.{◌≡◌, ℕ, ◌+◌, ◌<◌, ◌≤◌, Bool, true, false, inl, inr, List, [], ◌∷◌, ◌++◌, length, refl}
+use Rattle.std.proofs.Common.{ap, sym, ◌∙◌, subst, arith, Option, Some, None, cond}
 use Rattle.std.specs.Prelude.{is_some, bytes_eq}
 use Rattle.std.specs.List.{position_from}
 use Rattle.std.proofs.lemmas.Bool.{cases_lt}
@@ -24,7 +25,8 @@ position_stays p (x ∷ xs) ys i j found =
     either (p x) found
 
 -- where none passes before it, the next that passes is the first
-position_next : {K : Type 0} (p : K → Bool) (xs : List K) (y : K) (ys : List K) (i : ℕ) → position_from p i xs ≡ None → p y ≡ true
+position_next : {K : Type 0} (p : K → Bool) (xs : List K) (y : K) (ys : List K) (i : ℕ) → position_from p i xs ≡ None
+    → p y ≡ true
     → position_from p i (xs ++ y ∷ ys) ≡ Some (i + length xs)
 position_next p [] y ys i none passes = rw passes (ap Some (omega arith))
 position_next p (x ∷ xs) y ys i none passes =
@@ -50,10 +52,12 @@ found_here : (before : List Table) (t : Table) (ts : List Table) → first_named
     → first_named (name_of (before ++ t ∷ ts) (length before)) (before ++ t ∷ ts) ≡ Some (length before)
 found_here before t ts none =
     let itself : bytes_eq t.name t.name ≡ true = (bytes_eq-Decides t.name t.name).1 refl in
-    rw (name_after before t ts) (position_next (λ u. bytes_eq u.name t.name) before t ts 0 none itself ∙ ap Some (omega arith))
+    rw (name_after before t ts)
+    (position_next (λ u. bytes_eq u.name t.name) before t ts 0 none itself ∙ ap Some (omega arith))
 
 -- where no table bears the name of one before it, each is found by its name
-pub found_from : (before : List Table) (place : ℕ) (ts : List Table) → place ≡ length before → first_twice_named before place ts ≡ None
+pub found_from : (before : List Table) (place : ℕ) (ts : List Table) → place ≡ length before
+    → first_twice_named before place ts ≡ None
     → FoundFrom place (before ++ ts)
 found_from before place [] here none = λ k from within. absurd (omega (arith, length-append before []))
 found_from before place (t ∷ ts) here none =
@@ -63,8 +67,10 @@ found_from before place (t ∷ ts) here none =
     let either : (o : Option ℕ) → Claim o = elim [
       | Some j ↦ λ is none. absurd (none-some place (sym none))
       | None ↦ λ is none k from within.
-          let later = found_from (before ++ t ∷ []) (place + 1) ts (omega (arith, length-append before (t ∷ []))) none in
-          let rest : FoundFrom (place + 1) all = subst (FoundFrom (place + 1)) (append_assoc before (t ∷ []) ts) later in
+          let later = found_from (before ++ t ∷ []) (place + 1) ts
+          (omega (arith, length-append before (t ∷ []))) none in
+          let rest : FoundFrom (place + 1) all
+          = subst (FoundFrom (place + 1)) (append_assoc before (t ∷ []) ts) later in
           elim (cases_lt place k) [
             | inl later ↦ rest k (omega arith) within
             | inr now ↦
@@ -75,7 +81,8 @@ found_from before place (t ∷ ts) here none =
     either (first_named t.name before) refl none
 
 -- where each table is found by its name, none bears the name of one before it
-pub none_twice : (before : List Table) (place : ℕ) (ts : List Table) → place ≡ length before → FoundFrom place (before ++ ts)
+pub none_twice : (before : List Table) (place : ℕ) (ts : List Table) → place ≡ length before
+    → FoundFrom place (before ++ ts)
     → first_twice_named before place ts ≡ None
 none_twice before place [] here found = refl
 none_twice before place (t ∷ ts) here found =

@@ -1,11 +1,14 @@
 -- Which shapes a store can have, and what is wrong with the others.
-use Rattle.std.specs.Prelude.{ℕ, ◌+◌, ◌==◌, ◌||◌, nat_lt, Bool, List, [], ◌∷◌, ◌++◌, length, Option, Some, None, is_some, option_map, if◌then◌else◌}
+use Rattle.std.specs.Prelude.{ℕ, ◌+◌, ◌==◌, ◌||◌, nat_lt, Bool, List, [], ◌∷◌, ◌++◌, length, Option, Some, None}
+use Rattle.std.specs.Prelude.{is_some, option_map, if◌then◌else◌}
 use Rattle.std.specs.Option.{option_or}
 use Rattle.std.specs.List.{position_from}
 use Rattle.nam_catalog.specs.declared.bounds.TheConstants.{MOST_WORKERS, MOST_WIDTH, MOST_CAPACITY, MOST_RING}
 use Rattle.nam_catalog.specs.declared.bounds.TheConstants.{MOST_BUCKETS, MOST_CELLS, MOST_WORDS}
 use Rattle.nam_catalog.specs.declared.fault.ShapeFault.{ShapeFault}
-use Rattle.nam_catalog.specs.declared.fault.ShapeFault.TheVariants.{NoWorkers, TooManyWorkers, NoTables, BadWidth, BadCapacity, BadRing, BadBuckets, BadCells, BadStart, TwiceNamed, TooManyWords}
+use Rattle.nam_catalog.specs.declared.fault.ShapeFault.TheVariants.{NoWorkers, TooManyWorkers, NoTables, BadWidth}
+use Rattle.nam_catalog.specs.declared.fault.ShapeFault.TheVariants.{BadCapacity, BadRing, BadBuckets, BadCells}
+use Rattle.nam_catalog.specs.declared.fault.ShapeFault.TheVariants.{BadStart, TwiceNamed, TooManyWords}
 use Rattle.nam_catalog.specs.declared.shape.Table.{Table}
 use Rattle.nam_catalog.specs.declared.shape.Shape.{Shape}
 use Rattle.nam_catalog.specs.Greatest.{greatest_number}

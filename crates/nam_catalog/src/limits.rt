@@ -1,7 +1,8 @@
 //! Whether a store can have a shape.
 
 ghost use Rattle.std.specs.Prelude.{◌≡◌, ◌<◌, ◌≤◌, [], length, None, Some, IfSome, OnOk, MatchResult, option_map};
-ghost use Rattle.nam_catalog.specs.Limits.{fault_if, is_outside, first_table, first_twice_named, limit_fault_of, fault_of};
+ghost use Rattle.nam_catalog.specs.Limits.{fault_if, is_outside, first_table, first_twice_named, limit_fault_of};
+ghost use Rattle.nam_catalog.specs.Limits.{fault_of};
 ghost use Rattle.nam_catalog.specs.declared.fault.ShapeFault.TheVariants.{BadWidth, BadCapacity, BadRing, TwiceNamed};
 ghost use Rattle.nam_catalog.specs.Words.{words_of};
 ghost use Rattle.nam_catalog.specs.Fits.{FitsLimits};

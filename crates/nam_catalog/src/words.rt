@@ -1,7 +1,8 @@
 //! How many words a shape takes.
 
 ghost use Rattle.std.specs.Prelude.{◌≡◌, ◌≤◌, length, All};
-ghost use Rattle.nam_catalog.specs.Words.{slot_words, position_words, table_words, tables_words, intent_words, words_of};
+ghost use Rattle.nam_catalog.specs.Words.{slot_words, position_words, table_words, tables_words, intent_words};
+ghost use Rattle.nam_catalog.specs.Words.{words_of};
 ghost use Rattle.nam_catalog.specs.Fits.{FitsTable};
 
 use crate::bounds::{

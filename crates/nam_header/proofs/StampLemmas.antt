@@ -1,7 +1,6 @@
 -- What the word of a header tells.
-use Rattle.std.proofs.Common.{◌≡◌, ◌<◌, ◌^◌, ap, arith}
+use Rattle.std.proofs.Common.{◌≡◌, ap, arith}
 use Rattle.nam_catalog.specs.declared.form.Form.{Form}
-use Rattle.nam_catalog.specs.declared.form.Form.TheVariants.{Narrow, Wide, Held}
 use Rattle.nam_header.specs.declared.header.Header.{Header}
 use Rattle.nam_header.specs.Header.{IsWithin, header_of, word_of}
 use Rattle.nam_header.specs.Stamp.{stamp_in, is_locked, is_deleted, is_moved}

@@ -32,12 +32,16 @@ flag false = 0
 -- the word of a header
 abbrev pub word_of : Form → Header → ℕ
 word_of form h =
-    h.holder * (fields_of form).holder_at + h.stamp.thread * (fields_of form).thread_at + h.stamp.number * 2 ^ 3 + 4 * flag h.moved + 2 * flag h.deleted + flag h.locked
+    h.holder * (fields_of form).holder_at + h.stamp.thread * (fields_of form).thread_at + h.stamp.number * 2 ^ 3
+    + 4 * flag h.moved + 2 * flag h.deleted + flag h.locked
 
 -- the header of a word
 abbrev pub header_of : Form → ℕ → Header
 header_of form word = record {
-  stamp = record { thread = word / (fields_of form).thread_at % (fields_of form).threads; number = word / 2 ^ 3 % (fields_of form).numbers };
+  stamp = record {
+    thread = word / (fields_of form).thread_at % (fields_of form).threads;
+    number = word / 2 ^ 3 % (fields_of form).numbers;
+  };
   moved = word / 4 % 2 == 1;
   deleted = word / 2 % 2 == 1;
   locked = word % 2 == 1;

@@ -1,5 +1,5 @@
 -- What calls read from header words, and the words that they write.
-use Rattle.std.specs.Prelude.{ℕ, ◌-◌, ◌%◌, ◌/◌, ◌<◌, ◌==◌, ◌&&◌, nat_le, Bool, false, not, List, length, slice_index}
+use Rattle.std.specs.Prelude.{ℕ, ◌-◌, ◌<◌, ◌==◌, ◌&&◌, nat_le, Bool, false, not, List, length, slice_index}
 use Rattle.si_model.specs.declared.log.Stamp.{Stamp}
 use Rattle.nam_catalog.specs.declared.form.Form.{Form}
 use Rattle.nam_header.specs.Header.{fields_of, word_of, header_of}

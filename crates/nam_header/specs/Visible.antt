@@ -8,7 +8,8 @@ IsLoaders stamp = (stamp.thread ≡ 0) × (stamp.number ≡ 0)
 
 -- the entry of the stamp's worker is at least its number
 abbrev pub IsReached : Stamp → List ℕ → Type 0
-IsReached stamp seen = (1 ≤ stamp.thread) × (stamp.thread ≤ length seen) × (stamp.number ≤ slice_index seen (stamp.thread - 1))
+IsReached stamp seen =
+    (1 ≤ stamp.thread) × (stamp.thread ≤ length seen) × (stamp.number ≤ slice_index seen (stamp.thread - 1))
 
 -- the snapshot sees the stamp
 abbrev pub IsVisible : Stamp → List ℕ → Type 0

@@ -3,8 +3,8 @@
 //! A header is the stamp of a version, three flags and, in one form, the holder of a lock. `pack` and `unpack` turn it
 //! into a word and back: each word is exactly one header, and `round_trip_law` says so of both ways. `with_lock`,
 //! `without_lock` and `with_moved` change a flag of a word and nothing else. `visible` says which stamps a snapshot
-//! sees. `stamp_in`, `is_locked` and the like read one field of a word, and `version_word` is the word of a new version.
-//! A `Tag` is a cell's generation and state. No call takes memory.
+//! sees. `stamp_in`, `is_locked` and the like read one field of a word, and `version_word` is the word of a new
+//! version. A `Tag` is a cell's generation and state. No call takes memory.
 #![tactic(auto)]
 
 mod flag;

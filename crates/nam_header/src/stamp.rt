@@ -1,7 +1,8 @@
 //! What header words tell, and the words of new versions.
 
 ghost use Rattle.std.specs.Prelude.{◌≡◌};
-ghost use Rattle.nam_header.specs.Stamp.{FitsStamp, stamp_in, is_locked, is_deleted, is_moved, same_stamp, sees, is_within, without_moved, version_word, stamp_word};
+ghost use Rattle.nam_header.specs.Stamp.{FitsStamp, stamp_in, is_locked, is_deleted, is_moved, same_stamp, sees};
+ghost use Rattle.nam_header.specs.Stamp.{is_within, without_moved, version_word, stamp_word};
 
 use crate::header::{Header, pack, unpack};
 use crate::layout::{DELETED, LOCKED, MOVED};

@@ -1,6 +1,10 @@
 ghost use Rattle.nam_header.specs.Header.{IsWithin};
 
-use crate::{Header, pack, unpack, visible, with_lock, with_moved, without_lock};
+use crate::{
+    Header, MARK, Tag, is_deleted, is_locked, is_moved, is_within, pack, same_stamp, sees,
+    stamp_in, stamp_word, unpack, version_word, visible, with_lock, with_moved, without_lock,
+    without_moved,
+};
 use nam_catalog::Form;
 use si_model::{Snapshot, Stamp};
 
@@ -125,4 +129,40 @@ fn flags_change_and_snapshots_see(rt: HostRuntime) {
             &seen
         )
     );
+}
+
+#[test]
+fn words_tell_their_stamps_and_flags(rt: HostRuntime) {
+    let stamp = Stamp {
+        thread: 1,
+        number: 7,
+    };
+    let mut seen = Snapshot::new();
+    seen.push(7);
+    let word = version_word(Form::Narrow, stamp, true);
+    assert_eq!(rt; word, 34_359_738_426);
+    assert_eq!(rt; stamp_word(Form::Wide, stamp), 281_474_976_710_712);
+    assert_eq!(rt; stamp_in(Form::Narrow, word), stamp);
+    assert!(rt; is_deleted(Form::Narrow, word));
+    assert!(rt; !is_moved(Form::Narrow, word));
+    assert!(rt; is_locked(Form::Narrow, MARK) && is_moved(Form::Narrow, MARK));
+    assert_eq!(rt; without_moved(Form::Narrow, 34_359_738_430), word);
+    assert!(rt; same_stamp(Form::Narrow, word, 34_359_738_424));
+    assert!(rt; !same_stamp(Form::Narrow, word, 34_359_738_432));
+    assert!(rt; sees(Form::Narrow, &seen, word));
+    assert!(rt; is_within(stamp, &seen));
+}
+
+#[test]
+fn a_tag_goes_from_free_to_full_and_to_the_next_generation(rt: HostRuntime) {
+    let free = Tag(0);
+    let last = Tag(u64::MAX - 1);
+    assert!(rt; free.is_free());
+    assert_eq!(rt; free.written(), Tag(1));
+    assert_eq!(rt; Tag(1).full(), Tag(2));
+    assert!(rt; Tag(2).is_full());
+    assert_eq!(rt; Tag(2).freed(), Tag(4));
+    assert!(rt; Tag(4).is_free());
+    assert!(rt; !last.has_next());
+    assert_eq!(rt; last.freed(), last);
 }

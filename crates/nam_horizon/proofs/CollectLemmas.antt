@@ -9,46 +9,49 @@ use Rattle.nam_verbs.specs.declared.now.Now.{Now}
 use Rattle.nam_verbs.specs.declared.now.Now.TheVariants.{At, Over}
 use Rattle.nam_verbs.specs.Steps.{Step, Ends, saw, tried, Stretches}
 use Rattle.nam_verbs.proofs.SearchLemmas.{search_ends, search_misses}
+use Rattle.nam_verbs.proofs.ReadingLemmas.{step_of}
+use Rattle.nam_verbs.specs.VerbAt.{VerbAt}
+use Rattle.nam_header.specs.Stamp.{stamp_in, is_within}
+use Rattle.nam_header.specs.Tag.{is_full, has_next, freed}
 use Rattle.nam_layout.specs.declared.field.Cells.{Cells}
+use Rattle.nam_layout.specs.declared.field.Field.{Field}
+use Rattle.nam_layout.specs.declared.field.Field.TheVariants as field
 use Rattle.nam_calls.specs.declared.horizon.CollectPlace.{CollectPlace}
 use Rattle.nam_calls.specs.declared.horizon.CollectPlace.TheVariants.{HorizonLook, HorizonRaise, CollectTag}
 use Rattle.nam_calls.specs.declared.horizon.CollectPlace.TheVariants.{CollectEnding, CollectFree}
-use Rattle.nam_calls.specs.Stamps.{stamp_in, is_within, is_full, has_next, freed}
-use Rattle.nam_calls.specs.Words.{tag_at, end_at, horizon_at}
 use Rattle.nam_calls.specs.Horizon.{collect_verb, collect_after, entry_known, collect_next}
-use Rattle.nam_words.proofs.ReadingLemmas.{step_of}
 use Rattle.nam_horizon.specs.CollectLaw.{EntryKnown, was_reached, is_raised, was_lost, EntriesKnown}
 use Rattle.nam_horizon.specs.CollectLaw.{MayBeFreed, looked, CellCollected, not_full, is_kept, is_freed, CollectedBy}
 
 -- steps in parts
-regrouped : (first raising freeing rest steps : List Step) → steps ≡ first ++ rest → rest ≡ raising ++ freeing
+regrouped : (first raising freeing rest steps : List (Step Field)) → steps ≡ first ++ rest → rest ≡ raising ++ freeing
     → steps ≡ (first ++ raising) ++ freeing
 regrouped first raising freeing rest steps is parts = rw (is, parts) (sym (append_assoc first raising freeing))
 
-regrouped_here : (first before here after rest steps : List Step) → steps ≡ first ++ rest
+regrouped_here : (first before here after rest steps : List (Step Field)) → steps ≡ first ++ rest
     → rest ≡ (before ++ here) ++ after
     → steps ≡ ((first ++ before) ++ here) ++ after
 regrouped_here first before here after rest steps is parts =
     regrouped first (before ++ here) after rest steps is parts
     ∙ ap (λ front. front ++ after) (sym (append_assoc first before here))
 
-regrouped_after : (before here after freeing raising steps : List Step) → steps ≡ raising ++ freeing
+regrouped_after : (before here after freeing raising steps : List (Step Field)) → steps ≡ raising ++ freeing
     → raising ≡ (before ++ here) ++ after
     → steps ≡ (before ++ here) ++ (after ++ freeing)
 regrouped_after before here after freeing raising steps is parts = rw (is, parts)
     (append_assoc (before ++ here) after freeing)
 
 module _ (cells : Cells) (some_cells : 1 ≤ cells.cells) (workers : ℕ) (some : 1 ≤ workers) (seen : List ℕ) where
-  abbrev verb : CollectPlace → Rattle.nam_verbs.specs.declared.verb.Verb.Verb
-  verb = collect_verb cells workers seen
+  abbrev verb : CollectPlace → VerbAt Field
+  verb = collect_verb cells seen
 
   abbrev after : CollectPlace → ℕ → Now CollectPlace (List ℕ)
   after = collect_after cells workers seen
 
-  abbrev EndsFrom : Now CollectPlace (List ℕ) → List Step → List ℕ → Type 0
+  abbrev EndsFrom : Now CollectPlace (List ℕ) → List (Step Field) → List ℕ → Type 0
   EndsFrom now steps end = Ends verb after now steps end
 
-  ends_as : (now new : Now CollectPlace (List ℕ)) (steps : List Step) (end : List ℕ) → now ≡ new
+  ends_as : (now new : Now CollectPlace (List ℕ)) (steps : List (Step Field)) (end : List ℕ) → now ≡ new
       → EndsFrom now steps end → EndsFrom new steps end
   ends_as now new steps end same ends = subst (λ now. EndsFrom now steps end) same ends
 
@@ -76,17 +79,17 @@ module _ (cells : Cells) (some_cells : 1 ≤ cells.cells) (workers : ℕ) (some 
       | inr not_within ↦ rw not_within refl
     ]
 
-    abbrev Parts : ℕ → List Step → List ℕ → Type 0
+    abbrev Parts : ℕ → List (Step Field) → List ℕ → Type 0
     Parts cell steps end =
-        (first rest : List Step) × (steps ≡ first ++ rest) × CellCollected cells known cell first
+        (first rest : List (Step Field)) × (steps ≡ first ++ rest) × CellCollected cells known cell first
         × EndsFrom (collect_next cells known cell) rest end
 
-    part_free : (cell tag ending : ℕ) → MayBeFreed cells known tag ending → (steps : List Step) (end : List ℕ)
+    part_free : (cell tag ending : ℕ) → MayBeFreed cells known tag ending → (steps : List (Step Field)) (end : List ℕ)
         → EndsFrom (At (CollectFree known cell tag)) steps end
         → Parts cell (looked cells known cell tag ending ++ steps) end
     part_free cell tag ending may [] end ends = absurd ends
     part_free cell tag ending may (step ∷ steps) end ends =
-        let is : step ≡ tried (tag_at cells cell) tag (freed tag) step.found = step_of _ step ends.0 in (
+        let is : step ≡ tried (field.Tag cells.bucket cell) tag (freed tag) step.found = step_of _ step ends.0 in (
           looked cells known cell tag ending ++ step ∷ [],
           steps,
           refl,
@@ -95,17 +98,17 @@ module _ (cells : Cells) (some_cells : 1 ≤ cells.cells) (workers : ℕ) (some 
           ends.1,
         )
 
-    part_end : (cell tag : ℕ) → is_full tag ≡ true → (steps : List Step) (end : List ℕ)
+    part_end : (cell tag : ℕ) → is_full tag ≡ true → (steps : List (Step Field)) (end : List ℕ)
         → EndsFrom (At (CollectEnding known cell tag)) steps end
-        → Parts cell (saw (tag_at cells cell) tag ∷ steps) end
+        → Parts cell (saw (field.Tag cells.bucket cell) tag ∷ steps) end
     part_end cell tag full [] end ends = absurd ends
     part_end cell tag full (step ∷ steps) end ends =
         let ending = step.found in
-        let is : step ≡ saw (end_at cells cell) ending = step_of _ step ends.0 in
+        let is : step ≡ saw (field.End cells.bucket cell) ending = step_of _ step ends.0 in
         let kept : (is_within (stamp_in cells.form ending) known ≡ false) ⊎ (has_next tag ≡ false)
-        → Parts cell (saw (tag_at cells cell) tag ∷ step ∷ steps) end =
+        → Parts cell (saw (field.Tag cells.bucket cell) tag ∷ step ∷ steps) end =
         λ why. (
-          saw (tag_at cells cell) tag ∷ step ∷ [],
+          saw (field.Tag cells.bucket cell) tag ∷ step ∷ [],
           steps,
           refl,
           is_kept tag ending full why (rw (← is) refl),
@@ -122,12 +125,12 @@ module _ (cells : Cells) (some_cells : 1 ≤ cells.cells) (workers : ℕ) (some 
           | inr not_within ↦ kept (inl not_within)
         ]
 
-    part_cell : (cell : ℕ) (steps : List Step) (end : List ℕ) → EndsFrom (At (CollectTag known cell)) steps end
+    part_cell : (cell : ℕ) (steps : List (Step Field)) (end : List ℕ) → EndsFrom (At (CollectTag known cell)) steps end
         → Parts cell steps end
     part_cell cell [] end ends = absurd ends
     part_cell cell (step ∷ steps) end ends =
         let tag = step.found in
-        let is : step ≡ saw (tag_at cells cell) tag = step_of _ step ends.0 in
+        let is : step ≡ saw (field.Tag cells.bucket cell) tag = step_of _ step ends.0 in
         elim (cases_Bool (is_full tag)) [
           | inl full ↦ rw is (part_end cell tag full steps end (ends_as _ _ steps end (full_goes cell tag full) ends.1))
           | inr other ↦ (
@@ -141,7 +144,7 @@ module _ (cells : Cells) (some_cells : 1 ≤ cells.cells) (workers : ℕ) (some 
         ]
 
     -- the other way round
-    passed_cell : (cell : ℕ) (first rest : List Step) (end : List ℕ) → CellCollected cells known cell first
+    passed_cell : (cell : ℕ) (first rest : List (Step Field)) (end : List ℕ) → CellCollected cells known cell first
         → EndsFrom (collect_next cells known cell) rest end
         → EndsFrom (At (CollectTag known cell)) (first ++ rest) end
     passed_cell cell first rest end (not_full tag other is) ends =
@@ -149,14 +152,14 @@ module _ (cells : Cells) (some_cells : 1 ≤ cells.cells) (workers : ℕ) (some 
     passed_cell cell first rest end (is_kept tag ending full why is) ends =
         rw is (
           refl,
-          ends_as _ _ (saw (end_at cells cell) ending ∷ rest) end (sym (full_goes cell tag full))
+          ends_as _ _ (saw (field.End cells.bucket cell) ending ∷ rest) end (sym (full_goes cell tag full))
               (refl, ends_as _ _ rest end (sym (keeps_goes cell tag ending why)) ends),
         )
     passed_cell cell first rest end (is_freed tag ending word may is) ends =
-        let free = tried (tag_at cells cell) tag (freed tag) word in
+        let free = tried (field.Tag cells.bucket cell) tag (freed tag) word in
         rw is (
           refl,
-          ends_as _ _ (saw (end_at cells cell) ending ∷ free ∷ rest) end (sym (full_goes cell tag may.full))
+          ends_as _ _ (saw (field.End cells.bucket cell) ending ∷ free ∷ rest) end (sym (full_goes cell tag may.full))
               (refl, ends_as _ _ (free ∷ rest) end (sym (frees_goes cell tag ending may)) (refl, ends)),
         )
 
@@ -168,10 +171,10 @@ module _ (cells : Cells) (some_cells : 1 ≤ cells.cells) (workers : ℕ) (some 
     misses cell last = let test : (cell + 1 == cells.cells) ≡ true = grind (arith, nat_tests) in rw test refl
 
     -- no cell ends the collection before the last
-    abbrev None : List ℕ → ℕ → List Step → Type 0
+    abbrev None : List ℕ → ℕ → List (Step Field) → Type 0
     None end cell steps = ⊥
 
-    all_cells : (steps : List Step) (end : List ℕ) → EndsFrom (At (CollectTag known 0)) steps end
+    all_cells : (steps : List (Step Field)) (end : List ℕ) → EndsFrom (At (CollectTag known 0)) steps end
         → Stretches (CellCollected cells known) 0 cells.cells steps × (known ≡ end)
     all_cells steps end ends =
         elim (search_ends verb after (CollectTag known) (collect_next cells known) cells.cells known goes_on misses
@@ -181,7 +184,7 @@ module _ (cells : Cells) (some_cells : 1 ≤ cells.cells) (workers : ℕ) (some 
           | inr missed ↦ missed
         ]
 
-    by_cells : (steps : List Step) → Stretches (CellCollected cells known) 0 cells.cells steps
+    by_cells : (steps : List (Step Field)) → Stretches (CellCollected cells known) 0 cells.cells steps
         → EndsFrom (At (CollectTag known 0)) steps known
     by_cells =
         search_misses verb after (CollectTag known) (collect_next cells known) cells.cells known goes_on misses
@@ -194,8 +197,8 @@ module _ (cells : Cells) (some_cells : 1 ≤ cells.cells) (workers : ℕ) (some 
     abbrev own : ℕ
     own = slice_index seen (length known)
 
-    abbrev at : ℕ
-    at = horizon_at workers (length known + 1)
+    abbrev at : Field
+    at = field.Horizon (length known + 1)
 
     -- what follows a word, by what it is
     lower_goes : (found : ℕ) → found < own → after (HorizonLook known) found ≡ At (HorizonRaise known found)
@@ -213,13 +216,13 @@ module _ (cells : Cells) (some_cells : 1 ≤ cells.cells) (workers : ℕ) (some 
         → after (HorizonRaise known entry) found ≡ entry_known workers (known ++ found ∷ [])
     lost_goes entry found other = let test : (found == entry) ≡ false = grind (arith, nat_tests) in rw test refl
 
-    abbrev Known : List Step → List ℕ → Type 0
+    abbrev Known : List (Step Field) → List ℕ → Type 0
     Known steps end =
-        (entry : ℕ) × (first rest : List Step) × (steps ≡ first ++ rest)
-        × EntryKnown workers seen (length known) entry first
+        (entry : ℕ) × (first rest : List (Step Field)) × (steps ≡ first ++ rest)
+        × EntryKnown seen (length known) entry first
         × EndsFrom (entry_known workers (known ++ entry ∷ [])) rest end
 
-    part_raise : (entry : ℕ) → entry < own → (steps : List Step) (end : List ℕ)
+    part_raise : (entry : ℕ) → entry < own → (steps : List (Step Field)) (end : List ℕ)
         → EndsFrom (At (HorizonRaise known entry)) steps end
         → Known (saw at entry ∷ steps) end
     part_raise entry lower [] end ends = absurd ends
@@ -245,7 +248,8 @@ module _ (cells : Cells) (some_cells : 1 ≤ cells.cells) (workers : ℕ) (some 
           )
         ]
 
-    part_look : (steps : List Step) (end : List ℕ) → EndsFrom (At (HorizonLook known)) steps end → Known steps end
+    part_look : (steps : List (Step Field)) (end : List ℕ) → EndsFrom (At (HorizonLook known)) steps end
+        → Known steps end
     part_look [] end ends = absurd ends
     part_look (step ∷ steps) end ends =
         let found = step.found in
@@ -264,8 +268,8 @@ module _ (cells : Cells) (some_cells : 1 ≤ cells.cells) (workers : ℕ) (some 
         ]
 
     -- the other way round
-    passed_entry : (entry : ℕ) (first rest : List Step) (end : List ℕ)
-        → EntryKnown workers seen (length known) entry first
+    passed_entry : (entry : ℕ) (first rest : List (Step Field)) (end : List ℕ)
+        → EntryKnown seen (length known) entry first
         → EndsFrom (entry_known workers (known ++ entry ∷ [])) rest end
         → EndsFrom (At (HorizonLook known)) (first ++ rest) end
     passed_entry entry first rest end (was_reached least is) ends =
@@ -294,13 +298,15 @@ module _ (cells : Cells) (some_cells : 1 ≤ cells.cells) (workers : ℕ) (some 
   last_entry known same = let test : (length known == workers) ≡ true = grind (arith, nat_tests) in rw test refl
 
   -- the entries from here on, and then the cells
-  abbrev AllKnown : List ℕ → ℕ → List Step → List ℕ → Type 0
+  abbrev AllKnown : List ℕ → ℕ → List (Step Field) → List ℕ → Type 0
   AllKnown known more steps end =
-      (entries : List ℕ) × (raising freeing : List Step) × (steps ≡ raising ++ freeing) × (length entries ≡ more)
-      × EntriesKnown workers seen (length known) entries raising
+      (entries : List ℕ) × (raising freeing : List (Step Field)) × (steps ≡ raising ++ freeing)
+      × (length entries ≡ more)
+      × EntriesKnown seen (length known) entries raising
       × EndsFrom (At (CollectTag (known ++ entries) 0)) freeing end
 
-  known_from : (more : ℕ) (known : List ℕ) → length known + suc more ≡ workers → (steps : List Step) (end : List ℕ)
+  known_from : (more : ℕ) (known : List ℕ) → length known + suc more ≡ workers
+      → (steps : List (Step Field)) (end : List ℕ)
       → EndsFrom (At (HorizonLook known)) steps end → AllKnown known (suc more) steps end
   known_from zero known all steps end ends =
       let part = part_look known steps end ends in
@@ -325,19 +331,19 @@ module _ (cells : Cells) (some_cells : 1 ≤ cells.cells) (workers : ℕ) (some 
         later.2,
         regrouped part.1 later.1 later.2 part.2 steps part.3 later.3,
         ap suc later.4,
-        (part.1, later.1, refl, part.4, subst (λ nth. EntriesKnown workers seen nth later.0 later.1) long later.5),
+        (part.1, later.1, refl, part.4, subst (λ nth. EntriesKnown seen nth later.0 later.1) long later.5),
         subst (λ all. EndsFrom (At (CollectTag all 0)) later.2 end) (append_assoc known (entry ∷ []) later.0) later.6,
       )
 
-  all_from : (n : ℕ) → n ≡ workers → 0 < n → (steps : List Step) (end : List ℕ)
+  all_from : (n : ℕ) → n ≡ workers → 0 < n → (steps : List (Step Field)) (end : List ℕ)
       → EndsFrom (At (HorizonLook [])) steps end → AllKnown [] n steps end
   all_from zero same none steps end ends = absurd (omega arith)
   all_from (suc more) same none steps end ends = known_from more [] (omega arith) steps end ends
 
   -- the other way round
   by_entries : (entries known : List ℕ) → 0 < length entries → length known + length entries ≡ workers
-      → (raising freeing : List Step) (end : List ℕ)
-      → EntriesKnown workers seen (length known) entries raising
+      → (raising freeing : List (Step Field)) (end : List ℕ)
+      → EntriesKnown seen (length known) entries raising
       → EndsFrom (At (CollectTag (known ++ entries) 0)) freeing end
       → EndsFrom (At (HorizonLook known)) (raising ++ freeing) end
   by_entries [] known none all raising freeing end are ends = absurd (omega arith)
@@ -349,7 +355,7 @@ module _ (cells : Cells) (some_cells : 1 ≤ cells.cells) (workers : ℕ) (some 
   by_entries (entry ∷ next ∷ entries) known none all raising freeing end are ends =
       let long = length-append known (entry ∷ []) in
       let later = by_entries (next ∷ entries) (known ++ entry ∷ []) (omega arith) (omega arith) are.1 freeing end
-      (subst (λ nth. EntriesKnown workers seen nth (next ∷ entries) are.1) (sym long) are.4)
+      (subst (λ nth. EntriesKnown seen nth (next ∷ entries) are.1) (sym long) are.4)
       (subst (λ all. EndsFrom (At (CollectTag all 0)) freeing end)
       (sym (append_assoc known (entry ∷ []) (next ∷ entries))) ends) in
       rw (are.2, append_assoc are.0 are.1 freeing) (passed_entry known entry are.0 (are.1 ++ freeing) end are.3
@@ -357,7 +363,7 @@ module _ (cells : Cells) (some_cells : 1 ≤ cells.cells) (workers : ℕ) (some 
 
   -- 3. A whole collection
 
-  pub collected_by : (steps : List Step) (known : List ℕ) → EndsFrom (At (HorizonLook [])) steps known
+  pub collected_by : (steps : List (Step Field)) (known : List ℕ) → EndsFrom (At (HorizonLook [])) steps known
       → CollectedBy cells workers seen known steps
   collected_by steps known ends =
       let all = all_from workers refl some steps known ends in
@@ -371,7 +377,7 @@ module _ (cells : Cells) (some_cells : 1 ≤ cells.cells) (workers : ℕ) (some 
         bucket = bucket.0;
       })
 
-  pub collects_by : (steps : List Step) (known : List ℕ) → CollectedBy cells workers seen known steps
+  pub collects_by : (steps : List (Step Field)) (known : List ℕ) → CollectedBy cells workers seen known steps
       → EndsFrom (At (HorizonLook [])) steps known
   collects_by steps known by =
       let all = by.all in
@@ -381,17 +387,17 @@ module _ (cells : Cells) (some_cells : 1 ≤ cells.cells) (workers : ℕ) (some 
 
 -- the steps by which an entry became known
 module _ (workers : ℕ) (seen : List ℕ) where
-  abbrev KnownAt : ℕ → ℕ → List Step → Type 0
+  abbrev KnownAt : ℕ → ℕ → List (Step Field) → Type 0
   KnownAt nth known steps =
-      (before here after : List Step) × (steps ≡ before ++ here ++ after) × EntryKnown workers seen nth known here
+      (before here after : List (Step Field)) × (steps ≡ before ++ here ++ after) × EntryKnown seen nth known here
 
-  entry_at : (known : List ℕ) (from : ℕ) (steps : List Step) → EntriesKnown workers seen from known steps → (nth : ℕ)
+  entry_at : (known : List ℕ) (from : ℕ) (steps : List (Step Field)) → EntriesKnown seen from known steps → (nth : ℕ)
       → nth < length known
       → KnownAt (from + nth) (slice_index known nth) steps
   entry_at [] from steps are nth less = absurd (omega arith)
   entry_at (entry ∷ known) from steps are zero less =
       let here : from ≡ from + 0 = omega arith in
-      ([], are.0, are.1, are.2, subst (λ n. EntryKnown workers seen n entry are.0) here are.3)
+      ([], are.0, are.1, are.2, subst (λ n. EntryKnown seen n entry are.0) here are.3)
   entry_at (entry ∷ known) from steps are (suc nth) less =
       let later = entry_at known (from + 1) are.1 are.4 nth (omega arith) in
       let here : from + 1 + nth ≡ from + suc nth = omega arith in (
@@ -399,10 +405,11 @@ module _ (workers : ℕ) (seen : List ℕ) where
         later.1,
         later.2,
         regrouped_here are.0 later.0 later.1 later.2 are.1 steps are.2 later.3,
-        subst (λ n. EntryKnown workers seen n (slice_index known nth) later.1) here later.4,
+        subst (λ n. EntryKnown seen n (slice_index known nth) later.1) here later.4,
       )
 
-  pub known_at : (cells : Cells) (known : List ℕ) (steps : List Step) → CollectedBy cells workers seen known steps
+  pub known_at : (cells : Cells) (known : List ℕ) (steps : List (Step Field))
+      → CollectedBy cells workers seen known steps
       → (nth : ℕ) → nth < workers
       → KnownAt nth (slice_index known nth) steps
   known_at cells known steps by nth less =
@@ -413,5 +420,5 @@ module _ (workers : ℕ) (seen : List ℕ) where
         found.1,
         found.2 ++ by.freeing,
         regrouped_after found.0 found.1 found.2 by.freeing by.raising steps by.steps_are found.3,
-        subst (λ n. EntryKnown workers seen n (slice_index known nth) found.1) here found.4,
+        subst (λ n. EntryKnown seen n (slice_index known nth) found.1) here found.4,
       )

@@ -4,9 +4,10 @@ use Rattle.std.proofs.Common.{ap, arith}
 use Rattle.std.specs.Prelude.{slice_index}
 use Rattle.std.proofs.lemmas.List.{append_assoc}
 use Rattle.nam_verbs.specs.Steps.{Step, saw, tried, Stretches}
+use Rattle.nam_header.specs.Tag.{freed}
 use Rattle.nam_layout.specs.declared.field.Cells.{Cells}
-use Rattle.nam_calls.specs.Stamps.{freed}
-use Rattle.nam_calls.specs.Words.{tag_at, end_at, horizon_at}
+use Rattle.nam_layout.specs.declared.field.Field.{Field}
+use Rattle.nam_layout.specs.declared.field.Field.TheVariants as field
 use Rattle.nam_horizon.specs.CollectLaw.{raised, EntryKnown, was_reached, is_raised, was_lost, EntriesKnown}
 use Rattle.nam_horizon.specs.CollectLaw.{looked, CellCollected, not_full, is_kept, is_freed, CollectedBy, RaisesEntry}
 use Rattle.nam_horizon.specs.CollectLaw.{FreesCell}
@@ -14,9 +15,9 @@ use Rattle.nam_horizon.specs.CollectLaw.{FreesCell}
 -- 1. A step among some steps
 
 -- it is among the first, or among the rest
-in_either : (x : Step) (first rest before after : List Step) → first ++ rest ≡ before ++ x ∷ after
-    → ((later : List Step) × (first ≡ before ++ x ∷ later))
-    ⊎ ((earlier : List Step) × (before ≡ first ++ earlier) × (rest ≡ earlier ++ x ∷ after))
+in_either : (x : Step Field) (first rest before after : List (Step Field)) → first ++ rest ≡ before ++ x ∷ after
+    → ((later : List (Step Field)) × (first ≡ before ++ x ∷ later))
+    ⊎ ((earlier : List (Step Field)) × (before ≡ first ++ earlier) × (rest ≡ earlier ++ x ∷ after))
 in_either x [] rest before after is = inr (before, refl, is)
 in_either x (step ∷ first) rest [] after is = inl (first, (let same : step ≡ x = cc in ap (λ s. s ∷ first) same))
 in_either x (step ∷ first) rest (one ∷ before) after is =
@@ -26,21 +27,22 @@ in_either x (step ∷ first) rest (one ∷ before) after is =
       | inr there ↦ inr (there.0, (let earlier = there.1 in cc), there.2)
     ]
 
-among_none : (x : Step) (before after : List Step) → [] ≡ before ++ x ∷ after → ⊥
+among_none : (x : Step Field) (before after : List (Step Field)) → [] ≡ before ++ x ∷ after → ⊥
 among_none x [] after is = cc
 among_none x (step ∷ before) after is = cc
 
-among_one : (x a : Step) (before after : List Step) → a ∷ [] ≡ before ++ x ∷ after → (x ≡ a) × (before ≡ [])
+among_one : (x a : Step Field) (before after : List (Step Field)) → a ∷ [] ≡ before ++ x ∷ after
+    → (x ≡ a) × (before ≡ [])
 among_one x a [] after is = (cc, refl)
 among_one x a (step ∷ before) after is = absurd (among_none x before after (cc))
 
-among_two : (x a b : Step) (before after : List Step) → a ∷ b ∷ [] ≡ before ++ x ∷ after → (x ≡ a)
+among_two : (x a b : Step Field) (before after : List (Step Field)) → a ∷ b ∷ [] ≡ before ++ x ∷ after → (x ≡ a)
     ⊎ ((x ≡ b) × (before ≡ a ∷ []))
 among_two x a b [] after is = inl (cc)
 among_two x a b (step ∷ before) after is =
     let later = among_one x b before after (cc) in let none = later.1 in inr (later.0, cc)
 
-among_three : (x a b c : Step) (before after : List Step) → a ∷ b ∷ c ∷ [] ≡ before ++ x ∷ after
+among_three : (x a b c : Step Field) (before after : List (Step Field)) → a ∷ b ∷ c ∷ [] ≡ before ++ x ∷ after
     → ((x ≡ a) ⊎ (x ≡ b)) ⊎ ((x ≡ c) × (before ≡ a ∷ b ∷ []))
 among_three x a b c [] after is = inl (inl (cc))
 among_three x a b c (step ∷ before) after is = elim (among_two x b c before after (cc)) [
@@ -49,44 +51,45 @@ among_three x a b c (step ∷ before) after is = elim (among_two x b c before af
 ]
 
 -- an exchange is no read, and its words are its own
-no_read : (address expected new found at word : ℕ) → tried address expected new found ≡ saw at word → ⊥
-no_read address expected new found at word is = let verb = ap (λ (step : Step). step.verb) is in cc
+no_read : (at : Field) (expected new found : ℕ) (other : Field) (word : ℕ)
+    → tried at expected new found ≡ saw other word → ⊥
+no_read at expected new found other word is = let verb = ap (λ (step : Step Field). step.verb) is in cc
 
-same_exchange : (address expected new found at other word lost : ℕ)
-    → tried address expected new found ≡ tried at other word lost
-    → (address ≡ at) × (expected ≡ other) × (new ≡ word)
-same_exchange address expected new found at other word lost is = let verb = ap (λ (step : Step). step.verb) is
+same_exchange : (at : Field) (expected new found : ℕ) (other : Field) (old word lost : ℕ)
+    → tried at expected new found ≡ tried other old word lost
+    → (at ≡ other) × (expected ≡ old) × (new ≡ word)
+same_exchange at expected new found other old word lost is = let verb = ap (λ (step : Step Field). step.verb) is
     in (cc, cc, cc)
 
 -- 2. The exchanges among some steps
 
 module _ (cells : Cells) (workers : ℕ) (seen known : List ℕ) where
-  abbrev Allowed : List Step → ℕ → ℕ → ℕ → Type 0
-  Allowed before address expected new = RaisesEntry workers seen before address expected new
-      ⊎ FreesCell cells known before address expected new
+  abbrev Allowed : List (Step Field) → Field → ℕ → ℕ → Type 0
+  Allowed before at expected new = RaisesEntry workers seen before at expected new
+      ⊎ FreesCell cells known before at expected new
 
-  abbrev Exchanges : List Step → Type 0
+  abbrev Exchanges : List (Step Field) → Type 0
   Exchanges steps =
-      (before after : List Step) (address expected new found : ℕ)
-      → steps ≡ before ++ tried address expected new found ∷ after
-      → Allowed before address expected new
+      (before after : List (Step Field)) (at : Field) (expected new found : ℕ)
+      → steps ≡ before ++ tried at expected new found ∷ after
+      → Allowed before at expected new
 
   -- steps that were done earlier don't matter
-  later_too : (first before : List Step) (address expected new : ℕ) → Allowed before address expected new
-      → Allowed (first ++ before) address expected new
-  later_too first before address expected new (inl raises) = inl (record {
+  later_too : (first before : List (Step Field)) (at : Field) (expected new : ℕ) → Allowed before at expected new
+      → Allowed (first ++ before) at expected new
+  later_too first before at expected new (inl raises) = inl (record {
     nth = raises.nth;
     within = raises.within;
-    address_is = raises.address_is;
+    at_is = raises.at_is;
     new_is = raises.new_is;
     rises = raises.rises;
     earlier = first ++ raises.earlier;
-    before_is = rw raises.before_is (sym (append_assoc first raises.earlier (saw address expected ∷ [])));
+    before_is = rw raises.before_is (sym (append_assoc first raises.earlier (saw at expected ∷ [])));
   })
-  later_too first before address expected new (inr frees) = inr (record {
+  later_too first before at expected new (inr frees) = inr (record {
     cell = frees.cell;
     within = frees.within;
-    address_is = frees.address_is;
+    at_is = frees.at_is;
     new_is = frees.new_is;
     ending = frees.ending;
     may = frees.may;
@@ -95,36 +98,37 @@ module _ (cells : Cells) (workers : ℕ) (seen known : List ℕ) where
         (sym (append_assoc first frees.earlier (looked cells known frees.cell expected frees.ending)));
   })
 
-  joined : (first rest : List Step) → Exchanges first → Exchanges rest → Exchanges (first ++ rest)
-  joined first rest are also before after address expected new found is =
-      elim (in_either (tried address expected new found) first rest before after is) [
-        | inl here ↦ are before here.0 address expected new found here.1
+  joined : (first rest : List (Step Field)) → Exchanges first → Exchanges rest → Exchanges (first ++ rest)
+  joined first rest are also before after at expected new found is =
+      elim (in_either (tried at expected new found) first rest before after is) [
+        | inl here ↦ are before here.0 at expected new found here.1
         | inr there ↦
             rw there.1
-            (later_too first there.0 address expected new (also there.0 after address expected new found there.2))
+            (later_too first there.0 at expected new (also there.0 after at expected new found there.2))
       ]
 
   none : Exchanges []
-  none before after address expected new found is = absurd
-      (among_none (tried address expected new found) before after is)
+  none before after at expected new found is = absurd
+      (among_none (tried at expected new found) before after is)
 
   -- 3. The exchanges of an entry, and of a cell
 
   raises : (nth entry word : ℕ) → nth < workers → entry < slice_index seen nth
-      → Exchanges (raised workers seen nth entry word)
-  raises nth entry word within lower before after address expected new found is =
-      let at = horizon_at workers (nth + 1) in
-      elim (among_two (tried address expected new found) (saw at entry) (tried at entry (slice_index seen nth) word)
+      → Exchanges (raised seen nth entry word)
+  raises nth entry word within lower before after at expected new found is =
+      let entry_at = field.Horizon (nth + 1) in
+      elim (among_two (tried at expected new found) (saw entry_at entry)
+      (tried entry_at entry (slice_index seen nth) word)
       before after is) [
-        | inl read ↦ absurd (no_read address expected new found at entry read)
+        | inl read ↦ absurd (no_read at expected new found entry_at entry read)
         | inr exchange ↦
-            let same = same_exchange address expected new found at entry (slice_index seen nth) word exchange.0 in
+            let same = same_exchange at expected new found entry_at entry (slice_index seen nth) word exchange.0 in
             let expected_is = same.1 in
             let new_is = same.2 in
             inl (record {
               nth = nth;
               within = within;
-              address_is = same.0;
+              at_is = same.0;
               new_is = new_is;
               rises = omega arith;
               earlier = [];
@@ -132,19 +136,19 @@ module _ (cells : Cells) (workers : ℕ) (seen known : List ℕ) where
             })
       ]
 
-  entry_exchanges : (nth entry : ℕ) (steps : List Step) → nth < workers → EntryKnown workers seen nth entry steps
+  entry_exchanges : (nth entry : ℕ) (steps : List (Step Field)) → nth < workers → EntryKnown seen nth entry steps
       → Exchanges steps
-  entry_exchanges nth entry steps within (was_reached least are) before after address expected new found is =
-      absurd (no_read address expected new found (horizon_at workers (nth + 1)) entry
-      (among_one (tried address expected new found) (saw (horizon_at workers (nth + 1)) entry) before after
+  entry_exchanges nth entry steps within (was_reached least are) before after at expected new found is =
+      absurd (no_read at expected new found (field.Horizon (nth + 1)) entry
+      (among_one (tried at expected new found) (saw (field.Horizon (nth + 1)) entry) before after
       (sym are ∙ is)).0)
-  entry_exchanges nth entry steps within (is_raised other lower same are) before after address expected new found is =
-      raises nth other other within lower before after address expected new found (sym are ∙ is)
-  entry_exchanges nth entry steps within (was_lost other lower lost are) before after address expected new found is =
-      raises nth other entry within lower before after address expected new found (sym are ∙ is)
+  entry_exchanges nth entry steps within (is_raised other lower same are) before after at expected new found is =
+      raises nth other other within lower before after at expected new found (sym are ∙ is)
+  entry_exchanges nth entry steps within (was_lost other lower lost are) before after at expected new found is =
+      raises nth other entry within lower before after at expected new found (sym are ∙ is)
 
-  entries_exchange : (entries : List ℕ) (nth : ℕ) (steps : List Step) → nth + length entries ≡ workers
-      → EntriesKnown workers seen nth entries steps
+  entries_exchange : (entries : List ℕ) (nth : ℕ) (steps : List (Step Field)) → nth + length entries ≡ workers
+      → EntriesKnown seen nth entries steps
       → Exchanges steps
   entries_exchange [] nth steps all are = rw are none
   entries_exchange (entry ∷ entries) nth steps all are =
@@ -152,29 +156,30 @@ module _ (cells : Cells) (workers : ℕ) (seen known : List ℕ) where
       (joined are.0 are.1 (entry_exchanges nth entry are.0 (omega arith) are.3)
       (entries_exchange entries (nth + 1) are.1 (omega arith) are.4))
 
-  cell_exchanges : (cell : ℕ) (steps : List Step) → cell < cells.cells → CellCollected cells known cell steps
+  cell_exchanges : (cell : ℕ) (steps : List (Step Field)) → cell < cells.cells → CellCollected cells known cell steps
       → Exchanges steps
-  cell_exchanges cell steps within (not_full tag other are) before after address expected new found is =
-      absurd (no_read address expected new found (tag_at cells cell) tag
-      (among_one (tried address expected new found) (saw (tag_at cells cell) tag) before after (sym are ∙ is)).0)
-  cell_exchanges cell steps within (is_kept tag ending full why are) before after address expected new found is =
-      elim (among_two (tried address expected new found) (saw (tag_at cells cell) tag)
-      (saw (end_at cells cell) ending) before after (sym are ∙ is)) [
-        | inl read ↦ absurd (no_read address expected new found (tag_at cells cell) tag read)
-        | inr read ↦ absurd (no_read address expected new found (end_at cells cell) ending read.0)
+  cell_exchanges cell steps within (not_full tag other are) before after at expected new found is =
+      absurd (no_read at expected new found (field.Tag cells.bucket cell) tag
+      (among_one (tried at expected new found) (saw (field.Tag cells.bucket cell) tag) before after (sym are ∙ is)).0)
+  cell_exchanges cell steps within (is_kept tag ending full why are) before after at expected new found is =
+      elim (among_two (tried at expected new found) (saw (field.Tag cells.bucket cell) tag)
+      (saw (field.End cells.bucket cell) ending) before after (sym are ∙ is)) [
+        | inl read ↦ absurd (no_read at expected new found (field.Tag cells.bucket cell) tag read)
+        | inr read ↦ absurd (no_read at expected new found (field.End cells.bucket cell) ending read.0)
       ]
-  cell_exchanges cell steps within (is_freed tag ending word may are) before after address expected new found is =
-      let free = tried (tag_at cells cell) tag (freed tag) word in
-      elim (among_three (tried address expected new found) (saw (tag_at cells cell) tag)
-      (saw (end_at cells cell) ending) free before after (sym are ∙ is)) [
-        | inl (inl read) ↦ absurd (no_read address expected new found (tag_at cells cell) tag read)
-        | inl (inr read) ↦ absurd (no_read address expected new found (end_at cells cell) ending read)
+  cell_exchanges cell steps within (is_freed tag ending word may are) before after at expected new found is =
+      let free = tried (field.Tag cells.bucket cell) tag (freed tag) word in
+      elim (among_three (tried at expected new found) (saw (field.Tag cells.bucket cell) tag)
+      (saw (field.End cells.bucket cell) ending) free before after (sym are ∙ is)) [
+        | inl (inl read) ↦ absurd (no_read at expected new found (field.Tag cells.bucket cell) tag read)
+        | inl (inr read) ↦ absurd (no_read at expected new found (field.End cells.bucket cell) ending read)
         | inr exchange ↦
-            let same = same_exchange address expected new found (tag_at cells cell) tag (freed tag) word exchange.0 in
+            let same =
+            same_exchange at expected new found (field.Tag cells.bucket cell) tag (freed tag) word exchange.0 in
             inr (record {
               cell = cell;
               within = within;
-              address_is = same.0;
+              at_is = same.0;
               new_is = rw same.1 same.2;
               ending = ending;
               may = rw same.1 may;
@@ -183,7 +188,7 @@ module _ (cells : Cells) (workers : ℕ) (seen known : List ℕ) where
             })
       ]
 
-  cells_exchange : (count cell : ℕ) (steps : List Step) → cell + count ≡ cells.cells
+  cells_exchange : (count cell : ℕ) (steps : List (Step Field)) → cell + count ≡ cells.cells
       → Stretches (CellCollected cells known) cell count steps
       → Exchanges steps
   cells_exchange zero cell steps all are = rw are none
@@ -192,7 +197,7 @@ module _ (cells : Cells) (workers : ℕ) (seen known : List ℕ) where
       (joined are.0 are.1 (cell_exchanges cell are.0 (omega arith) are.3)
       (cells_exchange count (cell + 1) are.1 (omega arith) are.4))
 
-  pub exchanges : (steps : List Step) → CollectedBy cells workers seen known steps → Exchanges steps
+  pub exchanges : (steps : List (Step Field)) → CollectedBy cells workers seen known steps → Exchanges steps
   exchanges steps by =
       let all = by.all in
       rw by.steps_are (joined by.raising by.freeing (entries_exchange known 0 by.raising (omega arith) by.entries)

@@ -1,4 +1,3 @@
 pub mod OldLemmas
 pub mod CollectLemmas
 pub mod ExchangeLemmas
-pub mod ReachLemmas

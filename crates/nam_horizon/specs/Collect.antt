@@ -6,10 +6,11 @@ use Rattle.nam_verbs.specs.Now.{FitsNow}
 use Rattle.nam_verbs.specs.Running.{Running}
 use Rattle.nam_layout.specs.declared.field.Cells.{Cells}
 use Rattle.nam_layout.specs.PlaceFits.{FitsCells}
+use Rattle.nam_layout.specs.Place.{no_place, known_address, cells_end, later}
+use Rattle.nam_layout.specs.declared.field.Field.{Field}
 use Rattle.nam_calls.specs.declared.horizon.CollectPlace.{CollectPlace}
 use Rattle.nam_calls.specs.Fits.{CollectFits}
 use Rattle.nam_calls.specs.Horizon.{collect_begin, collect_verb, collect_after, collect_left}
-use Rattle.nam_words.specs.Ends.{cells_end, later}
 
 -- the collection of a bucket under a snapshot of so many workers' entries, and where it stands
 pub record Collecting : Type 0 where
@@ -30,12 +31,17 @@ pub record FitsCollecting (cells : Cells) (workers : ℕ) (seen : List ℕ) (sta
 abbrev pub collecting : Cells → ℕ → List ℕ → Collecting
 collecting cells workers seen = record { cells = cells; workers = workers; seen = seen; state = At collect_begin }
 
+-- where the fields stand that it reaches: entries of workers, and the bucket's cells
+abbrev pub collect_address : Cells → ℕ → Field → ℕ
+collect_address cells workers = known_address no_place cells workers
+
 -- the same as a running call
-abbrev pub running : Collecting → Running CollectPlace (List ℕ)
+abbrev pub running : Collecting → Running Field CollectPlace (List ℕ)
 running a = record {
-  verb = collect_verb a.cells a.workers a.seen;
+  address = collect_address a.cells a.workers;
+  reach = later (2 * a.workers) (cells_end a.cells);
+  verb = collect_verb a.cells a.seen;
   after = collect_after a.cells a.workers a.seen;
   left = collect_left a.cells a.workers;
-  reach = later (2 * a.workers) (cells_end a.cells);
   state = a.state;
 }

@@ -3,6 +3,8 @@ use Rattle.std.specs.Prelude.{ℕ, ◌*◌, List}
 use Rattle.nam_verbs.specs.declared.now.Now.{Now}
 use Rattle.nam_verbs.specs.declared.now.Now.TheVariants.{At}
 use Rattle.nam_verbs.specs.Running.{Running}
+use Rattle.nam_layout.specs.Place.{worker_address}
+use Rattle.nam_layout.specs.declared.field.Field.{Field}
 use Rattle.nam_calls.specs.declared.horizon.OldEnd.{OldEnd}
 use Rattle.nam_calls.specs.Horizon.{old_begin, old_verb, old_after, old_left}
 
@@ -17,11 +19,12 @@ abbrev pub showing : ℕ → List ℕ → Showing
 showing workers seen = record { workers = workers; seen = seen; state = At old_begin }
 
 -- the same as a running call
-abbrev pub running : Showing → Running ℕ OldEnd
+abbrev pub running : Showing → Running Field ℕ OldEnd
 running a = record {
-  verb = old_verb a.workers;
+  address = worker_address a.workers;
+  reach = 2 * a.workers;
+  verb = old_verb;
   after = old_after a.workers a.seen;
   left = old_left a.workers;
-  reach = 2 * a.workers;
   state = a.state;
 }

@@ -2,26 +2,26 @@
 
 ghost use Rattle.std.specs.Prelude.{◌≡◌, ◌<◌, ◌≤◌, ◌+◌, ◌*◌, length};
 ghost use Rattle.nam_verbs.specs.Verb.{address_of};
+ghost use Rattle.nam_verbs.specs.VerbAt.{verb_by};
 ghost use Rattle.nam_verbs.specs.Running.{verbs_left};
+ghost use Rattle.nam_layout.specs.Place.{cells_end, later};
 ghost use Rattle.nam_layout.specs.PlaceFits.{FitsCells};
+ghost use Rattle.nam_calls.specs.Horizon.{collect_begin, collect_verb, collect_after, collect_left};
+ghost use Rattle.nam_calls.specs.Horizon.{entry_known, collect_next};
 ghost use Rattle.nam_calls.specs.Fits.{CollectFits};
-ghost use Rattle.nam_calls.specs.Horizon.{collect_begin as begin, collect_verb as verb_at};
-ghost use Rattle.nam_calls.specs.Horizon.{collect_after as after_word, collect_left as left_at};
-ghost use Rattle.nam_calls.specs.Horizon.{entry_known as after_entry, collect_next as after_cell};
-ghost use Rattle.nam_words.specs.Ends.{cells_end, later};
-ghost use Rattle.nam_horizon.specs.Collect.{collecting, running};
+ghost use Rattle.nam_horizon.specs.Collect.{collect_address, collecting, running};
 
 use nam_calls::CollectPlace;
-use nam_layout::Cells;
+use nam_header::{Tag, is_within, stamp_in};
+use nam_layout::{Cells, Field, horizon_at};
 use nam_verbs::{Machine, Now, Verb};
-use nam_words::{end_at, freed, has_next, horizon_at, is_full, is_within, stamp_in, tag_at};
 use si_model::Snapshot;
 use std::marker::Model;
 use std::mem::replace;
 
 /// Where a collection begins: no entry of the horizon is known.
 pub fn collect_begin() -> CollectPlace
-    ensures { result ≡ begin }
+    ensures { result ≡ collect_begin }
 {
     CollectPlace::HorizonLook {
         known: Snapshot::new(),
@@ -33,7 +33,7 @@ pub fn collect_verb(cells: &Cells, workers: u32, seen: &Snapshot, at: &CollectPl
     requires fits { FitsCells cells.now }
     requires seen { length seen.now ≡ workers }
     requires at { CollectFits cells.now workers at.now }
-    ensures value { result ≡ verb_at cells.now workers seen.now at.now }
+    ensures value { result ≡ verb_by (collect_address cells.now workers) (collect_verb cells.now seen.now at.now) }
     ensures within { address_of result < later (2 * workers) (cells_end cells.now) }
 {
     match at {
@@ -46,21 +46,21 @@ pub fn collect_verb(cells: &Cells, workers: u32, seen: &Snapshot, at: &CollectPl
             word: *seen.at(known.len()),
         },
         CollectPlace::CollectTag { cell, .. } => Verb::Read {
-            at: tag_at(cells, *cell),
+            at: cells.tag(*cell),
         },
         CollectPlace::CollectEnding { cell, .. } => Verb::Read {
-            at: end_at(cells, *cell),
+            at: cells.end(*cell),
         },
         CollectPlace::CollectFree { cell, tag, .. } => Verb::Exchange {
-            at: tag_at(cells, *cell),
+            at: cells.tag(*cell),
             expect: *tag,
-            word: freed(*tag),
+            word: Tag(*tag).freed().0,
         },
     }
 }
 
 fn entry_known(workers: u32, known: Snapshot) -> Now<CollectPlace, Snapshot>
-    ensures { result ≡ after_entry workers known }
+    ensures { result ≡ entry_known workers known }
 {
     if known.len() == workers as usize {
         Now::At(CollectPlace::CollectTag { known, cell: 0 })
@@ -72,7 +72,7 @@ fn entry_known(workers: u32, known: Snapshot) -> Now<CollectPlace, Snapshot>
 fn collect_next(cells: &Cells, known: Snapshot, cell: u32) -> Now<CollectPlace, Snapshot>
     requires fits { FitsCells cells.now }
     requires cell { cell < cells.now.cells }
-    ensures { result ≡ after_cell cells.now known cell }
+    ensures { result ≡ collect_next cells.now known cell }
 {
     if cell + 1 == cells.cells {
         Now::Over(known)
@@ -96,7 +96,7 @@ pub fn collect_after(
     requires workers { workers ≤ 16 }
     requires seen { length seen.now ≡ workers }
     requires at { CollectFits cells.now workers at }
-    ensures { result ≡ after_word cells.now workers seen.now at found }
+    ensures { result ≡ collect_after cells.now workers seen.now at found }
 {
     match at {
         CollectPlace::HorizonLook { mut known } => {
@@ -120,7 +120,7 @@ pub fn collect_after(
             entry_known(workers, known)
         }
         CollectPlace::CollectTag { known, cell } => {
-            if is_full(found) {
+            if Tag(found).is_full() {
                 Now::At(CollectPlace::CollectEnding {
                     known,
                     cell,
@@ -131,7 +131,9 @@ pub fn collect_after(
             }
         }
         CollectPlace::CollectEnding { known, cell, tag } => {
-            if is_within(stamp_in(cells.form, found), &known) && has_next(tag) {
+            // Within what is known of the horizon, and not only within the own snapshot: a snapshot that another
+            // worker has may still need the version.
+            if is_within(stamp_in(cells.form, found), &known) && Tag(tag).has_next() {
                 Now::At(CollectPlace::CollectFree { known, cell, tag })
             } else {
                 collect_next(cells, known, cell)
@@ -145,7 +147,7 @@ pub fn collect_after(
 pub fn collect_left(cells: &Cells, workers: u32, at: &CollectPlace) -> u64
     requires fits { FitsCells cells.now }
     requires at { CollectFits cells.now workers at.now }
-    ensures { result ≡ left_at cells.now workers at.now }
+    ensures { result ≡ collect_left cells.now workers at.now }
 {
     let workers = workers as u64;
     let count = cells.cells as u64;
@@ -200,44 +202,33 @@ impl Collect {
 }
 
 impl Machine for Collect {
-    ghost use Rattle.nam_verbs.specs.Running.{next_verb, after_found, end_of, verbs_left, stands_until_end};
     ghost use Rattle.nam_horizon.specs.Collect.{running};
+
+    type Word = Field;
+
+    type Place = CollectPlace;
 
     type End = Snapshot;
 
-    ghost next = { λ a. next_verb (running a) };
+    ghost running = { running };
 
-    ghost after = { λ a found. record a { state = (after_found (running a) found).state } };
+    fn state(&self) -> &Now<CollectPlace, Snapshot> {
+        &self.state
+    }
 
-    ghost ended = { λ a. end_of (running a) };
+    fn verb_from(&self, place: &CollectPlace) -> Verb {
+        collect_verb(&self.cells, self.workers, &self.seen, place)
+    }
 
-    ghost rest = { λ a. verbs_left (running a) };
-
-    ghost reach = { λ a. (running a).reach };
-
-    ghost stands_until_end = { λ a. stands_until_end (running a) };
-
-    fn verb(&self) -> Option<Verb> {
-        match &self.state {
-            Now::At(at) => Some(collect_verb(&self.cells, self.workers, &self.seen, at)),
-            Now::Over(_) => None,
-        }
+    fn left_from(&self, place: &CollectPlace) -> u64 {
+        collect_left(&self.cells, self.workers, place)
     }
 
     fn take(&mut self, found: u64) {
-        match replace(&mut self.state, Now::At(collect_begin())) {
-            Now::At(at) => {
-                self.state = collect_after(&self.cells, self.workers, &self.seen, at, found);
-            }
-            Now::Over(end) => self.state = Now::Over(end),
-        }
-    }
-
-    fn left(&self) -> u64 {
-        match &self.state {
-            Now::At(at) => collect_left(&self.cells, self.workers, at),
-            Now::Over(_) => 0,
-        }
+        self.state = match replace(&mut self.state, Now::At(collect_begin())) {
+            Now::At(place) => collect_after(&self.cells, self.workers, &self.seen, place, found),
+            Now::Over(end) => Now::Over(end),
+        };
     }
 
     fn end(&self) -> Option<Snapshot> {

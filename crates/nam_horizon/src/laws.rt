@@ -1,7 +1,7 @@
 //! What the machines make of the words that their verbs find, whatever these words are.
 
-ghost use Rattle.nam_horizon.specs.CollectLaw.{CollectLaw, KnownLaw, ExchangeLaw, CollectReachesLaw};
-ghost use Rattle.nam_horizon.specs.OldLaw.{TooOldLaw, NotPassedLaw, OldReachesLaw};
+ghost use Rattle.nam_horizon.specs.CollectLaw.{CollectLaw, KnownLaw, ExchangeLaw, CollectFieldLaw};
+ghost use Rattle.nam_horizon.specs.OldLaw.{TooOldLaw, NotPassedLaw, OldFieldLaw};
 
 /// A collection ends with a horizon exactly where it became known entry after entry, and then cell after cell was
 /// collected under it: each entry was read, and exchanged for the snapshot's where it was lower; each cell's tag was
@@ -25,8 +25,9 @@ pub fn old_law()
     ensures not_passed { NotPassedLaw }
 {}
 
-/// Whatever words are found, each verb reaches the horizon entry, or the tag or end of a cell, that its place says.
-pub fn reach_law()
-    ensures collect { CollectReachesLaw }
-    ensures old { OldReachesLaw }
+/// Whatever words are found, each verb is at an entry of a worker, or at a field of the bucket's cells. `place_law` of
+/// `nam_layout` says where such a field stands.
+pub fn field_law()
+    ensures collect { CollectFieldLaw }
+    ensures old { OldFieldLaw }
 {}

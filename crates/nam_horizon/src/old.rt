@@ -2,22 +2,23 @@
 
 ghost use Rattle.std.specs.Prelude.{◌≡◌, ◌<◌, ◌≤◌, ◌*◌, length};
 ghost use Rattle.nam_verbs.specs.Verb.{address_of};
+ghost use Rattle.nam_verbs.specs.VerbAt.{verb_by};
 ghost use Rattle.nam_verbs.specs.Running.{verbs_left};
+ghost use Rattle.nam_layout.specs.Place.{worker_address};
 ghost use Rattle.nam_calls.specs.Fits.{IsOf};
-ghost use Rattle.nam_calls.specs.Horizon.{old_begin as begin, old_verb as verb_at};
-ghost use Rattle.nam_calls.specs.Horizon.{old_after as after_word, old_left as left_at};
+ghost use Rattle.nam_calls.specs.Horizon.{old_begin, old_verb, old_after, old_left};
 ghost use Rattle.nam_horizon.specs.Old.{showing, running};
 
 use nam_calls::OldEnd;
+use nam_layout::{Field, horizon_at};
 use nam_verbs::{Machine, Now, Verb};
-use nam_words::horizon_at;
 use si_model::Snapshot;
 use std::marker::Model;
 use std::mem::replace;
 
 /// Where it begins: at the first worker.
 pub fn old_begin() -> u32
-    ensures { result ≡ begin }
+    ensures { result ≡ old_begin }
 {
     1
 }
@@ -25,7 +26,7 @@ pub fn old_begin() -> u32
 /// The verb that stands at a worker.
 pub fn old_verb(workers: u32, worker: u32) -> Verb
     requires { IsOf workers worker }
-    ensures value { result ≡ verb_at workers worker }
+    ensures value { result ≡ verb_by (worker_address workers) (old_verb worker) }
     ensures within { address_of result < 2 * workers }
 {
     Verb::Read {
@@ -37,7 +38,7 @@ pub fn old_verb(workers: u32, worker: u32) -> Verb
 pub fn old_after(workers: u32, seen: &Snapshot, worker: u32, found: u64) -> Now<u32, OldEnd>
     requires seen { length seen.now ≡ workers }
     requires worker { IsOf workers worker }
-    ensures { result ≡ after_word workers seen.now worker found }
+    ensures { result ≡ old_after workers seen.now worker found }
 {
     let entry = *seen.at(worker as usize - 1);
     if entry < found {
@@ -56,7 +57,7 @@ pub fn old_after(workers: u32, seen: &Snapshot, worker: u32, found: u64) -> Now<
 /// A number of verbs that are to come from a worker on at the most.
 pub fn old_left(workers: u32, worker: u32) -> u64
     requires { IsOf workers worker }
-    ensures { result ≡ left_at workers worker }
+    ensures { result ≡ old_left workers worker }
 {
     workers as u64 + 1 - worker as u64
 }
@@ -100,48 +101,36 @@ impl ShowOld {
 }
 
 impl Machine for ShowOld {
-    ghost use Rattle.nam_verbs.specs.Running.{next_verb, after_found, end_of, verbs_left, stands_until_end};
     ghost use Rattle.nam_horizon.specs.Old.{running};
+
+    type Word = Field;
+
+    type Place = u32;
 
     type End = OldEnd;
 
-    ghost next = { λ a. next_verb (running a) };
+    ghost running = { running };
 
-    ghost after = { λ a found. record a { state = (after_found (running a) found).state } };
+    fn state(&self) -> &Now<u32, OldEnd> {
+        &self.state
+    }
 
-    ghost ended = { λ a. end_of (running a) };
+    fn verb_from(&self, worker: &u32) -> Verb {
+        old_verb(self.workers, *worker)
+    }
 
-    ghost rest = { λ a. verbs_left (running a) };
-
-    ghost reach = { λ a. (running a).reach };
-
-    ghost stands_until_end = { λ a. stands_until_end (running a) };
-
-    fn verb(&self) -> Option<Verb> {
-        match &self.state {
-            Now::At(worker) => Some(old_verb(self.workers, *worker)),
-            Now::Over(_) => None,
-        }
+    fn left_from(&self, worker: &u32) -> u64 {
+        old_left(self.workers, *worker)
     }
 
     fn take(&mut self, found: u64) {
-        match replace(&mut self.state, Now::At(old_begin())) {
-            Now::At(worker) => self.state = old_after(self.workers, &self.seen, worker, found),
-            Now::Over(end) => self.state = Now::Over(end),
-        }
-    }
-
-    fn left(&self) -> u64 {
-        match &self.state {
-            Now::At(worker) => old_left(self.workers, *worker),
-            Now::Over(_) => 0,
-        }
+        self.state = match replace(&mut self.state, Now::At(old_begin())) {
+            Now::At(worker) => old_after(self.workers, &self.seen, worker, found),
+            Now::Over(end) => Now::Over(end),
+        };
     }
 
     fn end(&self) -> Option<OldEnd> {
-        match &self.state {
-            Now::At(_) => None,
-            Now::Over(end) => Some(*end),
-        }
+        self.state.end()
     }
 }

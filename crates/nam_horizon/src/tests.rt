@@ -1,9 +1,6 @@
-ghost use Rattle.std.specs.Prelude.{◌≡◌, length};
-
 use crate::{Collect, OldEnd, ShowOld};
-use nam_trial::{PlainStore, plain_shape};
-use nam_verbs::{Machine, Verb};
-use si_model::Snapshot;
+use nam_trial::{PlainStore, exchange, pair, plain_shape, read, takes};
+use nam_verbs::Machine;
 use std::alloc::{AllocError, Global};
 
 // The end stamps of two versions of worker 1, which its commits 5 and 6 ended.
@@ -16,34 +13,17 @@ fn opened(alloc: Global) -> Result<Option<PlainStore>, AllocError> {
     PlainStore::new(alloc, plain_shape(1, 1, 1, 3))
 }
 
-fn snapshot(first: u64, second: u64) -> Snapshot
-    ensures { length result ≡ 2 }
-{
-    let mut snapshot = Snapshot::new();
-    snapshot.push(first);
-    snapshot.push(second);
-    snapshot
-}
-
 // Makes a cell full, with this end.
 fn fill(store: &mut PlainStore, tag: u32, ending: u64) {
     store.set(tag as u64, 2);
     store.set(tag as u64 + 3, ending);
 }
 
-fn read(at: u64) -> Verb {
-    Verb::Read { at }
-}
-
-fn exchange(at: u64, expect: u64, word: u64) -> Verb {
-    Verb::Exchange { at, expect, word }
-}
-
 #[test]
 fn the_horizon_is_raised_to_the_snapshot(rt: HostRuntime) -> Result<(), AllocError> {
     let mut store = opened(rt.alloc())?.expect(&rt, "a store");
     let cells = store.cells(0).expect(&rt, "a bucket");
-    let mut collect = Collect::new(cells, 2, snapshot(5, 0));
+    let mut collect = Collect::new(cells, 2, pair(5, 0));
     assert_eq!(rt; collect.left(), 4 + 3 * cells.cells as u64);
     let verbs = store.run(rt.alloc(), &mut collect)?;
     let expected = [
@@ -55,7 +35,7 @@ fn the_horizon_is_raised_to_the_snapshot(rt: HostRuntime) -> Result<(), AllocErr
         read(35),
     ];
     assert!(rt; verbs.as_slice() == expected.as_slice());
-    assert!(rt; collect.end() == Some(snapshot(5, 0)));
+    assert!(rt; collect.end() == Some(pair(5, 0)));
     assert_eq!(rt; store.word(2), 5);
     Ok(())
 }
@@ -67,7 +47,7 @@ fn a_cell_within_the_horizon_is_freed(rt: HostRuntime) -> Result<(), AllocError>
     store.set(2, 5);
     fill(&mut store, 11, FIFTH);
     fill(&mut store, 23, SIXTH);
-    let mut collect = Collect::new(cells, 2, snapshot(4, 0));
+    let mut collect = Collect::new(cells, 2, pair(4, 0));
     let verbs = store.run(rt.alloc(), &mut collect)?;
     let expected = [
         read(2),
@@ -80,7 +60,7 @@ fn a_cell_within_the_horizon_is_freed(rt: HostRuntime) -> Result<(), AllocError>
         read(35),
     ];
     assert!(rt; verbs.as_slice() == expected.as_slice());
-    assert!(rt; collect.end() == Some(snapshot(5, 0)));
+    assert!(rt; collect.end() == Some(pair(5, 0)));
     assert_eq!(rt; store.word(11), 4);
     assert_eq!(rt; store.word(23), 2);
     Ok(())
@@ -91,7 +71,7 @@ fn a_cell_within_the_horizon_is_freed(rt: HostRuntime) -> Result<(), AllocError>
 fn a_lost_exchange_leaves_the_horizon_that_was_found(rt: HostRuntime) -> Result<(), AllocError> {
     let store = opened(rt.alloc())?.expect(&rt, "a store");
     let cells = store.cells(0).expect(&rt, "a bucket");
-    let mut collect = Collect::new(cells, 2, snapshot(5, 0));
+    let mut collect = Collect::new(cells, 2, pair(5, 0));
     let steps = [
         (read(2), 0),
         (exchange(2, 0, 5), 3),
@@ -101,11 +81,8 @@ fn a_lost_exchange_leaves_the_horizon_that_was_found(rt: HostRuntime) -> Result<
         (read(23), 1),
         (read(35), 0),
     ];
-    for (verb, found) in steps {
-        assert_eq!(rt; collect.verb(), Some(verb));
-        collect.take(found);
-    }
-    assert!(rt; collect.end() == Some(snapshot(3, 0)));
+    assert!(rt; takes(&mut collect, &steps));
+    assert!(rt; collect.end() == Some(pair(3, 0)));
     Ok(())
 }
 
@@ -113,7 +90,7 @@ fn a_lost_exchange_leaves_the_horizon_that_was_found(rt: HostRuntime) -> Result<
 fn a_snapshot_below_the_horizon_is_too_old(rt: HostRuntime) -> Result<(), AllocError> {
     let mut store = opened(rt.alloc())?.expect(&rt, "a store");
     store.set(3, 5);
-    let mut old = ShowOld::new(2, snapshot(0, 4));
+    let mut old = ShowOld::new(2, pair(0, 4));
     assert_eq!(rt; old.left(), 2);
     let verbs = store.run(rt.alloc(), &mut old)?;
     assert!(rt; verbs.as_slice() == [read(2), read(3)].as_slice());
@@ -130,7 +107,7 @@ fn a_snapshot_below_the_horizon_is_too_old(rt: HostRuntime) -> Result<(), AllocE
 fn a_snapshot_at_the_horizon_is_not_passed(rt: HostRuntime) -> Result<(), AllocError> {
     let mut store = opened(rt.alloc())?.expect(&rt, "a store");
     store.set(3, 5);
-    let mut old = ShowOld::new(2, snapshot(0, 5));
+    let mut old = ShowOld::new(2, pair(0, 5));
     let verbs = store.run(rt.alloc(), &mut old)?;
     assert!(rt; verbs.as_slice() == [read(2), read(3)].as_slice());
     assert_eq!(rt; old.end(), Some(OldEnd::NotPassed));

@@ -1,5 +1,5 @@
 pub mod Faults
-pub mod Told
+pub mod Fronts
 pub mod Calls
 pub mod Memory
 pub mod Adapted

@@ -3,7 +3,7 @@
 ghost use Rattle.std.specs.Prelude.{◌≡◌, ◌≢◌, ◌<◌, ◌≤◌, ◌+◌, vec_len, length, IfOk, OnOk, IfSome};
 ghost use Rattle.std.specs.Io.KnownBytes.{Consumes, IsAtEnd};
 ghost use Rattle.nam_io.specs.Faults.{Rose};
-ghost use Rattle.nam_io.specs.Told.{LosesFront};
+ghost use Rattle.nam_io.specs.Fronts.{LosesFront};
 
 use crate::read_end::ReadEnd;
 use crate::source::Source;

@@ -3,7 +3,7 @@
 ghost use Rattle.std.specs.Prelude.{◌≡◌, ◌≤◌, OnOk, OnErr};
 ghost use Rattle.std.specs.Io.KnownBytes.{Appends};
 ghost use Rattle.nam_io.specs.Faults.{Rose};
-ghost use Rattle.nam_io.specs.Told.{AppendsFront};
+ghost use Rattle.nam_io.specs.Fronts.{AppendsFront};
 
 use crate::failed::Failed;
 use crate::sink::Sink;

@@ -4,10 +4,14 @@ use Rattle.std.proofs.lemmas.Nat.{div-mul-add, mod-mul-add}
 use Rattle.nam_catalog.specs.declared.shape.Shape.{Shape}
 use Rattle.nam_catalog.specs.Words.{slot_words, position_words, tables_words, cell_words, intent_words, words_of}
 use Rattle.nam_layout.specs.declared.field.Field.{Field}
-use Rattle.nam_layout.specs.declared.field.Field.TheVariants.{Entry, Horizon, Key, Header, Count, Word, SlotHeader, SlotEnd, SlotWord, Tag, Owner, Begin, End, CellWord, Intent}
+use Rattle.nam_layout.specs.declared.field.Field.TheVariants.{Entry, Horizon, Key, Header, Count, Word, SlotHeader}
+use Rattle.nam_layout.specs.declared.field.Field.TheVariants.{SlotEnd, SlotWord, Tag, Owner, Begin, End, CellWord}
+use Rattle.nam_layout.specs.declared.field.Field.TheVariants.{Intent}
 use Rattle.nam_layout.specs.Rows.{width_at, ring_at, row_at}
-use Rattle.nam_layout.specs.Address.{IsField, IsWorker, IsRow, IsSlot, IsCell, tables_at, cells_at, intents_at, position_at, slot_at, cell_at, address}
-use Rattle.nam_layout.specs.FieldAt.{rest_in, field_in_slot, field_in_position, field_in_tables, field_in_cell, field_in_cells, field_in_intents, field_at}
+use Rattle.nam_layout.specs.Address.{IsField, IsWorker, IsRow, IsSlot, IsCell, tables_at, cells_at, intents_at}
+use Rattle.nam_layout.specs.Address.{position_at, slot_at, cell_at, address}
+use Rattle.nam_layout.specs.FieldAt.{rest_in, field_in_slot, field_in_position, field_in_tables, field_in_cell}
+use Rattle.nam_layout.specs.FieldAt.{field_in_cells, field_in_intents, field_at}
 use Rattle.nam_layout.proofs.TestLemmas.{if_less, if_not_less, if_other}
 use Rattle.nam_layout.proofs.NumberLemmas.{place_within}
 use Rattle.nam_layout.proofs.RowLemmas.{row_stands}
@@ -47,7 +51,8 @@ old width row slot rest less =
     let after : at - (3 + width) ≡ slot * slot_words width + rest = omega arith in
     if_other _ _ _ _ some ∙ if_other _ _ _ _ more ∙ if_other _ _ _ _ most ∙ if_not_less _ _ _ _ past
     ∙ ap (λ n. field_in_slot row (n / slot_words width) (n % slot_words width)) after
-    ∙ ap (λ s. field_in_slot row s ((slot * slot_words width + rest) % slot_words width)) (div-mul-add slot (slot_words width) rest less)
+    ∙ ap (λ s. field_in_slot row s ((slot * slot_words width + rest) % slot_words width))
+    (div-mul-add slot (slot_words width) rest less)
     ∙ ap (field_in_slot row slot) (mod-mul-add slot (slot_words width) rest less)
 
 cell_word : (bucket cell nth : ℕ) → field_in_cell bucket cell (4 + nth) ≡ CellWord bucket cell nth
@@ -57,7 +62,8 @@ cell_word bucket cell nth =
     let many : 4 + nth ≢ 2 = λ same. omega arith in
     let most : 4 + nth ≢ 3 = λ same. omega arith in
     let after : 4 + nth - 4 ≡ nth = omega arith in
-    if_other _ _ _ _ some ∙ if_other _ _ _ _ more ∙ if_other _ _ _ _ many ∙ if_other _ _ _ _ most ∙ ap (CellWord bucket cell) after
+    if_other _ _ _ _ some ∙ if_other _ _ _ _ more ∙ if_other _ _ _ _ many ∙ if_other _ _ _ _ most
+    ∙ ap (CellWord bucket cell) after
 
 module _ (shape : Shape) where
   -- the word at an address is this field
@@ -68,21 +74,25 @@ module _ (shape : Shape) where
   in_vector : (at : ℕ) → at < shape.workers → field_at shape at ≡ Entry (at + 1)
   in_vector at less = if_less _ _ _ _ less
 
-  in_horizon : (at : ℕ) → shape.workers ≤ at → at < tables_at shape → field_at shape at ≡ Horizon (at - shape.workers + 1)
+  in_horizon : (at : ℕ) → shape.workers ≤ at → at < tables_at shape
+      → field_at shape at ≡ Horizon (at - shape.workers + 1)
   in_horizon at least less = if_not_less _ _ _ _ least ∙ if_less _ _ _ _ less
 
-  pub in_tables : (at : ℕ) → tables_at shape ≤ at → at < cells_at shape → field_at shape at ≡ field_in_tables shape.tables (at - tables_at shape)
+  pub in_tables : (at : ℕ) → tables_at shape ≤ at → at < cells_at shape
+      → field_at shape at ≡ field_in_tables shape.tables (at - tables_at shape)
   in_tables at least less =
       let past : shape.workers ≤ at = omega arith in
       if_not_less _ _ _ _ past ∙ if_not_less _ _ _ _ least ∙ if_less _ _ _ _ less
 
-  in_cells : (at : ℕ) → cells_at shape ≤ at → at < intents_at shape → field_at shape at ≡ field_in_cells shape.cells (at - cells_at shape)
+  in_cells : (at : ℕ) → cells_at shape ≤ at → at < intents_at shape
+      → field_at shape at ≡ field_in_cells shape.cells (at - cells_at shape)
   in_cells at least less =
       let past : shape.workers ≤ at = omega arith in
       let over : tables_at shape ≤ at = omega arith in
       if_not_less _ _ _ _ past ∙ if_not_less _ _ _ _ over ∙ if_not_less _ _ _ _ least ∙ if_less _ _ _ _ less
 
-  in_intents : (at : ℕ) → intents_at shape ≤ at → field_at shape at ≡ field_in_intents (intent_words shape.form) (at - intents_at shape)
+  in_intents : (at : ℕ) → intents_at shape ≤ at
+      → field_at shape at ≡ field_in_intents (intent_words shape.form) (at - intents_at shape)
   in_intents at least =
       let past : shape.workers ≤ at = omega arith in
       let over : tables_at shape ≤ at = omega arith in
@@ -114,16 +124,19 @@ module _ (shape : Shape) where
             ∙ ap (field_in_position (width_at shape.tables row) row) stands.rest_is,
       )
 
-  slot_found : (at row slot rest : ℕ) → at ≡ slot_at shape row slot + rest → IsSlot shape row slot → rest < slot_words (width_at shape.tables row)
+  slot_found : (at row slot rest : ℕ) → at ≡ slot_at shape row slot + rest → IsSlot shape row slot
+      → rest < slot_words (width_at shape.tables row)
       → Finds at (field_in_slot row slot rest)
   slot_found at row slot rest there is less =
       let width = width_at shape.tables row in
       let within : slot * slot_words width + rest < ring_at shape.tables row * slot_words width
       = place_within slot (slot_words width) rest (ring_at shape.tables row) is.1 less in
-      let found = position_found at row (3 + width + (slot * slot_words width + rest)) (omega arith) is.0 (omega arith) in
+      let found = position_found at row (3 + width + (slot * slot_words width + rest))
+      (omega arith) is.0 (omega arith) in
       (found.0, found.1 ∙ old width row slot rest less)
 
-  cell_found : (at bucket cell rest : ℕ) → at ≡ cell_at shape bucket cell + rest → IsCell shape bucket cell → rest < cell_words
+  cell_found : (at bucket cell rest : ℕ) → at ≡ cell_at shape bucket cell + rest → IsCell shape bucket cell
+      → rest < cell_words
       → Finds at (field_in_cell bucket cell rest)
   cell_found at bucket cell rest there is less =
       let cells = shape.cells in
@@ -135,7 +148,8 @@ module _ (shape : Shape) where
         omega arith,
         in_cells at (omega arith) (omega arith)
             ∙ ap (field_in_cells cells) from
-            ∙ ap (λ n. field_in_cell (n / cells) (n % cells) ((nth * cell_words + rest) % cell_words)) (div-mul-add nth cell_words rest less)
+            ∙ ap (λ n. field_in_cell (n / cells) (n % cells) ((nth * cell_words + rest) % cell_words))
+            (div-mul-add nth cell_words rest less)
             ∙ ap (field_in_cell (nth / cells) (nth % cells)) (mod-mul-add nth cell_words rest less)
             ∙ ap (λ b. field_in_cell b (nth % cells) rest) (div-mul-add bucket cells cell is.1)
             ∙ ap (λ c. field_in_cell bucket c rest) (mod-mul-add bucket cells cell is.1),
@@ -147,7 +161,8 @@ module _ (shape : Shape) where
       let words = intent_words shape.form in
       let before = worker - 1 in
       let at = intents_at shape + before * words + nth in
-      let within : before * words + nth < shape.workers * words = place_within before words nth shape.workers (omega arith) less in
+      let within : before * words + nth < shape.workers * words
+      = place_within before words nth shape.workers (omega arith) less in
       let from : at - intents_at shape ≡ before * words + nth = omega arith in
       let same : before + 1 ≡ worker = omega arith in (
         omega arith,
@@ -178,7 +193,8 @@ module _ (shape : Shape) where
   found_there (Begin bucket cell) is = cell_found _ bucket cell 2 refl is (omega arith)
   found_there (End bucket cell) is = cell_found _ bucket cell 3 refl is (omega arith)
   found_there (CellWord bucket cell nth) is =
-      let found = cell_found (cell_at shape bucket cell + 4 + nth) bucket cell (4 + nth) (omega arith) is.0 (omega arith) in
+      let found = cell_found (cell_at shape bucket cell + 4 + nth) bucket cell (4 + nth)
+      (omega arith) is.0 (omega arith) in
       (found.0, found.1 ∙ cell_word bucket cell nth)
   found_there (Intent worker nth) is = intent_found worker nth is.0 is.1
 

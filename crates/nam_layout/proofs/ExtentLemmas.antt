@@ -1,5 +1,6 @@
 -- where tables stand
-use Rattle.std.proofs.Common.{◌≡◌, ℕ, zero, suc, ◌+◌, ◌-◌, ◌*◌, ◌/◌, ◌%◌, ◌^◌, ◌<◌, ◌≤◌, inl, inr, List, [], ◌∷◌, length, get_or, refl, sym, ◌∙◌, ap, arith}
+use Rattle.std.proofs.Common.{◌≡◌, ℕ, zero, suc, ◌+◌, ◌-◌, ◌*◌, ◌/◌, ◌%◌, ◌^◌, ◌<◌, ◌≤◌, inl, inr, List, [], ◌∷◌}
+use Rattle.std.proofs.Common.{length, get_or, refl, sym, ◌∙◌, ap, arith}
 use Rattle.std.specs.Prelude.{All, slice_index}
 use Rattle.std.proofs.lemmas.Bool.{cases_lt}
 use Rattle.std.proofs.lemmas.Nat.{div_below, mul-le}
@@ -21,7 +22,8 @@ pub record IsExtent (at row : ℕ) (tables : List Table) (table : ℕ) (e : Exte
   pub width_is : e.width ≡ slice_index (widths_of tables) table
   pub ring_is : e.ring ≡ slice_index (rings_of tables) table
   pub row_is : (position : ℕ) → e.row + position ≡ row + row_of tables table position
-  pub at_is : (position : ℕ) → position < e.capacity → e.at + position * e.words ≡ at + row_at tables (row_of tables table position)
+  pub at_is : (position : ℕ) → position < e.capacity
+      → e.at + position * e.words ≡ at + row_at tables (row_of tables table position)
 
 pub extents_length : (at row : ℕ) (tables : List Table) → length (extents_of at row tables) ≡ length tables
 extents_length at row [] = refl
@@ -58,18 +60,21 @@ pub rows_le : (tables : List Table) → rows_in tables ≤ tables_words tables
 rows_le [] = omega arith
 rows_le (t ∷ ts) =
     let rest = rows_le ts in
-    let least : t.capacity * 1 ≤ table_words t = mul-le t.capacity 1 t.capacity (position_words t.width t.ring) (omega arith) (omega arith) in
+    let least : t.capacity * 1 ≤ table_words t
+    = mul-le t.capacity 1 t.capacity (position_words t.width t.ring) (omega arith) (omega arith) in
     omega arith
 
 -- the first words of a position are among the words of the tables
-pub place_within : (tables : List Table) (row : ℕ) → row < rows_in tables → row_at tables row + 3 + width_at tables row ≤ tables_words tables
+pub place_within : (tables : List Table) (row : ℕ) → row < rows_in tables
+    → row_at tables row + 3 + width_at tables row ≤ tables_words tables
 place_within tables row within =
     let stands = row_stands tables row (2 + width_at tables row) within (omega arith) in
     let w = stands.offset_within in
     omega arith
 
 -- an address among the words of the tables is in their extents
-pub is_in : (at row address : ℕ) (tables : List Table) → All FitsTable tables → at + tables_words tables < 2 ^ 32 → row + rows_in tables < 2 ^ 32
+pub is_in : (at row address : ℕ) (tables : List Table) → All FitsTable tables → at + tables_words tables < 2 ^ 32
+    → row + rows_in tables < 2 ^ 32
     → at ≤ address → address < at + tables_words tables → IsIn address (extents_of at row tables)
 is_in at row address [] fit words rows least less = omega arith
 is_in at row address (t ∷ ts) fit words rows least less =
@@ -77,11 +82,13 @@ is_in at row address (t ∷ ts) fit words rows least less =
       record { width = head.most_width; least_words = omega arith; rows = omega arith; words = omega arith },
       least,
       λ past.
-          is_in (at + table_words t) (row + t.capacity) address ts (All-tail FitsTable t ts fit) (omega arith) (omega arith) past (omega arith),
+          is_in (at + table_words t) (row + t.capacity) address ts (All-tail FitsTable t ts fit)
+          (omega arith) (omega arith) past (omega arith),
     )
 
 -- the field at a word of the tables, counted from this row on, by its row and its word in the position
-named : (tables : List Table) (row offset r rest width : ℕ) → row_in tables offset ≡ r → rest_in tables offset ≡ rest → width_at tables r ≡ width
+named : (tables : List Table) (row offset r rest width : ℕ) → row_in tables offset ≡ r → rest_in tables offset ≡ rest
+    → width_at tables r ≡ width
     → field_in_position (width_at tables (row_in tables offset)) (row + row_in tables offset) (rest_in tables offset)
     ≡ field_in_position width (row + r) rest
 named tables row offset r rest width row_is rest_is width_is =
@@ -92,7 +99,8 @@ named tables row offset r rest width row_is rest_is width_is =
 -- the field in the extents is that in the tables
 pub field_is : (at row address : ℕ) (tables : List Table) → at ≤ address → address < at + tables_words tables
     → field_in_extents (extents_of at row tables) address
-    ≡ field_in_position (width_at tables (row_in tables (address - at))) (row + row_in tables (address - at)) (rest_in tables (address - at))
+    ≡ field_in_position (width_at tables (row_in tables (address - at))) (row + row_in tables (address - at))
+    (rest_in tables (address - at))
 field_is at row address [] least less = absurd (omega arith)
 field_is at row address (t ∷ ts) least less = elim (cases_lt address (at + table_words t)) [
   | inl here ↦

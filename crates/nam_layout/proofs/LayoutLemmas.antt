@@ -1,5 +1,6 @@
 -- what a layout keeps of its shape, and what it gives for it
-use Rattle.std.proofs.Common.{◌≡◌, ℕ, ◌+◌, ◌-◌, ◌*◌, ◌^◌, ◌<◌, ◌≤◌, List, length, get_or, None, sym, ◌∙◌, ap, subst, arith}
+use Rattle.std.proofs.Common.{◌≡◌, ℕ, ◌+◌, ◌-◌, ◌*◌, ◌^◌, ◌<◌, ◌≤◌, List, length, get_or, None, sym, ◌∙◌, ap, subst}
+use Rattle.std.proofs.Common.{arith}
 use Rattle.nam_catalog.specs.declared.shape.Table.{Table}
 use Rattle.nam_catalog.specs.declared.shape.Shape.{Shape}
 use Rattle.nam_catalog.specs.Limits.{fault_of}
@@ -26,7 +27,8 @@ module _ (shape : Shape) (extents : List Extent) where
       (cells + shape.buckets * shape.cells * cell_words + shape.workers * words)
   laid_out tables cells words same none are cells_are words_are =
       let intents = cells + shape.buckets * shape.cells * cell_words in
-      subst (λ ts. IsLaidOut (record shape { tables = ts }) extents cells intents (intents + shape.workers * words)) (sym same) (record {
+      subst (λ ts. IsLaidOut (record shape { tables = ts }) extents cells intents (intents + shape.workers * words))
+      (sym same) (record {
         fits = fits_limits shape none;
         extents_are = are;
         cells_are = cells_are;
@@ -42,18 +44,22 @@ module _ (shape : Shape) (extents : List Extent) where
     pub is_extent : (table : ℕ) (e : Extent) → table < length shape.tables → e ≡ get_or extents table e
         → IsExtent (tables_at shape) 0 shape.tables table e
     is_extent table e less here =
-        let same : e ≡ get_or (extents_of (tables_at shape) 0 shape.tables) table e = here ∙ ap (λ (es : List Extent). get_or es table e) laid.extents_are in
-        subst (IsExtent (tables_at shape) 0 shape.tables table) (sym same) (extent_is (tables_at shape) 0 shape.tables table e less)
+        let same : e ≡ get_or (extents_of (tables_at shape) 0 shape.tables) table e
+        = here ∙ ap (λ (es : List Extent). get_or es table e) laid.extents_are in
+        subst (IsExtent (tables_at shape) 0 shape.tables table) (sym same)
+        (extent_is (tables_at shape) 0 shape.tables table e less)
 
     -- an extent gives the place of a position
-    pub place_is : (table position : ℕ) (e : Extent) → IsPosition shape.tables table position → e ≡ get_or extents table e
+    pub place_is : (table position : ℕ) (e : Extent) → IsPosition shape.tables table position
+        → e ≡ get_or extents table e
         → place_in e position shape.form ≡ place_of shape table position
     place_is table position e is here =
         let at = is_extent table e is.0 here in
         let row = position_is_row shape.tables table position is in
         let r = row_of shape.tables table position in
         let row_same : e.row + position ≡ r = at.row_is position ∙ (omega arith) in
-        let key_same : e.at + position * e.words ≡ position_at shape r = at.at_is position (subst (λ n. position < n) (sym at.capacity_is) is.1) in
+        let key_same : e.at + position * e.words ≡ position_at shape r
+        = at.at_is position (subst (λ n. position < n) (sym at.capacity_is) is.1) in
         let width_same : e.width ≡ width_at shape.tables r = at.width_is ∙ sym row.width_is in
         let ring_same : e.ring ≡ ring_at shape.tables r = at.ring_is ∙ sym row.ring_is in
         let words_same : e.at + position * e.words + 3 ≡ position_at shape r + 3 = omega arith in
@@ -61,7 +67,8 @@ module _ (shape : Shape) (extents : List Extent) where
         cc
 
     -- the sums of an extent's numbers with those of a position are small
-    pub place_fits : (table position : ℕ) (e : Extent) → IsPosition shape.tables table position → e ≡ get_or extents table e
+    pub place_fits : (table position : ℕ) (e : Extent) → IsPosition shape.tables table position
+        → e ≡ get_or extents table e
         → (e.row + position < 2 ^ 32) × (e.at + position * e.words + 3 + e.width < 2 ^ 32)
     place_fits table position e is here =
         let at = is_extent table e is.0 here in
@@ -70,7 +77,8 @@ module _ (shape : Shape) (extents : List Extent) where
         let within = row.within in
         let rows = rows_le shape.tables in
         let row_same : e.row + position ≡ 0 + r = at.row_is position in
-        let key_same : e.at + position * e.words ≡ position_at shape r = at.at_is position (subst (λ n. position < n) (sym at.capacity_is) is.1) in
+        let key_same : e.at + position * e.words ≡ position_at shape r
+        = at.at_is position (subst (λ n. position < n) (sym at.capacity_is) is.1) in
         let width_same : e.width ≡ width_at shape.tables r = at.width_is ∙ sym row.width_is in
         let words = place_within shape.tables r within in
         let most = laid.fits.words in
@@ -83,10 +91,12 @@ module _ (shape : Shape) (extents : List Extent) where
         let most = laid.fits.words in
         let end = laid.cells_are in
         subst (IsIn address) (sym laid.extents_are)
-        (is_in (tables_at shape) 0 address shape.tables laid.fits.tables (omega arith) (omega arith) least (omega arith))
+        (is_in (tables_at shape) 0 address shape.tables laid.fits.tables
+        (omega arith) (omega arith) least (omega arith))
 
     -- the field in the extents is that at the address
-    pub field_there : (address : ℕ) → tables_at shape ≤ address → address < cells → field_in_extents extents address ≡ field_at shape address
+    pub field_there : (address : ℕ) → tables_at shape ≤ address → address < cells
+        → field_in_extents extents address ≡ field_at shape address
     field_there address least less =
         let end = laid.cells_are in
         let offset = address - tables_at shape in

@@ -23,7 +23,8 @@ pub record FitsRow (width ring : ℕ) : Type 0 where
   pub least_ring : 1 ≤ ring
   pub most_ring : ring ≤ MOST_RING
 
-row_within : (tables : List Table) (row : ℕ) → All FitsTable tables → row < rows_in tables → FitsRow (width_at tables row) (ring_at tables row)
+row_within : (tables : List Table) (row : ℕ) → All FitsTable tables → row < rows_in tables
+    → FitsRow (width_at tables row) (ring_at tables row)
 row_within [] row fit within = absurd (omega arith)
 row_within (t ∷ ts) row fit within = elim (cases_lt row t.capacity) [
   | inl here ↦
@@ -31,7 +32,12 @@ row_within (t ∷ ts) row fit within = elim (cases_lt row t.capacity) [
       let width : width_at (t ∷ ts) row ≡ t.width = if_less _ _ _ _ here in
       let ring : ring_at (t ∷ ts) row ≡ t.ring = if_less _ _ _ _ here in
       subst (λ w. FitsRow w (ring_at (t ∷ ts) row)) (sym width) (subst (FitsRow t.width) (sym ring)
-      (record { least_width = head.least_width; most_width = head.most_width; least_ring = head.least_ring; most_ring = head.most_ring }))
+      (record {
+        least_width = head.least_width;
+        most_width = head.most_width;
+        least_ring = head.least_ring;
+        most_ring = head.most_ring;
+      }))
   | inr past ↦
       let before = row - t.capacity in
       let width : width_at (t ∷ ts) row ≡ width_at ts before = if_not_less _ _ _ _ past in
@@ -41,7 +47,8 @@ row_within (t ∷ ts) row fit within = elim (cases_lt row t.capacity) [
 ]
 
 -- the place of a row is within its limits
-pub place_within_limits : (shape : Shape) (row : ℕ) → FitsLimits shape → IsRow shape row → FitsPlace (place_at shape row)
+pub place_within_limits : (shape : Shape) (row : ℕ) → FitsLimits shape → IsRow shape row
+    → FitsPlace (place_at shape row)
 place_within_limits shape row fits is =
     let width = width_at shape.tables row in
     let ring = ring_at shape.tables row in
@@ -62,7 +69,8 @@ place_within_limits shape row fits is =
     }
 
 -- the cells of a bucket are within their limits
-pub cells_within_limits : (shape : Shape) (bucket : ℕ) → FitsLimits shape → bucket < shape.buckets → FitsCells (cells_of shape bucket)
+pub cells_within_limits : (shape : Shape) (bucket : ℕ) → FitsLimits shape → bucket < shape.buckets
+    → FitsCells (cells_of shape bucket)
 cells_within_limits shape bucket fits less =
     let within = row_fits bucket shape.cells shape.buckets shape.cells less (omega arith) in
     let most = fits.words in

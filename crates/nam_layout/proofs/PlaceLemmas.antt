@@ -1,7 +1,7 @@
 -- fields of places, of cells and of workers: where they stand, and where they end
 use Rattle.std.proofs.Common.{◌≡◌, ℕ, ◌+◌, ◌*◌, ◌<◌, refl, subst, sym, arith}
 use Rattle.nam_catalog.specs.declared.shape.Shape.{Shape}
-use Rattle.nam_catalog.specs.Words.{slot_words, cell_words}
+use Rattle.nam_catalog.specs.Words.{slot_words}
 use Rattle.nam_layout.specs.declared.field.Field.{Field}
 use Rattle.nam_layout.specs.declared.field.Field.TheVariants.{Entry, Horizon, Key, Header, Count, Word}
 use Rattle.nam_layout.specs.declared.field.Field.TheVariants.{SlotHeader, SlotEnd, SlotWord}

@@ -1,5 +1,6 @@
 -- rows, and the positions of tables
-use Rattle.std.proofs.Common.{◌≡◌, ℕ, zero, suc, ◌+◌, ◌-◌, ◌<◌, ◌≤◌, inl, inr, List, [], ◌∷◌, refl, sym, ◌∙◌, ap, subst, arith}
+use Rattle.std.proofs.Common.{◌≡◌, ℕ, zero, suc, ◌+◌, ◌-◌, ◌<◌, ◌≤◌, inl, inr, List, [], ◌∷◌, refl, sym, ◌∙◌, ap}
+use Rattle.std.proofs.Common.{subst, arith}
 use Rattle.std.proofs.lemmas.Bool.{cases_lt}
 use Rattle.nam_catalog.specs.declared.shape.Table.{Table}
 use Rattle.nam_layout.specs.Rows.{rows_in, row_of, table_of, position_of, width_at, ring_at}
@@ -20,7 +21,8 @@ module _ (t : Table) (ts : List Table) where
   }
 
   -- a position of a later table
-  later_row : (table position row : ℕ) → IsRowOf ts table position row → IsRowOf (t ∷ ts) (suc table) position (t.capacity + row)
+  later_row : (table position row : ℕ) → IsRowOf ts table position row
+      → IsRowOf (t ∷ ts) (suc table) position (t.capacity + row)
   later_row table position row is =
       let past : t.capacity ≤ t.capacity + row = omega arith in
       let before : t.capacity + row - t.capacity ≡ row = omega arith in
@@ -47,10 +49,12 @@ position_is_row (t ∷ ts) (suc table) position is =
 named : (tables : List Table) (table position row : ℕ) → IsRowOf tables table position row
     → IsRowOf tables (table_of tables row) (position_of tables row) row
 named tables table position row is =
-    subst (λ t. IsRowOf tables t (position_of tables row) row) (sym is.table_is) (subst (λ p. IsRowOf tables table p row) (sym is.position_is) is)
+    subst (λ t. IsRowOf tables t (position_of tables row) row) (sym is.table_is)
+    (subst (λ p. IsRowOf tables table p row) (sym is.position_is) is)
 
 -- each row is a position
-pub row_is_position : (tables : List Table) (row : ℕ) → row < rows_in tables → IsRowOf tables (table_of tables row) (position_of tables row) row
+pub row_is_position : (tables : List Table) (row : ℕ) → row < rows_in tables
+    → IsRowOf tables (table_of tables row) (position_of tables row) row
 row_is_position [] row within = absurd (omega arith)
 row_is_position (t ∷ ts) row within = elim (cases_lt row t.capacity) [
   | inl here ↦ named (t ∷ ts) 0 row row (first_row t ts row here)

@@ -25,12 +25,17 @@ pub if_other : {A : Type 0} (x y : ℕ) (a b : A) → x ≢ y → (if x == y the
 if_other x y a b other = if_false (x == y) a b (ne_eqb x y other)
 
 -- a claim about a choice, from either choice
-by_test : {A : Type 0} (P : A → Type 0) (test : Bool) (a b : A) → (test ≡ true → P a) → (test ≡ false → P b) → P (if test then a else b)
+by_test : {A : Type 0} (P : A → Type 0) (test : Bool) (a b : A) → (test ≡ true → P a) → (test ≡ false → P b)
+    → P (if test then a else b)
 by_test P true a b then_a else_b = then_a refl
 by_test P false a b then_a else_b = else_b refl
 
-pub by_less : {A : Type 0} (P : A → Type 0) (x y : ℕ) (a b : A) → (x < y → P a) → (y ≤ x → P b) → P (if nat_lt x y then a else b)
-by_less P x y a b less least = by_test P (nat_lt x y) a b (λ test. less (ltb-true x y test)) (λ test. least (ltb-false x y test))
+pub by_less : {A : Type 0} (P : A → Type 0) (x y : ℕ) (a b : A) → (x < y → P a) → (y ≤ x → P b)
+    → P (if nat_lt x y then a else b)
+by_less P x y a b less least =
+    by_test P (nat_lt x y) a b (λ test. less (ltb-true x y test)) (λ test. least (ltb-false x y test))
 
-pub by_equal : {A : Type 0} (P : A → Type 0) (x y : ℕ) (a b : A) → (x ≡ y → P a) → (x ≢ y → P b) → P (if x == y then a else b)
-by_equal P x y a b same other = by_test P (x == y) a b (λ test. same (eqb-true x y test)) (λ test. other (eqb-false x y test))
+pub by_equal : {A : Type 0} (P : A → Type 0) (x y : ℕ) (a b : A) → (x ≡ y → P a) → (x ≢ y → P b)
+    → P (if x == y then a else b)
+by_equal P x y a b same other =
+    by_test P (x == y) a b (λ test. same (eqb-true x y test)) (λ test. other (eqb-false x y test))

@@ -4,19 +4,25 @@ use Rattle.nam_catalog.specs.declared.shape.Table.{Table}
 use Rattle.nam_catalog.specs.declared.shape.Shape.{Shape}
 use Rattle.nam_catalog.specs.Words.{slot_words, position_words, table_words, cell_words, intent_words}
 use Rattle.nam_layout.specs.declared.field.Field.{Field}
-use Rattle.nam_layout.specs.declared.field.Field.TheVariants.{Entry, Horizon, Key, Header, Count, Word, SlotHeader, SlotEnd, SlotWord, Tag, Owner, Begin, End, CellWord, Intent}
+use Rattle.nam_layout.specs.declared.field.Field.TheVariants.{Entry, Horizon, Key, Header, Count, Word, SlotHeader}
+use Rattle.nam_layout.specs.declared.field.Field.TheVariants.{SlotEnd, SlotWord, Tag, Owner, Begin, End, CellWord}
+use Rattle.nam_layout.specs.declared.field.Field.TheVariants.{Intent}
 use Rattle.nam_layout.specs.Rows.{width_at}
 use Rattle.nam_layout.specs.Address.{tables_at, cells_at, intents_at}
 
 -- the row of a word of the tables, counted from the first table's begin
 abbrev pub row_in : List Table → ℕ → ℕ
 row_in [] offset = 0
-row_in (t ∷ ts) offset = if nat_lt offset (table_words t) then offset / position_words t.width t.ring else t.capacity + row_in ts (offset - table_words t)
+row_in (t ∷ ts) offset =
+    if nat_lt offset (table_words t) then offset / position_words t.width t.ring
+    else t.capacity + row_in ts (offset - table_words t)
 
 -- which word of its position it is
 abbrev pub rest_in : List Table → ℕ → ℕ
 rest_in [] offset = 0
-rest_in (t ∷ ts) offset = if nat_lt offset (table_words t) then offset % position_words t.width t.ring else rest_in ts (offset - table_words t)
+rest_in (t ∷ ts) offset =
+    if nat_lt offset (table_words t) then offset % position_words t.width t.ring
+    else rest_in ts (offset - table_words t)
 
 -- a word of a slot
 abbrev pub field_in_slot : ℕ → ℕ → ℕ → Field
@@ -36,7 +42,8 @@ field_in_position width row rest =
 
 -- a word of the tables
 abbrev pub field_in_tables : List Table → ℕ → Field
-field_in_tables tables offset = field_in_position (width_at tables (row_in tables offset)) (row_in tables offset) (rest_in tables offset)
+field_in_tables tables offset =
+    field_in_position (width_at tables (row_in tables offset)) (row_in tables offset) (rest_in tables offset)
 
 -- a word of a cell
 abbrev pub field_in_cell : ℕ → ℕ → ℕ → Field
@@ -49,7 +56,8 @@ field_in_cell bucket cell rest =
 
 -- a word of the cells, where a bucket has so many
 abbrev pub field_in_cells : ℕ → ℕ → Field
-field_in_cells cells offset = field_in_cell (offset / cell_words / cells) (offset / cell_words % cells) (offset % cell_words)
+field_in_cells cells offset =
+    field_in_cell (offset / cell_words / cells) (offset / cell_words % cells) (offset % cell_words)
 
 -- a word of the intents, of so many words each
 abbrev pub field_in_intents : ℕ → ℕ → Field

@@ -31,4 +31,5 @@ abbrev pub PlaceFitsLaw : Type 0
 PlaceFitsLaw = (shape : Shape) (row : ℕ) → FitsLimits shape → IsRow shape row → FitsPlace (place_at shape row)
 
 abbrev pub CellsFitLaw : Type 0
-CellsFitLaw = (shape : Shape) (bucket : ℕ) → FitsLimits shape → bucket < shape.buckets → FitsCells (cells_of shape bucket)
+CellsFitLaw =
+    (shape : Shape) (bucket : ℕ) → FitsLimits shape → bucket < shape.buckets → FitsCells (cells_of shape bucket)

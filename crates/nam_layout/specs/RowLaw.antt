@@ -20,8 +20,12 @@ pub record IsRowOf (tables : List Table) (table position row : ℕ) : Type 0 whe
 
 -- each position is a row
 abbrev pub PositionLaw : Type 0
-PositionLaw = (tables : List Table) (table position : ℕ) → IsPosition tables table position → IsRowOf tables table position (row_of tables table position)
+PositionLaw =
+    (tables : List Table) (table position : ℕ) → IsPosition tables table position
+    → IsRowOf tables table position (row_of tables table position)
 
 -- each row is a position
 abbrev pub RowLaw : Type 0
-RowLaw = (tables : List Table) (row : ℕ) → row < rows_in tables → IsRowOf tables (table_of tables row) (position_of tables row) row
+RowLaw =
+    (tables : List Table) (row : ℕ) → row < rows_in tables
+    → IsRowOf tables (table_of tables row) (position_of tables row) row

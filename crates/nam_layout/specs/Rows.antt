@@ -37,4 +37,6 @@ ring_at (t ∷ ts) row = if nat_lt row t.capacity then t.ring else ring_at ts (r
 -- where a row's position begins, counted from the first table's begin
 abbrev pub row_at : List Table → ℕ → ℕ
 row_at [] row = 0
-row_at (t ∷ ts) row = if nat_lt row t.capacity then row * position_words t.width t.ring else table_words t + row_at ts (row - t.capacity)
+row_at (t ∷ ts) row =
+    if nat_lt row t.capacity then row * position_words t.width t.ring
+    else table_words t + row_at ts (row - t.capacity)

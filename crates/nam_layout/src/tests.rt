@@ -1,5 +1,4 @@
 ghost use Rattle.std.specs.Prelude.{◌≡◌, ◌+◌, ◌<◌, ◌≤◌, length, IfSome};
-ghost use Rattle.nam_catalog.specs.Words.{words_of};
 ghost use Rattle.nam_layout.specs.PlaceFits.{FitsPlace, FitsCells};
 
 use crate::{Cells, Field, Layout, Place};
@@ -18,7 +17,14 @@ fn table(name: &str, width: u32, capacity: u32, ring: u32) -> Table
 }
 
 fn shape(form: Form, workers: u32, tables: ShortList<Table, 8>, buckets: u32, cells: u32) -> Shape
-    ensures { result ≡ record { form = form; workers = workers; tables = tables; buckets = buckets; cells = cells; start = 0 } }
+    ensures { result ≡ record {
+      form = form;
+      workers = workers;
+      tables = tables;
+      buckets = buckets;
+      cells = cells;
+      start = 0;
+    } }
 {
     Shape {
         form,
@@ -66,20 +72,6 @@ fn cells_of(layout: &Layout, shape: &Shape, bucket: u32) -> Option<Cells>
     }
 }
 
-fn slot_at(place: &Place, slot: u32) -> u64
-    requires { FitsPlace place.now }
-    ensures { result ≤ 81604378624 }
-{
-    place.ring_at + slot as u64 * (2 + place.width as u64)
-}
-
-fn cell_at(cells: &Cells, cell: u32) -> u64
-    requires { FitsCells cells.now }
-    ensures { result ≤ 81604378624 }
-{
-    cells.first + cell as u64 * 12
-}
-
 fn address_of_place(layout: &Layout, shape: &Shape, field: &Field) -> Option<u64>
     requires { layout.now ≡ shape.now }
 {
@@ -89,19 +81,19 @@ fn address_of_place(layout: &Layout, shape: &Shape, field: &Field) -> Option<u64
         Field::Count { row } => Some(place_of_row(layout, shape, row)?.count_at),
         Field::Word { row, nth } => {
             let place = place_of_row(layout, shape, row)?;
-            Some(place.words_at + nth as u64)
+            (nth < place.width).then(|| place.word(nth))
         }
         Field::SlotHeader { row, slot } => {
             let place = place_of_row(layout, shape, row)?;
-            Some(slot_at(&place, slot))
+            (slot < place.ring).then(|| place.slot_header(slot))
         }
         Field::SlotEnd { row, slot } => {
             let place = place_of_row(layout, shape, row)?;
-            Some(slot_at(&place, slot) + 1)
+            (slot < place.ring).then(|| place.slot_end(slot))
         }
         Field::SlotWord { row, slot, nth } => {
             let place = place_of_row(layout, shape, row)?;
-            Some(slot_at(&place, slot) + 2 + nth as u64)
+            (slot < place.ring && nth < place.width).then(|| place.slot_word(slot, nth))
         }
         _ => None,
     }
@@ -113,23 +105,23 @@ fn address_of_cell(layout: &Layout, shape: &Shape, field: &Field) -> Option<u64>
     match *field {
         Field::Tag { bucket, cell } => {
             let cells = cells_of(layout, shape, bucket)?;
-            Some(cell_at(&cells, cell))
+            (cell < cells.cells).then(|| cells.tag(cell))
         }
         Field::Owner { bucket, cell } => {
             let cells = cells_of(layout, shape, bucket)?;
-            Some(cell_at(&cells, cell) + 1)
+            (cell < cells.cells).then(|| cells.owner(cell))
         }
         Field::Begin { bucket, cell } => {
             let cells = cells_of(layout, shape, bucket)?;
-            Some(cell_at(&cells, cell) + 2)
+            (cell < cells.cells).then(|| cells.begin(cell))
         }
         Field::End { bucket, cell } => {
             let cells = cells_of(layout, shape, bucket)?;
-            Some(cell_at(&cells, cell) + 3)
+            (cell < cells.cells).then(|| cells.end(cell))
         }
         Field::CellWord { bucket, cell, nth } => {
             let cells = cells_of(layout, shape, bucket)?;
-            Some(cell_at(&cells, cell) + 4 + nth as u64)
+            (cell < cells.cells && nth < 8).then(|| cells.word(cell, nth))
         }
         _ => None,
     }

@@ -1,7 +1,8 @@
 //! Fields within positions, cells and intents.
 
 ghost use Rattle.std.specs.Prelude.{◌≡◌, ◌≤◌, ◌<◌, ◌^◌, ◌*◌};
-ghost use Rattle.nam_layout.specs.FieldAt.{field_in_slot, field_in_position, field_in_cell, field_in_cells, field_in_intents};
+ghost use Rattle.nam_layout.specs.FieldAt.{field_in_slot, field_in_position, field_in_cell, field_in_cells};
+ghost use Rattle.nam_layout.specs.FieldAt.{field_in_intents};
 
 use crate::field::Field;
 use nam_catalog::bounds::{CELL_WORDS, MOST_WIDTH};

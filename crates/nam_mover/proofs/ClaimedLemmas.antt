@@ -7,16 +7,20 @@ use Rattle.nam_verbs.specs.declared.now.Now.{Now}
 use Rattle.nam_verbs.specs.declared.now.Now.TheVariants.{At, Over}
 use Rattle.nam_verbs.specs.Now.{end_now}
 use Rattle.nam_verbs.specs.Machine.{after_words}
-use Rattle.nam_verbs.specs.Running.{after_found}
 use Rattle.nam_verbs.specs.Steps.{Step, saw}
 use Rattle.nam_verbs.proofs.TestLemmas.{by_test}
+use Rattle.nam_verbs.specs.SoFar.{steps_by}
+use Rattle.nam_verbs.proofs.HistoryLemmas as past
+use Rattle.nam_header.specs.Stamp.{stamp_in, is_moved, without_moved}
 use Rattle.nam_layout.specs.declared.field.Place.{Place}
 use Rattle.nam_layout.specs.declared.field.Cells.{Cells}
 use Rattle.nam_layout.specs.PlaceFits.{FitsCells}
+use Rattle.nam_layout.specs.Place.{slot_of, known_address, place_end, cells_end, later}
+use Rattle.nam_layout.specs.declared.field.Field.{Field}
+use Rattle.nam_layout.specs.declared.field.Field.TheVariants as field
 use Rattle.nam_calls.specs.declared.overflow.ClaimPlace.{ClaimPlace}
 use Rattle.nam_calls.specs.declared.overflow.ClaimPlace.TheVariants.{ClaimLook}
 use Rattle.nam_calls.specs.declared.overflow.ClaimEnd.{ClaimEnd}
-use Rattle.nam_calls.specs.declared.overflow.ClaimEnd.TheVariants as claim
 use Rattle.nam_calls.specs.declared.overflow.FillPlace.{FillPlace}
 use Rattle.nam_calls.specs.declared.overflow.Version.{Version}
 use Rattle.nam_calls.specs.declared.mover.MovePlace.{MovePlace}
@@ -25,41 +29,38 @@ use Rattle.nam_calls.specs.declared.mover.MovePlace.TheVariants.{MoveWords, Move
 use Rattle.nam_calls.specs.declared.mover.MovePlace.TheVariants.{MoveBack}
 use Rattle.nam_calls.specs.declared.mover.MoveAnswer.{MoveAnswer}
 use Rattle.nam_calls.specs.declared.mover.MoveAnswer.TheVariants.{Nothing}
-use Rattle.nam_calls.specs.Stamps.{stamp_in, is_moved, without_moved}
-use Rattle.nam_calls.specs.Words.{slot_of}
 use Rattle.nam_calls.specs.Overflow.{claim_verb, claim_after, fill_after, fill_begin}
 use Rattle.nam_calls.specs.Mover.{move_verb, move_after, move_left, on_claim, on_fill}
-use Rattle.nam_words.specs.Ends.{place_end, cells_end, later}
+use Rattle.nam_calls.specs.declared.overflow.ClaimEnd.TheVariants as claim
 use Rattle.nam_overflow.proofs.ClaimLemmas.{claimed_by, claims_by}
 use Rattle.nam_mover.specs.Move.{moving, running, claimed_in}
 use Rattle.nam_mover.specs.MoveLaw.{looked, dated}
-use Rattle.nam_mover.specs.SoFar.{steps_by}
 use Rattle.nam_mover.specs.ClaimedLaw.{HasTaken}
-use Rattle.nam_mover.proofs.HistoryLemmas as past
 
 -- the word that the second of the steps found
-abbrev second_found : List Step → ℕ
+abbrev second_found : List (Step Field) → ℕ
 second_found [] = 0
 second_found (first ∷ []) = 0
 second_found (first ∷ second ∷ steps) = second.found
 
 module _ (place : Place) (cells : Cells) (room : FitsCells cells) where
-  abbrev pub ClaimLeads : Now ClaimPlace ClaimEnd → List Step → Now ClaimPlace ClaimEnd → Type 0
+  abbrev pub ClaimLeads : Now ClaimPlace ClaimEnd → List (Step Field) → Now ClaimPlace ClaimEnd → Type 0
   ClaimLeads = past.Leads (claim_verb cells) (claim_after cells)
 
   -- the steps took a cell for the version of this header, and it is this one
-  abbrev pub Took : ℕ → ℕ → List Step → Type 0
+  abbrev pub Took : ℕ → ℕ → List (Step Field) → Type 0
   Took header cell steps = (taken : HasTaken place cells (stamp_in place.form header) steps) × (taken.cell ≡ cell)
 
   -- the steps that led to each place
-  abbrev pub Holds : MovePlace → List Step → Type 0
+  abbrev pub Holds : MovePlace → List (Step Field) → Type 0
   Holds MoveCount steps = steps ≡ []
-  Holds (MoveHead slot) steps = (count : ℕ) × (slot ≡ slot_of place count) × (steps ≡ saw place.count_at count ∷ [])
+  Holds (MoveHead slot) steps =
+      (count : ℕ) × (slot ≡ slot_of place count) × (steps ≡ saw (field.Count place.row) count ∷ [])
   Holds (MoveEnding slot header) steps =
       (count : ℕ) × (slot ≡ slot_of place count) × (is_moved place.form header ≡ false)
       × (steps ≡ looked place cells count header)
   Holds (MoveClaim slot header ending at) steps =
-      (count : ℕ) × (claims : List Step) × (is_moved place.form header ≡ false)
+      (count : ℕ) × (claims : List (Step Field)) × (is_moved place.form header ≡ false)
       × (steps ≡ dated place cells count header ending ++ claims)
       × ClaimLeads (At (ClaimLook 0)) claims (At at)
   Holds (MoveWords slot header ending cell tag got) steps = Took header cell steps
@@ -69,13 +70,13 @@ module _ (place : Place) (cells : Cells) (room : FitsCells cells) where
   Holds (MoveFlag slot header) steps = HasTaken place cells (stamp_in place.form header) steps
   Holds (MoveBack header cell tag) steps = Took header cell steps
 
-  abbrev pub HoldsNow : Now MovePlace MoveAnswer → List Step → Type 0
-  HoldsNow = past.HoldsNow (move_verb place cells) (move_after place cells) (move_left place cells)
-      (later (place_end place) (cells_end cells)) Holds
+  abbrev pub HoldsNow : Now MovePlace MoveAnswer → List (Step Field) → Type 0
+  HoldsNow = past.HoldsNow (move_verb place cells) (move_after place cells) (known_address place cells 0)
+      (later (place_end place) (cells_end cells)) (move_left place cells) Holds
 
   -- 1. Each place comes from the one before
 
-  abbrev taken_longer : (stamp : Stamp) (steps more : List Step) → HasTaken place cells stamp steps
+  abbrev taken_longer : (stamp : Stamp) (steps more : List (Step Field)) → HasTaken place cells stamp steps
       → HasTaken place cells stamp (steps ++ more)
   taken_longer stamp steps more t = record {
     count = t.count;
@@ -92,11 +93,12 @@ module _ (place : Place) (cells : Cells) (room : FitsCells cells) where
         ∙ append_assoc (dated place cells t.count t.header t.ending ++ t.claims) t.later more;
   }
 
-  took_longer : (header cell : ℕ) (steps more : List Step) → Took header cell steps → Took header cell (steps ++ more)
+  took_longer : (header cell : ℕ) (steps more : List (Step Field)) → Took header cell steps
+      → Took header cell (steps ++ more)
   took_longer header cell steps more took = (taken_longer (stamp_in place.form header) steps more took.0, took.1)
 
   on_claim_keeps : (slot header ending count : ℕ) → is_moved place.form header ≡ false
-      → (now : Now ClaimPlace ClaimEnd) (claims : List Step)
+      → (now : Now ClaimPlace ClaimEnd) (claims : List (Step Field))
       → ClaimLeads (At (ClaimLook 0)) claims now
       → HoldsNow (on_claim cells slot header ending now) (dated place cells count header ending ++ claims)
   on_claim_keeps slot header ending count unmoved (At at) claims leads = (count, claims, unmoved, refl, leads)
@@ -120,15 +122,16 @@ module _ (place : Place) (cells : Cells) (room : FitsCells cells) where
     refl,
   )
 
-  on_fill_keeps : (slot header cell tag : ℕ) (version : Version) (now : Now FillPlace (Unit {0})) (steps : List Step)
+  on_fill_keeps : (slot header cell tag : ℕ) (version : Version) (now : Now FillPlace (Unit {0}))
+      (steps : List (Step Field))
       → Took header cell steps → HoldsNow (on_fill slot header cell tag version now) steps
   on_fill_keeps slot header cell tag version (At at) steps taken = taken
   on_fill_keeps slot header cell tag version (Over done) steps taken = taken
 
-  abbrev step_at : MovePlace → ℕ → Step
+  abbrev step_at : MovePlace → ℕ → Step Field
   step_at = past.step_at (move_verb place cells) (move_after place cells)
 
-  keeps : (at : MovePlace) (before : List Step) → Holds at before → (found : ℕ)
+  keeps : (at : MovePlace) (before : List (Step Field)) → Holds at before → (found : ℕ)
       → HoldsNow (move_after place cells at found) (before ++ step_at at found ∷ [])
   keeps MoveCount before holds found = (found, refl, rw holds refl)
   keeps (MoveHead slot) before holds found =
@@ -168,16 +171,16 @@ module _ (place : Place) (cells : Cells) (room : FitsCells cells) where
 
   -- 2. What a place says of its claim, and what its steps do
 
-  abbrev IsClaimed : Stamp → Now MovePlace MoveAnswer → List Step → Type 0
+  abbrev IsClaimed : Stamp → Now MovePlace MoveAnswer → List (Step Field) → Type 0
   IsClaimed stamp now steps = IsNone (end_now now) × HasTaken place cells stamp steps
 
-  same_stamp : (header : ℕ) (stamp : Stamp) (steps : List Step)
+  same_stamp : (header : ℕ) (stamp : Stamp) (steps : List (Step Field))
       → HasTaken place cells (stamp_in place.form header) steps
       → Some (stamp_in place.form header) ≡ Some stamp → HasTaken place cells stamp steps
   same_stamp header stamp steps taken is =
       let same : stamp_in place.form header ≡ stamp = cc in subst (λ s. HasTaken place cells s steps) same taken
 
-  taken_by : (now : Now MovePlace MoveAnswer) (steps : List Step) (stamp : Stamp) → HoldsNow now steps
+  taken_by : (now : Now MovePlace MoveAnswer) (steps : List (Step Field)) (stamp : Stamp) → HoldsNow now steps
       → claimed_in place now ≡ Some stamp
       → IsClaimed stamp now steps
   taken_by (Over end) steps stamp holds is = absurd (cc)
@@ -195,13 +198,13 @@ module _ (place : Place) (cells : Cells) (room : FitsCells cells) where
   taken_by (At (MoveBack header cell tag)) steps stamp holds is = (refl, same_stamp header stamp steps holds.0 is)
 
   -- the steps name one header
-  one_stamp : (a b : Stamp) (steps : List Step) → HasTaken place cells a steps → HasTaken place cells b steps
+  one_stamp : (a b : Stamp) (steps : List (Step Field)) → HasTaken place cells a steps → HasTaken place cells b steps
       → Some a ≡ Some b
   one_stamp a b steps t u =
       let same : t.header ≡ u.header = ap second_found (sym t.steps_are ∙ u.steps_are) in
       ap Some (t.stamp_is ∙ ap (stamp_in place.form) same ∙ sym u.stamp_is)
 
-  by_taken : (now : Now MovePlace MoveAnswer) (steps : List Step) (stamp : Stamp) → HoldsNow now steps
+  by_taken : (now : Now MovePlace MoveAnswer) (steps : List (Step Field)) (stamp : Stamp) → HoldsNow now steps
       → IsClaimed stamp now steps
       → claimed_in place now ≡ Some stamp
   by_taken (Over end) steps stamp holds is = let none = is.0 in absurd (cc)
@@ -232,21 +235,20 @@ module _ (place : Place) (cells : Cells) (room : FitsCells cells) where
   -- 3. After any words
 
   pub holds_after : (words : List ℕ)
-      → HoldsNow (after_words after_found (running (moving place cells)) words).state
+      → HoldsNow (after_words (running (moving place cells)) words).state
       (steps_by (running (moving place cells)) words)
   holds_after words =
-      past.history (move_verb place cells) (move_after place cells) (move_left place cells)
-      (later (place_end place) (cells_end cells)) Holds keeps
-      (At MoveCount) [] refl words
+      past.history (move_verb place cells) (move_after place cells) (known_address place cells 0)
+      (later (place_end place) (cells_end cells)) (move_left place cells) Holds keeps (At MoveCount) [] refl words
 
   pub claimed_is : (words : List ℕ) (stamp : Stamp)
-      → claimed_in place (after_words after_found (running (moving place cells)) words).state ≡ Some stamp
-      → IsClaimed stamp (after_words after_found (running (moving place cells)) words).state
+      → claimed_in place (after_words (running (moving place cells)) words).state ≡ Some stamp
+      → IsClaimed stamp (after_words (running (moving place cells)) words).state
       (steps_by (running (moving place cells)) words)
   claimed_is words stamp = taken_by _ _ stamp (holds_after words)
 
   pub is_claimed : (words : List ℕ) (stamp : Stamp)
-      → IsClaimed stamp (after_words after_found (running (moving place cells)) words).state
+      → IsClaimed stamp (after_words (running (moving place cells)) words).state
       (steps_by (running (moving place cells)) words)
-      → claimed_in place (after_words after_found (running (moving place cells)) words).state ≡ Some stamp
+      → claimed_in place (after_words (running (moving place cells)) words).state ≡ Some stamp
   is_claimed words stamp = by_taken _ _ stamp (holds_after words)

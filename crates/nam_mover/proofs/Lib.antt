@@ -1,6 +1,3 @@
-mod PartLemmas
 mod MoveLemmas
-mod ReachLemmas
-mod HistoryLemmas
 mod ClaimedLemmas
 mod OrderLemmas

@@ -6,10 +6,11 @@ use Rattle.nam_verbs.specs.declared.now.Now.TheVariants.{At, Over}
 use Rattle.nam_verbs.specs.Running.{Running}
 use Rattle.nam_layout.specs.declared.field.Place.{Place}
 use Rattle.nam_layout.specs.declared.field.Cells.{Cells}
+use Rattle.nam_layout.specs.Place.{known_address, place_end, cells_end, later}
+use Rattle.nam_layout.specs.declared.field.Field.{Field}
 use Rattle.nam_calls.specs.declared.mover.MovePlace.{MovePlace}
 use Rattle.nam_calls.specs.declared.mover.MoveAnswer.{MoveAnswer}
 use Rattle.nam_calls.specs.Mover.{move_begin, move_verb, move_after, move_left, move_claimed}
-use Rattle.nam_words.specs.Ends.{place_end, cells_end, later}
 
 -- the move of a position's old version into one of these cells, and where it stands
 pub record Moving : Type 0 where
@@ -22,12 +23,13 @@ abbrev pub moving : Place → Cells → Moving
 moving place cells = record { place = place; cells = cells; state = At move_begin }
 
 -- the same as a running call
-abbrev pub running : Moving → Running MovePlace MoveAnswer
+abbrev pub running : Moving → Running Field MovePlace MoveAnswer
 running a = record {
+  address = known_address a.place a.cells 0;
+  reach = later (place_end a.place) (cells_end a.cells);
   verb = move_verb a.place a.cells;
   after = move_after a.place a.cells;
   left = move_left a.place a.cells;
-  reach = later (place_end a.place) (cells_end a.cells);
   state = a.state;
 }
 

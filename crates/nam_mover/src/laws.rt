@@ -1,6 +1,6 @@
 //! What a move makes of the words that its verbs find, whatever these words are.
 
-ghost use Rattle.nam_mover.specs.MoveLaw.{NothingLaw, NoRoomLaw, MovedLaw, BackLaw, MoveReachesLaw};
+ghost use Rattle.nam_mover.specs.MoveLaw.{NothingLaw, NoRoomLaw, MovedLaw, BackLaw, MoveFieldLaw};
 ghost use Rattle.nam_mover.specs.ClaimedLaw.{ClaimedLaw};
 ghost use Rattle.nam_mover.specs.OrderLaw.{WriteLaw, ExchangeLaw};
 
@@ -31,8 +31,8 @@ pub fn order_law()
     ensures exchanges { ExchangeLaw }
 {}
 
-/// Whatever words are found, each verb is at the field that its place names, of the row's count and ring or of the
-/// cells.
-pub fn reach_law()
-    ensures { MoveReachesLaw }
+/// Whatever words are found, each verb is at a field of the position or of the bucket's cells. `place_law` of
+/// `nam_layout` says where such a field stands.
+pub fn field_law()
+    ensures { MoveFieldLaw }
 {}

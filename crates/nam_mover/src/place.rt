@@ -2,30 +2,25 @@
 
 ghost use Rattle.std.specs.Prelude.{◌≡◌, ◌<◌, ◌≤◌, IsSome, if◌then◌else◌};
 ghost use Rattle.nam_verbs.specs.Verb.{address_of};
+ghost use Rattle.nam_verbs.specs.VerbAt.{verb_by};
+ghost use Rattle.nam_layout.specs.Place.{known_address, place_end, cells_end, later};
 ghost use Rattle.nam_layout.specs.PlaceFits.{FitsPlace, FitsCells};
-ghost use Rattle.nam_calls.specs.Fits.{MoveFits};
-ghost use Rattle.nam_calls.specs.Mover.{move_begin as begin, move_verb as verb_at, move_after as after_word};
-ghost use Rattle.nam_calls.specs.Mover.{move_left as left_at};
-ghost use Rattle.nam_calls.specs.Mover.{on_claim as after_claim, on_fill as after_fill, move_claimed as claimed_at};
 ghost use Rattle.nam_calls.specs.declared.mover.MovePlace.TheVariants.{MoveFull, MoveBack};
-ghost use Rattle.nam_words.specs.Ends.{place_end, cells_end, later};
+ghost use Rattle.nam_calls.specs.Mover.{move_begin, move_verb, move_after, move_left, move_claimed, on_claim, on_fill};
+ghost use Rattle.nam_calls.specs.Fits.{MoveFits};
 
 use nam_calls::{ClaimEnd, ClaimPlace, FillPlace, MoveAnswer, MovePlace, Version};
-use nam_header::with_moved;
+use nam_header::{Tag, is_moved, stamp_in, with_moved, without_moved};
 use nam_layout::{Cells, Place};
 use nam_overflow::{
     claim_after, claim_begin, claim_left, claim_verb, fill_after, fill_begin, fill_left, fill_verb,
 };
 use nam_verbs::{Now, Verb};
-use nam_words::{
-    freed, full, is_moved, slot_at, slot_end_at, slot_of, slot_word_at, stamp_in, tag_at,
-    without_moved,
-};
 use si_model::{Stamp, Value};
 
 /// Where a move begins: at the number of the current version.
 pub fn move_begin() -> MovePlace
-    ensures { result ≡ begin }
+    ensures { result ≡ move_begin }
 {
     MovePlace::MoveCount
 }
@@ -35,20 +30,20 @@ pub fn move_verb(place: &Place, cells: &Cells, at: &MovePlace) -> Verb
     requires place { FitsPlace place.now }
     requires cells { FitsCells cells.now }
     requires at { MoveFits place.now cells.now at.now }
-    ensures value { result ≡ verb_at place.now cells.now at.now }
+    ensures value { result ≡ verb_by (known_address place.now cells.now 0) (move_verb place.now cells.now at.now) }
     ensures within { address_of result < later (place_end place.now) (cells_end cells.now) }
 {
     match at {
         MovePlace::MoveCount => Verb::Read { at: place.count_at },
         MovePlace::MoveHead { slot } => Verb::Read {
-            at: slot_at(place, *slot),
+            at: place.slot_header(*slot),
         },
         MovePlace::MoveEnding { slot, .. } => Verb::Read {
-            at: slot_end_at(place, *slot),
+            at: place.slot_end(*slot),
         },
         MovePlace::MoveClaim { at, .. } => claim_verb(cells, at),
         MovePlace::MoveWords { slot, got, .. } => Verb::Read {
-            at: slot_word_at(place, *slot, got.len() as u32),
+            at: place.slot_word(*slot, got.len() as u32),
         },
         MovePlace::MoveFill {
             cell,
@@ -57,20 +52,20 @@ pub fn move_verb(place: &Place, cells: &Cells, at: &MovePlace) -> Verb
             ..
         } => fill_verb(cells, *cell, place.row, version, at),
         MovePlace::MoveAgain { slot, .. } => Verb::Read {
-            at: slot_at(place, *slot),
+            at: place.slot_header(*slot),
         },
         MovePlace::MoveFull { cell, tag, .. } => Verb::Write {
-            at: tag_at(cells, *cell),
-            word: full(*tag),
+            at: cells.tag(*cell),
+            word: Tag(*tag).full().0,
         },
         MovePlace::MoveFlag { slot, header } => Verb::Exchange {
-            at: slot_at(place, *slot),
+            at: place.slot_header(*slot),
             expect: *header,
             word: with_moved(*header),
         },
         MovePlace::MoveBack { cell, tag, .. } => Verb::Write {
-            at: tag_at(cells, *cell),
-            word: freed(*tag),
+            at: cells.tag(*cell),
+            word: Tag(*tag).freed().0,
         },
     }
 }
@@ -83,7 +78,7 @@ fn on_claim(
     ending: u64,
     now: Now<ClaimPlace, ClaimEnd>,
 ) -> Now<MovePlace, MoveAnswer>
-    ensures { result ≡ after_claim cells.now slot header ending now }
+    ensures { result ≡ on_claim cells.now slot header ending now }
 {
     match now {
         Now::At(at) => Now::At(MovePlace::MoveClaim {
@@ -115,7 +110,7 @@ fn on_fill(
     version: Version,
     now: Now<FillPlace, ()>,
 ) -> Now<MovePlace, MoveAnswer>
-    ensures { result ≡ after_fill slot header cell tag version now }
+    ensures { result ≡ on_fill slot header cell tag version now }
 {
     match now {
         Now::At(at) => Now::At(MovePlace::MoveFill {
@@ -135,7 +130,8 @@ fn on_fill(
     }
 }
 
-// The cell is said to be full where the slot's header is the same, and else is given back.
+// The cell is said to be full where the slot's header is the same, and else is given back: another worker has moved the
+// version, and the words that were read may be those of the slot's next one.
 fn after_look(slot: u32, header: u64, cell: u32, tag: u64, same: bool) -> MovePlace
     ensures { result ≡ (if same then MoveFull slot header cell tag else MoveBack header cell tag) }
 {
@@ -161,11 +157,11 @@ pub fn move_after(
     requires place { FitsPlace place.now }
     requires cells { FitsCells cells.now }
     requires at { MoveFits place.now cells.now at }
-    ensures { result ≡ after_word place.now cells.now at found }
+    ensures { result ≡ move_after place.now cells.now at found }
 {
     match at {
         MovePlace::MoveCount => {
-            let slot = slot_of(place, found);
+            let slot = place.slot_of(found);
             Now::At(MovePlace::MoveHead { slot })
         }
         MovePlace::MoveHead { slot } => {
@@ -197,8 +193,8 @@ fn after_claim(
 ) -> Now<MovePlace, MoveAnswer>
     requires place { FitsPlace place.now }
     requires at { MoveFits place.now cells.now at }
-    requires claimed { IsSome (claimed_at place.now at) }
-    ensures { result ≡ after_word place.now cells.now at found }
+    requires claimed { IsSome (move_claimed place.now at) }
+    ensures { result ≡ move_after place.now cells.now at found }
 {
     match at {
         MovePlace::MoveWords {
@@ -245,8 +241,8 @@ fn after_claim(
 // The same once the cell is filled: no more than three verbs are to come.
 fn after_copy(place: &Place, cells: &Cells, at: MovePlace, found: u64) -> Now<MovePlace, MoveAnswer>
     requires at { MoveFits place.now cells.now at }
-    requires few { left_at place.now cells.now at ≤ 3 }
-    ensures { result ≡ after_word place.now cells.now at found }
+    requires few { move_left place.now cells.now at ≤ 3 }
+    ensures { result ≡ move_after place.now cells.now at found }
 {
     match at {
         MovePlace::MoveAgain {
@@ -255,7 +251,9 @@ fn after_copy(place: &Place, cells: &Cells, at: MovePlace, found: u64) -> Now<Mo
             cell,
             tag,
         } => Now::At(after_look(slot, header, cell, tag, found == header)),
+        // The cell is full before the flag is set: from then on the slot may be overwritten.
         MovePlace::MoveFull { slot, header, .. } => Now::At(MovePlace::MoveFlag { slot, header }),
+        // Where the exchange was lost, another worker has moved the version.
         MovePlace::MoveFlag { header, .. } => Now::Over(MoveAnswer::Moved {
             stamp: stamp_in(place.form, header),
         }),
@@ -268,7 +266,7 @@ fn after_copy(place: &Place, cells: &Cells, at: MovePlace, found: u64) -> Now<Mo
 
 /// The stamp of the version for which a cell was claimed, and none before one was.
 pub fn move_claimed(place: &Place, at: &MovePlace) -> Option<Stamp>
-    ensures { result ≡ claimed_at place.now at.now }
+    ensures { result ≡ move_claimed place.now at.now }
 {
     match at {
         MovePlace::MoveCount
@@ -289,7 +287,7 @@ pub fn move_left(place: &Place, cells: &Cells, at: &MovePlace) -> u64
     requires place { FitsPlace place.now }
     requires cells { FitsCells cells.now }
     requires at { MoveFits place.now cells.now at.now }
-    ensures { result ≡ left_at place.now cells.now at.now }
+    ensures { result ≡ move_left place.now cells.now at.now }
 {
     let width = place.width as u64;
     let claim = 2 * cells.cells as u64;

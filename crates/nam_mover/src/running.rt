@@ -7,7 +7,7 @@ ghost use Rattle.nam_mover.specs.Move.{moving, running, claimed_now};
 
 use crate::place::{move_after, move_begin, move_claimed, move_left, move_verb};
 use nam_calls::{MoveAnswer, MovePlace};
-use nam_layout::{Cells, Place};
+use nam_layout::{Cells, Field, Place};
 use nam_verbs::{Machine, Now, Verb};
 use si_model::Stamp;
 use std::marker::Model;
@@ -64,48 +64,43 @@ impl Move {
 }
 
 impl Machine for Move {
-    ghost use Rattle.nam_verbs.specs.Running.{next_verb, after_found, end_of, verbs_left, stands_until_end};
+    ghost use Rattle.std.specs.Prelude.{◌≡◌, ◌<◌, IsSome};
+    ghost use Rattle.nam_verbs.specs.Running.{next_verb, after_found, verbs_left};
     ghost use Rattle.nam_mover.specs.Move.{running};
+
+    type Word = Field;
+
+    type Place = MovePlace;
 
     type End = MoveAnswer;
 
-    ghost next = { λ a. next_verb (running a) };
+    ghost running = { running };
 
-    ghost after = { λ a found. record a { state = (after_found (running a) found).state } };
-
-    ghost ended = { λ a. end_of (running a) };
-
-    ghost rest = { λ a. verbs_left (running a) };
-
-    ghost reach = { λ a. (running a).reach };
-
-    ghost stands_until_end = { λ a. stands_until_end (running a) };
-
-    fn verb(&self) -> Option<Verb> {
-        match &self.state {
-            Now::At(at) => Some(move_verb(&self.place, &self.cells, at)),
-            Now::Over(_) => None,
-        }
+    fn state(&self) -> &Now<MovePlace, MoveAnswer> {
+        &self.state
     }
 
-    fn take(&mut self, found: u64) {
-        match replace(&mut self.state, Now::At(move_begin())) {
-            Now::At(at) => self.state = move_after(&self.place, &self.cells, at, found),
-            Now::Over(end) => self.state = Now::Over(end),
-        }
+    fn verb_from(&self, place: &MovePlace) -> Verb {
+        move_verb(&self.place, &self.cells, place)
     }
 
-    fn left(&self) -> u64 {
-        match &self.state {
-            Now::At(at) => move_left(&self.place, &self.cells, at),
-            Now::Over(_) => 0,
-        }
+    fn left_from(&self, place: &MovePlace) -> u64 {
+        move_left(&self.place, &self.cells, place)
+    }
+
+    fn take(&mut self, found: u64)
+        requires { IsSome (next_verb (running self.old)) }
+        ensures after { running self.new ≡ after_found (running self.old) found }
+        ensures falls { verbs_left (running self.new) < verbs_left (running self.old) }
+        ensures value { self.new ≡ record self.old { state = (after_found (running self.old) found).state } }
+    {
+        self.state = match replace(&mut self.state, Now::At(move_begin())) {
+            Now::At(place) => move_after(&self.place, &self.cells, place, found),
+            Now::Over(end) => Now::Over(end),
+        };
     }
 
     fn end(&self) -> Option<MoveAnswer> {
-        match &self.state {
-            Now::At(_) => None,
-            Now::Over(end) => Some(*end),
-        }
+        self.state.end()
     }
 }

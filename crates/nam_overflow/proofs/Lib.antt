@@ -1,4 +1,4 @@
 mod SearchLemmas
 pub mod ClaimLemmas
 pub mod FillLemmas
-mod ReachLemmas
+mod FieldLemmas

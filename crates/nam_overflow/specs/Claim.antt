@@ -3,10 +3,11 @@ use Rattle.nam_verbs.specs.declared.now.Now.{Now}
 use Rattle.nam_verbs.specs.declared.now.Now.TheVariants.{At}
 use Rattle.nam_verbs.specs.Running.{Running}
 use Rattle.nam_layout.specs.declared.field.Cells.{Cells}
+use Rattle.nam_layout.specs.Place.{cell_address, cells_end}
+use Rattle.nam_layout.specs.declared.field.Field.{Field}
 use Rattle.nam_calls.specs.declared.overflow.ClaimPlace.{ClaimPlace}
 use Rattle.nam_calls.specs.declared.overflow.ClaimEnd.{ClaimEnd}
 use Rattle.nam_calls.specs.Overflow.{claim_begin, claim_verb, claim_after, claim_left}
-use Rattle.nam_words.specs.Ends.{cells_end}
 
 -- a claim of one of these cells, and where it stands
 pub record Claiming : Type 0 where
@@ -18,11 +19,12 @@ abbrev pub claiming : Cells → Claiming
 claiming cells = record { cells = cells; state = At claim_begin }
 
 -- the same as a running call
-abbrev pub running : Claiming → Running ClaimPlace ClaimEnd
+abbrev pub running : Claiming → Running Field ClaimPlace ClaimEnd
 running a = record {
+  address = cell_address a.cells;
+  reach = cells_end a.cells;
   verb = claim_verb a.cells;
   after = claim_after a.cells;
   left = claim_left a.cells;
-  reach = cells_end a.cells;
   state = a.state;
 }

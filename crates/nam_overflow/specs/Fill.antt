@@ -4,13 +4,15 @@ use Rattle.nam_verbs.specs.declared.now.Now.{Now}
 use Rattle.nam_verbs.specs.declared.now.Now.TheVariants.{At}
 use Rattle.nam_verbs.specs.Now.{FitsNow}
 use Rattle.nam_verbs.specs.Running.{Running}
+use Rattle.nam_catalog.specs.declared.bounds.TheConstants.{MOST_WIDTH}
 use Rattle.nam_layout.specs.declared.field.Cells.{Cells}
 use Rattle.nam_layout.specs.PlaceFits.{FitsCells}
+use Rattle.nam_layout.specs.Place.{cell_address, cells_end}
+use Rattle.nam_layout.specs.declared.field.Field.{Field}
 use Rattle.nam_calls.specs.declared.overflow.Version.{Version}
 use Rattle.nam_calls.specs.declared.overflow.FillPlace.{FillPlace}
 use Rattle.nam_calls.specs.Overflow.{fill_begin, fill_verb, fill_after, fill_left}
 use Rattle.nam_calls.specs.Fits.{FillFits}
-use Rattle.nam_words.specs.Ends.{cells_end}
 
 -- the filling of a cell with a version of a row, and where it stands
 pub record Filling : Type 0 where
@@ -25,21 +27,25 @@ pub record FillingFits (cells : Cells) (cell : ℕ) (version : Version) (state :
   pub bucket : FitsCells cells
   pub within : cell < cells.cells
   pub least : 1 ≤ length version.value
-  pub most : length version.value ≤ 8
+  pub most : length version.value ≤ MOST_WIDTH
   pub at : FitsNow (FillFits (length version.value)) state
+
+abbrev pub filling_at : Cells → ℕ → ℕ → Version → Now FillPlace (Unit {0}) → Filling
+filling_at cells cell owner version state =
+    record { cells = cells; cell = cell; owner = owner; version = version; state = state }
 
 -- a new filling
 abbrev pub filling : Cells → ℕ → ℕ → ℕ → ℕ → List ℕ → Filling
 filling cells cell owner begin ending words =
-    let version : Version = record { begin = begin; «end» = ending; value = words } in
-    record { cells = cells; cell = cell; owner = owner; version = version; state = At fill_begin }
+    filling_at cells cell owner record { begin = begin; «end» = ending; value = words } (At fill_begin)
 
 -- the same as a running call
-abbrev pub running : Filling → Running FillPlace (Unit {0})
+abbrev pub running : Filling → Running Field FillPlace (Unit {0})
 running a = record {
+  address = cell_address a.cells;
+  reach = cells_end a.cells;
   verb = fill_verb a.cells a.cell a.owner a.version;
   after = λ at found. fill_after (length a.version.value) at;
   left = fill_left (length a.version.value);
-  reach = cells_end a.cells;
   state = a.state;
 }

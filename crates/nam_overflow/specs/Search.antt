@@ -5,10 +5,11 @@ use Rattle.nam_verbs.specs.declared.now.Now.TheVariants.{At}
 use Rattle.nam_verbs.specs.Running.{Running}
 use Rattle.nam_layout.specs.declared.field.Place.{Place}
 use Rattle.nam_layout.specs.declared.field.Cells.{Cells}
+use Rattle.nam_layout.specs.Place.{cell_address, cells_end}
+use Rattle.nam_layout.specs.declared.field.Field.{Field}
 use Rattle.nam_calls.specs.declared.ring.SearchEnd.{SearchEnd}
 use Rattle.nam_calls.specs.declared.overflow.CellPlace.{CellPlace}
 use Rattle.nam_calls.specs.Overflow.{cell_begin, cell_verb, cell_after, cell_left}
-use Rattle.nam_words.specs.Ends.{cells_end}
 
 -- a search of cells for the version of a row that a snapshot sees, and where it stands
 pub record Searching : Type 0 where
@@ -22,11 +23,12 @@ abbrev pub searching : Cells → Place → List ℕ → Searching
 searching cells place seen = record { cells = cells; place = place; seen = seen; state = At cell_begin }
 
 -- the same as a running call
-abbrev pub running : Searching → Running CellPlace SearchEnd
+abbrev pub running : Searching → Running Field CellPlace SearchEnd
 running a = record {
+  address = cell_address a.cells;
+  reach = cells_end a.cells;
   verb = cell_verb a.cells;
   after = cell_after a.cells a.place a.seen;
   left = cell_left a.cells a.place;
-  reach = cells_end a.cells;
   state = a.state;
 }

@@ -2,24 +2,24 @@
 
 ghost use Rattle.std.specs.Prelude.{◌≡◌, ◌<◌, ◌*◌};
 ghost use Rattle.nam_verbs.specs.Verb.{address_of};
+ghost use Rattle.nam_verbs.specs.VerbAt.{verb_by};
 ghost use Rattle.nam_verbs.specs.Running.{verbs_left};
+ghost use Rattle.nam_layout.specs.Place.{cell_address, cells_end};
 ghost use Rattle.nam_layout.specs.PlaceFits.{FitsCells};
-ghost use Rattle.nam_words.specs.Ends.{cells_end};
-ghost use Rattle.nam_calls.specs.Overflow.{claim_begin as begin, claim_verb as verb_at, claim_next as next_at};
-ghost use Rattle.nam_calls.specs.Overflow.{claim_after as after_word, claim_left as left_at};
+ghost use Rattle.nam_calls.specs.Overflow.{claim_begin, claim_verb, claim_next, claim_after, claim_left};
 ghost use Rattle.nam_calls.specs.Fits.{ClaimFits};
 ghost use Rattle.nam_overflow.specs.Claim.{claiming, running};
 
 use nam_calls::{ClaimEnd, ClaimPlace};
-use nam_layout::Cells;
+use nam_header::Tag;
+use nam_layout::{Cells, Field};
 use nam_verbs::{Machine, Now, Verb};
-use nam_words::{is_free, tag_at, written};
 use std::marker::Model;
 use std::mem::replace;
 
 /// Where a claim begins: at the first cell.
 pub fn claim_begin() -> ClaimPlace
-    ensures { result ≡ begin }
+    ensures { result ≡ claim_begin }
 {
     ClaimPlace::ClaimLook { cell: 0 }
 }
@@ -28,25 +28,26 @@ pub fn claim_begin() -> ClaimPlace
 pub fn claim_verb(cells: &Cells, at: &ClaimPlace) -> Verb
     requires fits { FitsCells cells.now }
     requires at { ClaimFits cells.now at.now }
-    ensures value { result ≡ verb_at cells.now at.now }
+    ensures value { result ≡ verb_by (cell_address cells.now) (claim_verb cells.now at.now) }
     ensures within { address_of result < cells_end cells.now }
 {
     match at {
         ClaimPlace::ClaimLook { cell } => Verb::Read {
-            at: tag_at(cells, *cell),
+            at: cells.tag(*cell),
         },
         ClaimPlace::ClaimTake { cell, tag } => Verb::Exchange {
-            at: tag_at(cells, *cell),
+            at: cells.tag(*cell),
             expect: *tag,
-            word: written(*tag),
+            // Neither free nor full, so that others pass the cell until it is filled.
+            word: Tag(*tag).written().0,
         },
     }
 }
 
-fn next_cell(cells: &Cells, cell: u32) -> Now<ClaimPlace, ClaimEnd>
+fn claim_next(cells: &Cells, cell: u32) -> Now<ClaimPlace, ClaimEnd>
     requires fits { FitsCells cells.now }
     requires cell { cell < cells.now.cells }
-    ensures { result ≡ next_at cells.now cell }
+    ensures { result ≡ claim_next cells.now cell }
 {
     if cell + 1 == cells.cells {
         Now::Over(ClaimEnd::NoRoom)
@@ -59,24 +60,24 @@ fn next_cell(cells: &Cells, cell: u32) -> Now<ClaimPlace, ClaimEnd>
 pub fn claim_after(cells: &Cells, at: ClaimPlace, found: u64) -> Now<ClaimPlace, ClaimEnd>
     requires fits { FitsCells cells.now }
     requires at { ClaimFits cells.now at }
-    ensures { result ≡ after_word cells.now at found }
+    ensures { result ≡ claim_after cells.now at found }
 {
     match at {
         ClaimPlace::ClaimLook { cell } => {
-            if is_free(found) {
+            if Tag(found).is_free() {
                 Now::At(ClaimPlace::ClaimTake { cell, tag: found })
             } else {
-                next_cell(cells, cell)
+                claim_next(cells, cell)
             }
         }
         ClaimPlace::ClaimTake { cell, tag } => {
             if found == tag {
                 Now::Over(ClaimEnd::Claimed {
                     cell,
-                    tag: written(tag),
+                    tag: Tag(tag).written().0,
                 })
             } else {
-                next_cell(cells, cell)
+                claim_next(cells, cell)
             }
         }
     }
@@ -86,7 +87,7 @@ pub fn claim_after(cells: &Cells, at: ClaimPlace, found: u64) -> Now<ClaimPlace,
 pub fn claim_left(cells: &Cells, at: &ClaimPlace) -> u64
     requires fits { FitsCells cells.now }
     requires at { ClaimFits cells.now at.now }
-    ensures { result ≡ left_at cells.now at.now }
+    ensures { result ≡ claim_left cells.now at.now }
 {
     match at {
         ClaimPlace::ClaimLook { cell } => (cells.cells - *cell - 1) as u64 * 2 + 2,
@@ -130,48 +131,36 @@ impl ClaimCell {
 }
 
 impl Machine for ClaimCell {
-    ghost use Rattle.nam_verbs.specs.Running.{next_verb, after_found, end_of, verbs_left, stands_until_end};
     ghost use Rattle.nam_overflow.specs.Claim.{running};
+
+    type Word = Field;
+
+    type Place = ClaimPlace;
 
     type End = ClaimEnd;
 
-    ghost next = { λ a. next_verb (running a) };
+    ghost running = { running };
 
-    ghost after = { λ a found. record a { state = (after_found (running a) found).state } };
+    fn state(&self) -> &Now<ClaimPlace, ClaimEnd> {
+        &self.state
+    }
 
-    ghost ended = { λ a. end_of (running a) };
+    fn verb_from(&self, place: &ClaimPlace) -> Verb {
+        claim_verb(&self.cells, place)
+    }
 
-    ghost rest = { λ a. verbs_left (running a) };
-
-    ghost reach = { λ a. (running a).reach };
-
-    ghost stands_until_end = { λ a. stands_until_end (running a) };
-
-    fn verb(&self) -> Option<Verb> {
-        match &self.state {
-            Now::At(at) => Some(claim_verb(&self.cells, at)),
-            Now::Over(_) => None,
-        }
+    fn left_from(&self, place: &ClaimPlace) -> u64 {
+        claim_left(&self.cells, place)
     }
 
     fn take(&mut self, found: u64) {
-        match replace(&mut self.state, Now::At(claim_begin())) {
-            Now::At(at) => self.state = claim_after(&self.cells, at, found),
-            Now::Over(end) => self.state = Now::Over(end),
-        }
-    }
-
-    fn left(&self) -> u64 {
-        match &self.state {
-            Now::At(at) => claim_left(&self.cells, at),
-            Now::Over(_) => 0,
-        }
+        self.state = match replace(&mut self.state, Now::At(claim_begin())) {
+            Now::At(place) => claim_after(&self.cells, place, found),
+            Now::Over(end) => Now::Over(end),
+        };
     }
 
     fn end(&self) -> Option<ClaimEnd> {
-        match &self.state {
-            Now::At(_) => None,
-            Now::Over(end) => Some(*end),
-        }
+        self.state.end()
     }
 }

@@ -2,25 +2,25 @@
 
 ghost use Rattle.std.specs.Prelude.{◌≡◌, ◌<◌, ◌≤◌, ◌+◌, length};
 ghost use Rattle.nam_verbs.specs.Verb.{address_of};
+ghost use Rattle.nam_verbs.specs.VerbAt.{verb_by};
 ghost use Rattle.nam_verbs.specs.Running.{verbs_left};
+ghost use Rattle.nam_layout.specs.Place.{cell_address, cells_end};
 ghost use Rattle.nam_layout.specs.PlaceFits.{FitsCells};
-ghost use Rattle.nam_words.specs.Ends.{cells_end};
-ghost use Rattle.nam_calls.specs.Overflow.{fill_begin as begin, fill_verb as verb_at, fill_after as after_word};
-ghost use Rattle.nam_calls.specs.Overflow.{fill_left as left_at};
+ghost use Rattle.nam_calls.specs.Overflow.{fill_begin, fill_verb, fill_after, fill_left};
 ghost use Rattle.nam_calls.specs.Fits.{FillFits};
 ghost use Rattle.nam_overflow.specs.Fill.{filling, running};
 
 use nam_calls::{FillPlace, Version};
-use nam_layout::Cells;
+use nam_catalog::bounds::MOST_WIDTH;
+use nam_layout::{Cells, Field};
 use nam_verbs::{Machine, Now, Verb};
-use nam_words::{begin_at, cell_word_at, end_at, owner_at};
 use si_model::Value;
 use std::marker::Model;
 use std::mem::replace;
 
 /// Where a filling begins: at the owner.
 pub fn fill_begin() -> FillPlace
-    ensures { result ≡ begin }
+    ensures { result ≡ fill_begin }
 {
     FillPlace::FillOwner
 }
@@ -29,26 +29,26 @@ pub fn fill_begin() -> FillPlace
 pub fn fill_verb(cells: &Cells, cell: u32, owner: u32, version: &Version, at: &FillPlace) -> Verb
     requires fits { FitsCells cells.now }
     requires cell { cell < cells.now.cells }
-    requires words { length version.now.value ≤ 8 }
+    requires words { length version.now.value ≤ MOST_WIDTH }
     requires at { FillFits (length version.now.value) at.now }
-    ensures value { result ≡ verb_at cells.now cell owner version.now at.now }
+    ensures value { result ≡ verb_by (cell_address cells.now) (fill_verb cells.now cell owner version.now at.now) }
     ensures within { address_of result < cells_end cells.now }
 {
     match at {
         FillPlace::FillOwner => Verb::Write {
-            at: owner_at(cells, cell),
+            at: cells.owner(cell),
             word: owner as u64,
         },
         FillPlace::FillBegin => Verb::Write {
-            at: begin_at(cells, cell),
+            at: cells.begin(cell),
             word: version.begin,
         },
         FillPlace::FillEnding => Verb::Write {
-            at: end_at(cells, cell),
+            at: cells.end(cell),
             word: version.end,
         },
         FillPlace::FillWord { nth } => Verb::Write {
-            at: cell_word_at(cells, cell, *nth),
+            at: cells.word(cell, *nth),
             word: *version.value.at(*nth as usize),
         },
     }
@@ -57,7 +57,7 @@ pub fn fill_verb(cells: &Cells, cell: u32, owner: u32, version: &Version, at: &F
 /// What follows the write of a place, where the version has so many words.
 pub fn fill_after(width: u32, at: FillPlace) -> Now<FillPlace, ()>
     requires { FillFits width at }
-    ensures { result ≡ after_word width at }
+    ensures { result ≡ fill_after width at }
 {
     match at {
         FillPlace::FillOwner => Now::At(FillPlace::FillBegin),
@@ -76,7 +76,7 @@ pub fn fill_after(width: u32, at: FillPlace) -> Now<FillPlace, ()>
 /// How many verbs are to come from a place.
 pub fn fill_left(width: u32, at: &FillPlace) -> u64
     requires { FillFits width at.now }
-    ensures { result ≡ left_at width at.now }
+    ensures { result ≡ fill_left width at.now }
 {
     let width = width as u64;
     match at {
@@ -99,11 +99,11 @@ pub struct FillCell {
 }
 
 impl Model for FillCell {
-    ghost use Rattle.nam_overflow.specs.Fill.{Filling, FillingFits};
+    ghost use Rattle.nam_overflow.specs.Fill.{Filling, FillingFits, filling_at};
 
     ghost Value = { Filling };
 
-    ghost view = { λ a. record { cells = a.cells; cell = a.cell; owner = a.owner; version = a.version; state = a.state } };
+    ghost view = { λ a. filling_at a.cells a.cell a.owner a.version a.state };
 
     ghost invariant = { λ a. FillingFits a.cells a.cell a.version a.state };
 }
@@ -115,7 +115,7 @@ impl FillCell {
         requires fits { FitsCells cells }
         requires cell { cell < cells.cells }
         requires least { 1 ≤ length words }
-        requires most { length words ≤ 8 }
+        requires most { length words ≤ MOST_WIDTH }
         ensures begins { result ≡ filling cells cell owner begin end words }
         ensures left { verbs_left (running result) ≡ length words + 3 }
     {
@@ -134,48 +134,36 @@ impl FillCell {
 }
 
 impl Machine for FillCell {
-    ghost use Rattle.nam_verbs.specs.Running.{next_verb, after_found, end_of, verbs_left, stands_until_end};
     ghost use Rattle.nam_overflow.specs.Fill.{running};
+
+    type Word = Field;
+
+    type Place = FillPlace;
 
     type End = ();
 
-    ghost next = { λ a. next_verb (running a) };
+    ghost running = { running };
 
-    ghost after = { λ a found. record a { state = (after_found (running a) found).state } };
+    fn state(&self) -> &Now<FillPlace, ()> {
+        &self.state
+    }
 
-    ghost ended = { λ a. end_of (running a) };
+    fn verb_from(&self, place: &FillPlace) -> Verb {
+        fill_verb(&self.cells, self.cell, self.owner, &self.version, place)
+    }
 
-    ghost rest = { λ a. verbs_left (running a) };
-
-    ghost reach = { λ a. (running a).reach };
-
-    ghost stands_until_end = { λ a. stands_until_end (running a) };
-
-    fn verb(&self) -> Option<Verb> {
-        match &self.state {
-            Now::At(at) => Some(fill_verb(&self.cells, self.cell, self.owner, &self.version, at)),
-            Now::Over(()) => None,
-        }
+    fn left_from(&self, place: &FillPlace) -> u64 {
+        fill_left(self.version.value.len() as u32, place)
     }
 
     fn take(&mut self, _found: u64) {
-        match replace(&mut self.state, Now::Over(())) {
-            Now::At(at) => self.state = fill_after(self.version.value.len() as u32, at),
-            Now::Over(()) => self.state = Now::Over(()),
-        }
-    }
-
-    fn left(&self) -> u64 {
-        match &self.state {
-            Now::At(at) => fill_left(self.version.value.len() as u32, at),
-            Now::Over(()) => 0,
-        }
+        self.state = match replace(&mut self.state, Now::At(fill_begin())) {
+            Now::At(place) => fill_after(self.version.value.len() as u32, place),
+            Now::Over(end) => Now::Over(end),
+        };
     }
 
     fn end(&self) -> Option<()> {
-        match &self.state {
-            Now::At(_) => None,
-            Now::Over(()) => Some(()),
-        }
+        self.state.end()
     }
 }

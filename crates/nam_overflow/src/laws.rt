@@ -1,8 +1,8 @@
 //! What the calls make of the words that their verbs find, whatever these words are.
 
-ghost use Rattle.nam_overflow.specs.SearchLaw.{FoundLaw, NotThereLaw, SearchReachesLaw};
-ghost use Rattle.nam_overflow.specs.ClaimLaw.{ClaimedLaw, NoRoomLaw, ClaimReachesLaw};
-ghost use Rattle.nam_overflow.specs.FillLaw.{FillLaw, FillReachesLaw};
+ghost use Rattle.nam_overflow.specs.SearchLaw.{FoundLaw, NotThereLaw, SearchFieldLaw};
+ghost use Rattle.nam_overflow.specs.ClaimLaw.{ClaimedLaw, NoRoomLaw, ClaimFieldLaw};
+ghost use Rattle.nam_overflow.specs.FillLaw.{FillLaw, FillFieldLaw};
 
 /// A search finds a value exactly where a cell has it, after each cell before it was ended by a word found: the
 /// cell's tag says that it is full, the row owns it, the snapshot sees its header and not its end, and the same tag
@@ -25,9 +25,10 @@ pub fn fill_law()
     ensures { FillLaw }
 {}
 
-/// Whatever words are found, each verb is at a field of the bucket's cells, the one that its place names.
-pub fn reach_law()
-    ensures search { SearchReachesLaw }
-    ensures claim { ClaimReachesLaw }
-    ensures fill { FillReachesLaw }
+/// Whatever words are found, each verb is at a field of the bucket's cells. `place_law` of `nam_layout` says where such
+/// a field stands.
+pub fn field_law()
+    ensures search { SearchFieldLaw }
+    ensures claim { ClaimFieldLaw }
+    ensures fill { FillFieldLaw }
 {}

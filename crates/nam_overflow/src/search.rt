@@ -3,31 +3,31 @@
 ghost use Rattle.std.specs.Prelude.{◌≡◌, ◌<◌, ◌≤◌, ◌*◌, ◌+◌, [], ◌∷◌, ◌++◌, length, if◌then◌else◌, Some, None};
 ghost use Rattle.nam_verbs.specs.declared.now.Now.TheVariants.{At};
 ghost use Rattle.nam_verbs.specs.Verb.{address_of};
+ghost use Rattle.nam_verbs.specs.VerbAt.{verb_by};
+ghost use Rattle.nam_verbs.specs.Until.{until};
 ghost use Rattle.nam_verbs.specs.Running.{verbs_left};
+ghost use Rattle.nam_header.specs.Stamp.{is_deleted};
+ghost use Rattle.nam_layout.specs.Place.{cell_address, cells_end};
 ghost use Rattle.nam_layout.specs.PlaceFits.{FitsPlace, FitsCells};
-ghost use Rattle.nam_words.specs.Ends.{cells_end};
-ghost use Rattle.nam_calls.specs.Overflow.{cell_begin as begin, cell_verb as verb_at, next_cell as next_at};
-ghost use Rattle.nam_calls.specs.Overflow.{cell_after as after_word};
-ghost use Rattle.nam_calls.specs.Overflow.{cells_left as left_after, cell_left as left_at};
-ghost use Rattle.nam_calls.specs.Fits.{CellFits};
-ghost use Rattle.nam_calls.specs.Words.{until};
-ghost use Rattle.nam_calls.specs.Stamps.{is_deleted as deleted};
 ghost use Rattle.nam_calls.specs.declared.overflow.CellPlace.TheVariants.{CellWords, CellAgain};
 ghost use Rattle.nam_calls.specs.declared.ring.SearchEnd.TheVariants.{Found};
+ghost use Rattle.nam_calls.specs.Overflow.{cell_begin, cell_verb, next_cell, cell_after, cells_left, cell_left};
+ghost use Rattle.nam_calls.specs.Fits.{CellFits};
 ghost use Rattle.nam_overflow.specs.Search.{searching, running};
 
 use nam_calls::{CellPlace, SearchEnd};
 use nam_catalog::Form;
-use nam_layout::{Cells, Place};
+use nam_catalog::bounds::MOST_WIDTH;
+use nam_header::{Tag, is_deleted, sees};
+use nam_layout::{Cells, Field, Place};
 use nam_verbs::{Machine, Now, Verb};
-use nam_words::{begin_at, cell_word_at, end_at, is_deleted, is_full, owner_at, sees, tag_at};
 use si_model::{Snapshot, Value};
 use std::marker::Model;
 use std::mem::replace;
 
 /// Where a search begins: at the first cell.
 pub fn cell_begin() -> CellPlace
-    ensures { result ≡ begin }
+    ensures { result ≡ cell_begin }
 {
     CellPlace::CellTag { cell: 0 }
 }
@@ -37,15 +37,15 @@ pub fn cell_verb(cells: &Cells, place: &Place, at: &CellPlace) -> Verb
     requires cells { FitsCells cells.now }
     requires place { FitsPlace place.now }
     requires at { CellFits cells.now place.now at.now }
-    ensures value { result ≡ verb_at cells.now at.now }
+    ensures value { result ≡ verb_by (cell_address cells.now) (cell_verb cells.now at.now) }
     ensures within { address_of result < cells_end cells.now }
 {
     let at = match at {
-        CellPlace::CellTag { cell } | CellPlace::CellAgain { cell, .. } => tag_at(cells, *cell),
-        CellPlace::CellOwner { cell, .. } => owner_at(cells, *cell),
-        CellPlace::CellBegin { cell, .. } => begin_at(cells, *cell),
-        CellPlace::CellEnding { cell, .. } => end_at(cells, *cell),
-        CellPlace::CellWords { cell, got, .. } => cell_word_at(cells, *cell, got.len() as u32),
+        CellPlace::CellTag { cell } | CellPlace::CellAgain { cell, .. } => cells.tag(*cell),
+        CellPlace::CellOwner { cell, .. } => cells.owner(*cell),
+        CellPlace::CellBegin { cell, .. } => cells.begin(*cell),
+        CellPlace::CellEnding { cell, .. } => cells.end(*cell),
+        CellPlace::CellWords { cell, got, .. } => cells.word(*cell, got.len() as u32),
     };
     Verb::Read { at }
 }
@@ -53,7 +53,7 @@ pub fn cell_verb(cells: &Cells, place: &Place, at: &CellPlace) -> Verb
 fn next_cell(cells: &Cells, cell: u32) -> Now<CellPlace, SearchEnd>
     requires fits { FitsCells cells.now }
     requires cell { cell < cells.now.cells }
-    ensures { result ≡ next_at cells.now cell }
+    ensures { result ≡ next_cell cells.now cell }
 {
     if cell + 1 == cells.cells {
         Now::Over(SearchEnd::NotThere)
@@ -66,7 +66,7 @@ fn next_cell(cells: &Cells, cell: u32) -> Now<CellPlace, SearchEnd>
 fn going(cells: &Cells, cell: u32, passes: bool, further: CellPlace) -> Now<CellPlace, SearchEnd>
     requires fits { FitsCells cells.now }
     requires cell { cell < cells.now.cells }
-    ensures { result ≡ (if passes then At further else next_at cells.now cell) }
+    ensures { result ≡ (if passes then At further else next_cell cells.now cell) }
 {
     if passes {
         Now::At(further)
@@ -77,7 +77,7 @@ fn going(cells: &Cells, cell: u32, passes: bool, further: CellPlace) -> Now<Cell
 
 // With one more of the cell's words, the next one follows, or the tag again.
 fn one_more(width: u32, cell: u32, tag: u64, header: u64, got: Value, found: u64) -> CellPlace
-    requires most { width ≤ 8 }
+    requires most { width ≤ MOST_WIDTH }
     requires got { length got < width }
     ensures { result ≡ until width (got ++ found ∷ []) (CellWords cell tag header) (CellAgain cell tag header) }
 {
@@ -102,12 +102,23 @@ fn one_more(width: u32, cell: u32, tag: u64, header: u64, got: Value, found: u64
 
 // The value of a whole version, and none of a deletion.
 fn value_of(form: Form, header: u64, value: Value) -> SearchEnd
-    ensures { result ≡ Found (if deleted form header then None else Some value) }
+    ensures { result ≡ Found (if is_deleted form header then None else Some value) }
 {
     if is_deleted(form, header) {
         SearchEnd::Found(None)
     } else {
         SearchEnd::Found(Some(value))
+    }
+}
+
+// An equal end, made without memory.
+fn copy(end: &SearchEnd) -> SearchEnd
+    ensures { result ≡ end.now }
+{
+    match end {
+        SearchEnd::Found(Some(value)) => SearchEnd::Found(Some(value.copy())),
+        SearchEnd::Found(None) => SearchEnd::Found(None),
+        SearchEnd::NotThere => SearchEnd::NotThere,
     }
 }
 
@@ -122,12 +133,12 @@ pub fn cell_after(
     requires cells { FitsCells cells.now }
     requires place { FitsPlace place.now }
     requires at { CellFits cells.now place.now at }
-    ensures { result ≡ after_word cells.now place.now seen.now at found }
+    ensures { result ≡ cell_after cells.now place.now seen.now at found }
 {
     match at {
         CellPlace::CellTag { cell } => {
             let further = CellPlace::CellOwner { cell, tag: found };
-            going(cells, cell, is_full(found), further)
+            going(cells, cell, Tag(found).is_full(), further)
         }
         CellPlace::CellOwner { cell, tag } => {
             let further = CellPlace::CellBegin { cell, tag };
@@ -139,6 +150,7 @@ pub fn cell_after(
             going(cells, cell, sees(place.form, seen, found), further)
         }
         CellPlace::CellEnding { cell, tag, header } => {
+            // A later version replaced this one within the snapshot.
             if sees(place.form, seen, found) {
                 return next_cell(cells, cell);
             }
@@ -162,6 +174,7 @@ pub fn cell_after(
             header,
             value,
         } => {
+            // With another tag the cell was freed meanwhile, and the words may be of two versions.
             if found != tag {
                 return next_cell(cells, cell);
             }
@@ -173,7 +186,7 @@ pub fn cell_after(
 fn cells_left(cells: &Cells, place: &Place, cell: u32) -> u64
     requires place { FitsPlace place.now }
     requires cell { cell < cells.now.cells }
-    ensures { result ≡ left_after cells.now place.now cell }
+    ensures { result ≡ cells_left cells.now place.now cell }
 {
     (cells.cells - cell - 1) as u64 * (place.width as u64 + 5)
 }
@@ -183,7 +196,7 @@ pub fn cell_left(cells: &Cells, place: &Place, at: &CellPlace) -> u64
     requires cells { FitsCells cells.now }
     requires place { FitsPlace place.now }
     requires at { CellFits cells.now place.now at.now }
-    ensures { result ≡ left_at cells.now place.now at.now }
+    ensures { result ≡ cell_left cells.now place.now at.now }
 {
     let width = place.width as u64;
     match at {
@@ -239,52 +252,39 @@ impl SearchCells {
 }
 
 impl Machine for SearchCells {
-    ghost use Rattle.nam_verbs.specs.Running.{next_verb, after_found, end_of, verbs_left, stands_until_end};
     ghost use Rattle.nam_overflow.specs.Search.{running};
+
+    type Word = Field;
+
+    type Place = CellPlace;
 
     type End = SearchEnd;
 
-    ghost next = { λ a. next_verb (running a) };
+    ghost running = { running };
 
-    ghost after = { λ a found. record a { state = (after_found (running a) found).state } };
+    fn state(&self) -> &Now<CellPlace, SearchEnd> {
+        &self.state
+    }
 
-    ghost ended = { λ a. end_of (running a) };
+    fn verb_from(&self, place: &CellPlace) -> Verb {
+        cell_verb(&self.cells, &self.place, place)
+    }
 
-    ghost rest = { λ a. verbs_left (running a) };
-
-    ghost reach = { λ a. (running a).reach };
-
-    ghost stands_until_end = { λ a. stands_until_end (running a) };
-
-    fn verb(&self) -> Option<Verb> {
-        match &self.state {
-            Now::At(at) => Some(cell_verb(&self.cells, &self.place, at)),
-            Now::Over(_) => None,
-        }
+    fn left_from(&self, place: &CellPlace) -> u64 {
+        cell_left(&self.cells, &self.place, place)
     }
 
     fn take(&mut self, found: u64) {
-        match replace(&mut self.state, Now::At(cell_begin())) {
-            Now::At(at) => {
-                self.state = cell_after(&self.cells, &self.place, &self.seen, at, found)
-            }
-            Now::Over(end) => self.state = Now::Over(end),
-        }
-    }
-
-    fn left(&self) -> u64 {
-        match &self.state {
-            Now::At(at) => cell_left(&self.cells, &self.place, at),
-            Now::Over(_) => 0,
-        }
+        self.state = match replace(&mut self.state, Now::At(cell_begin())) {
+            Now::At(place) => cell_after(&self.cells, &self.place, &self.seen, place, found),
+            Now::Over(end) => Now::Over(end),
+        };
     }
 
     fn end(&self) -> Option<SearchEnd> {
         match &self.state {
             Now::At(_) => None,
-            Now::Over(SearchEnd::Found(Some(value))) => Some(SearchEnd::Found(Some(value.copy()))),
-            Now::Over(SearchEnd::Found(None)) => Some(SearchEnd::Found(None)),
-            Now::Over(SearchEnd::NotThere) => Some(SearchEnd::NotThere),
+            Now::Over(end) => Some(copy(end)),
         }
     }
 }

@@ -1,44 +1,46 @@
 -- The bound on verbs of an attempt is the sum of those of its calls.
-use Rattle.std.proofs.Common.{◌≡◌, ℕ, ◌+◌, ◌*◌, List, [], ◌∷◌, ◌++◌, length, refl, sym, ◌∙◌, ap, subst, arith, inl, inr}
-use Rattle.std.proofs.Common.{Bool, true, false, not, Option, Some, None}
+use Rattle.std.proofs.Common.{◌≡◌, ℕ, ◌+◌, ◌*◌, List, [], ◌∷◌, ◌++◌, length, refl, sym, ◌∙◌, ap, subst, arith, inl}
+use Rattle.std.proofs.Common.{inr, Bool, true, false, not, Option, Some, None}
 use Rattle.std.specs.Prelude.{if◌then◌else◌, map, filter, slice_index}
 use Rattle.std.proofs.lemmas.Bool.{cases_Bool, false≢true}
-use Rattle.nam_verbs.specs.declared.now.Now.{Now}
-use Rattle.nam_verbs.specs.declared.now.Now.TheVariants.{At, Over}
 use Rattle.si_model.specs.declared.row.Key.{Key}
 use Rattle.si_model.specs.declared.row.Item.{Item}
 use Rattle.si_model.specs.declared.op.Op.{Op}
 use Rattle.si_model.specs.declared.op.Op.TheVariants.{Get, Put, Add, Del, Need, Guard, Scan}
 use Rattle.si_model.specs.Rows.{Rows, key_at, same_key, item_key, item_at, writes_key}
-use Rattle.si_model.specs.Evaluation.{field_of, with_field, changed, wrote, guarded, passes, writes_after, guards_after}
-use Rattle.si_model.specs.Evaluation.{unwritten, key_written, key_guarded, ops_write, keys_from, written_keys}
-use Rattle.si_model.specs.Evaluation.{guard_keys}
+use Rattle.si_model.specs.Evaluation.{field_of, with_field, changed, wrote, guarded, passes, writes_after}
+use Rattle.si_model.specs.Evaluation.{guards_after, unwritten, key_written, key_guarded, ops_write, keys_from}
+use Rattle.si_model.specs.Evaluation.{written_keys, guard_keys}
 use Rattle.si_model.specs.EvaluationLaws.{writes_from}
 use Rattle.si_model.proofs.EvaluationLemmas.{same_key_says, map-writes_from, writes_key-writes_from}
+use Rattle.nam_verbs.specs.declared.now.Now.{Now}
+use Rattle.nam_verbs.specs.declared.now.Now.TheVariants.{At, Over}
+use Rattle.nam_verbs.proofs.TestLemmas.{by_test}
 use Rattle.nam_catalog.specs.declared.shape.Shape.{Shape}
 use Rattle.nam_catalog.specs.Tables.{widths_of}
 use Rattle.nam_calls.specs.declared.index.FindEnd.{FindEnd}
-use Rattle.nam_calls.specs.declared.index.FindEnd.TheVariants as found_key
 use Rattle.nam_calls.specs.declared.index.ClaimKeyPlace.{ClaimKeyPlace}
 use Rattle.nam_calls.specs.declared.index.ClaimKeyEnd.{ClaimKeyEnd}
-use Rattle.nam_calls.specs.declared.index.ClaimKeyEnd.TheVariants as claimed_key
 use Rattle.nam_calls.specs.declared.reading.ReadPlace.{ReadPlace}
 use Rattle.nam_calls.specs.declared.reading.ReadingEnd.{ReadingEnd}
+use Rattle.nam_calls.specs.Index.{find_begin, claim_key_begin, find_after, claim_key_after}
+use Rattle.nam_calls.specs.Reading.{sight_of, read_after}
+use Rattle.nam_calls.proofs.FallsTests.{either}
+use Rattle.nam_calls.specs.declared.index.FindEnd.TheVariants as found_key
+use Rattle.nam_calls.specs.declared.index.ClaimKeyEnd.TheVariants as claimed_key
 use Rattle.nam_calls.specs.declared.reading.ReadingEnd.TheVariants as read_end
 use Rattle.nam_protocol.specs.declared.txn.TxnState.{TxnState}
 use Rattle.nam_protocol.specs.declared.txn.TxnPlace.{TxnPlace}
 use Rattle.nam_protocol.specs.declared.txn.TxnPlace.TheVariants.{Finding, Reading, Claiming, Committing}
 use Rattle.nam_protocol.specs.declared.txn.TxnAnswer.TheVariants.{Declined}
-use Rattle.nam_calls.specs.Index.{find_begin, claim_key_begin, find_after, claim_key_after}
-use Rattle.nam_calls.specs.Reading.{sight_of, read_after}
 use Rattle.nam_protocol.specs.Operations.{key_of, reads, claims, holding, own_value, read_of, value_in, answer_of}
+use Rattle.nam_protocol.specs.Operations.{op_path}
 use Rattle.nam_protocol.specs.Txn.{at, answered, with_op, with_own, ask_op, valued, on_find, on_read, record_of}
 use Rattle.nam_protocol.specs.Txn.{with_claim, on_claim}
 use Rattle.nam_protocol.specs.TxnCalls.{txn_after}
 use Rattle.nam_protocol.specs.Bound.{ops_bound, writes_bound, verb_bound}
 use Rattle.nam_protocol.specs.TxnFits.{commit_bound}
 use Rattle.nam_protocol.specs.AttemptLaw.{KeysAsked, HasAsked, has_passed, AnswerAsks, Asks, IsOfOp}
-use Rattle.nam_calls.proofs.FallsTests.{either, by_test}
 
 -- 1. Keys
 
@@ -205,12 +207,12 @@ module _ (shape : Shape) where
       → Asks ops op (txn_after shape state place found)
   take_asks state ops op (Finding o passed) found asked e =
       subst (λ p. Asks ops p (txn_after shape state (Finding o passed) found)) e
-      (on_find_asks state ops o asked (find_after shape (key_of o).table (key_of o).key passed found))
+      (on_find_asks state ops o asked (find_after (op_path shape o) passed found))
   take_asks state ops op (Reading o position at) found asked e =
       subst (λ p. Asks ops p (txn_after shape state (Reading o position at) found)) e
       (on_read_asks state ops o asked position
       (read_after (sight_of shape (key_of o).table position) state.seen at found))
   take_asks state ops op (Claiming o at) found asked e =
       subst (λ p. Asks ops p (txn_after shape state (Claiming o at) found)) e
-      (on_claim_asks state ops o asked (claim_key_after shape (key_of o).table (key_of o).key at found))
+      (on_claim_asks state ops o asked (claim_key_after (op_path shape o) at found))
   take_asks state ops op (Committing at) found asked e = absurd e

@@ -7,14 +7,18 @@ use Rattle.std.proofs.lemmas.Bool.Decides.{nat_tests}
 use Rattle.std.proofs.lemmas.List.{length-map}
 use Rattle.si_model.specs.declared.row.Key.{Key}
 use Rattle.si_model.specs.declared.row.Item.{Item}
-use Rattle.si_model.specs.declared.op.Op.TheVariants as op
 use Rattle.si_model.specs.Rows.{same_key, item_key}
 use Rattle.si_model.specs.Evaluation.{unwritten}
 use Rattle.si_model.proofs.EvaluationLemmas.{same_key_says}
+use Rattle.si_model.specs.declared.op.Op.TheVariants as op
+use Rattle.nam_verbs.proofs.TestLemmas.{by_test}
 use Rattle.nam_catalog.specs.declared.shape.Shape.{Shape}
 use Rattle.nam_catalog.specs.Fits.{FitsLimits}
 use Rattle.nam_catalog.specs.Greatest.{greatest_number}
 use Rattle.nam_layout.specs.declared.field.Place.{Place}
+use Rattle.nam_calls.specs.Words.{width_of}
+use Rattle.nam_calls.specs.Lock.{lock_begin}
+use Rattle.nam_calls.proofs.FallsTables.{width_is}
 use Rattle.nam_protocol.specs.declared.txn.Record.{Record}
 use Rattle.nam_protocol.specs.declared.txn.TxnState.{TxnState}
 use Rattle.nam_protocol.specs.declared.txn.TxnCall.{TxnCall}
@@ -22,16 +26,12 @@ use Rattle.nam_protocol.specs.declared.txn.TxnCall.TheVariants.{Get, Put, Add, D
 use Rattle.nam_protocol.specs.declared.txn.TxnPlace.TheVariants.{Committing}
 use Rattle.nam_protocol.specs.declared.txn.CommitPlace.TheVariants.{Locking}
 use Rattle.nam_protocol.specs.declared.txn.TxnAnswer.TheVariants.{ReadOnly, Spent}
-use Rattle.nam_calls.specs.Words.{width_of}
-use Rattle.nam_calls.specs.Lock.{lock_begin}
 use Rattle.nam_protocol.specs.Txn.{at, answered}
 use Rattle.nam_protocol.specs.Commit.{record_in, records_of, ask_commit}
 use Rattle.nam_protocol.specs.TxnCalls.{txn_ask}
 use Rattle.nam_protocol.specs.Bound.{installs_most, writes_bound, commit_left}
 use Rattle.nam_protocol.specs.TxnFits.{is_claimed, IsPlaced, StateFits, TxnCallFits, TxnBegins, commit_bound}
 use Rattle.nam_protocol.specs.TxnFits.{txn_call_bound}
-use Rattle.nam_calls.proofs.FallsTests.{by_test}
-use Rattle.nam_calls.proofs.FallsTables.{width_is}
 use Rattle.nam_protocol.proofs.FallsKeys.{record_placed, records_length}
 use Rattle.nam_protocol.proofs.FallsTxn.{op_begins}
 

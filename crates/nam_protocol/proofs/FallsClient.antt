@@ -1,36 +1,45 @@
 -- The verbs to come fall in each call of a client, and how many a call begins with.
-use Rattle.std.proofs.Common.{◌≡◌, ℕ, ◌+◌, ◌-◌, ◌<◌, ◌≤◌, List, [], ◌∷◌, ◌++◌, length, length-append, refl, sym, ◌∙◌}
-use Rattle.std.proofs.Common.{ap, subst, arith, Bool, true, false, Option, Some, None}
+use Rattle.std.proofs.Common.{◌≡◌, ℕ, ◌+◌, ◌-◌, ◌<◌, ◌≤◌, List, length, refl, sym, ◌∙◌, ap, subst, arith, Bool, true}
+use Rattle.std.proofs.Common.{false, Option, Some, None}
 use Rattle.std.specs.Prelude.{◌==◌, if◌then◌else◌, slice_index, IsSome}
+use Rattle.si_model.specs.Rows.{key_at, writes_key}
 use Rattle.nam_verbs.specs.declared.now.Now.{Now}
 use Rattle.nam_verbs.specs.declared.now.Now.TheVariants.{At, Over}
-use Rattle.si_model.specs.Rows.{key_at, writes_key}
+use Rattle.nam_verbs.specs.Falls.{Falls, Any}
 use Rattle.nam_catalog.specs.declared.shape.Shape.{Shape}
 use Rattle.nam_catalog.specs.Fits.{FitsLimits}
-use Rattle.nam_layout.specs.Place.{place_of, cells_of, bucket_of}
+use Rattle.nam_layout.specs.Place.{place_of, cells_of, bucket_of, cells_by}
 use Rattle.nam_layout.proofs.LimitLemmas.{cells_within_limits}
 use Rattle.nam_vector.specs.declared.snap.SnapPlace.{SnapPlace}
 use Rattle.nam_vector.specs.declared.snap.SnapPlace.TheVariants.{First, Second}
 use Rattle.nam_vector.specs.declared.snap.SnapEnd.{SnapEnd}
+use Rattle.nam_vector.specs.Snap.{snap_after, snap_left, SnapFits}
 use Rattle.nam_vector.specs.declared.snap.SnapEnd.TheVariants as snap_end
-use Rattle.nam_vector.specs.SnapPlace as snap
 use Rattle.nam_calls.specs.declared.index.FindEnd.{FindEnd}
-use Rattle.nam_calls.specs.declared.index.FindEnd.TheVariants as found_key
 use Rattle.nam_calls.specs.declared.horizon.CollectPlace.{CollectPlace}
 use Rattle.nam_calls.specs.declared.mover.MovePlace.{MovePlace}
 use Rattle.nam_calls.specs.declared.mover.MoveAnswer.{MoveAnswer}
+use Rattle.nam_calls.specs.Words.{capacity_of, path_of}
+use Rattle.nam_calls.specs.Mover.{move_left}
+use Rattle.nam_calls.specs.Horizon.{collect_left}
+use Rattle.nam_calls.specs.Left.{move_most, collect_most}
+use Rattle.nam_calls.specs.Fits.{IsOf, MoveFits, CollectFits, CollectEnds, IsTableOf}
+use Rattle.nam_calls.proofs.FallsTests.{either, or_last, one_more}
+use Rattle.nam_calls.proofs.FallsMachines.{FindFalls, find_falls}
+use Rattle.nam_calls.proofs.FallsCells.{move_falls}
+use Rattle.nam_calls.proofs.FallsRead.{collect_falls}
+use Rattle.nam_calls.proofs.FallsTables.{has_capacity, place_fits, width_is, bucket_within}
+use Rattle.nam_calls.specs.declared.index.FindEnd.TheVariants as found_key
 use Rattle.nam_calls.specs.declared.mover.MoveAnswer.TheVariants as move_end
 use Rattle.nam_protocol.specs.declared.txn.TxnState.{TxnState}
 use Rattle.nam_protocol.specs.declared.txn.TxnPlace.{TxnPlace}
 use Rattle.nam_protocol.specs.declared.txn.TxnCall.{TxnCall}
 use Rattle.nam_protocol.specs.declared.txn.TxnCall.TheVariants.{Get, Put, Add, Del, Need, Guard, Commit}
 use Rattle.nam_protocol.specs.declared.txn.TxnAnswer.{TxnAnswer}
-use Rattle.nam_protocol.specs.declared.txn.TxnAnswer.TheVariants as txn_answer
 use Rattle.nam_protocol.specs.Txn.{Stepped}
 use Rattle.nam_protocol.specs.declared.scan.ScanPlace.{ScanPlace}
 use Rattle.nam_protocol.specs.declared.scan.ScanPlace.TheVariants.{ScanKey, ScanRead}
 use Rattle.nam_protocol.specs.declared.scan.ScanAnswer.{ScanAnswer}
-use Rattle.nam_protocol.specs.declared.scan.ScanAnswer.TheVariants as scan_answer
 use Rattle.nam_protocol.specs.declared.client.Call.{Call}
 use Rattle.nam_protocol.specs.declared.client.Call.TheVariants.{Begin, Txn, Scan, Tidy, Collect}
 use Rattle.nam_protocol.specs.declared.client.Answer.{Answer}
@@ -39,9 +48,6 @@ use Rattle.nam_protocol.specs.declared.client.CallPlace.TheVariants.{Beginning, 
 use Rattle.nam_protocol.specs.declared.client.CallPlace.TheVariants.{Snapping, Collecting}
 use Rattle.nam_protocol.specs.declared.client.Open.{Open}
 use Rattle.nam_protocol.specs.declared.client.ClientState.{ClientState}
-use Rattle.nam_calls.specs.Words.{capacity_of, cells_by}
-use Rattle.nam_calls.specs.Mover.{move_left}
-use Rattle.nam_calls.specs.Horizon.{collect_left}
 use Rattle.nam_protocol.specs.Operations.{own_value}
 use Rattle.nam_protocol.specs.TxnCalls.{txn_ask, txn_after, taken_at, taken_now}
 use Rattle.nam_protocol.specs.Log.{with_locks}
@@ -51,20 +57,16 @@ use Rattle.nam_protocol.specs.Client.{on_collect, take_txn, take_scan, call_afte
 use Rattle.nam_protocol.specs.Telling.{new_locks, on_answer, on_call, stepped}
 use Rattle.nam_protocol.specs.ScanCall.{gathered, on_skip, on_scan}
 use Rattle.nam_protocol.specs.Left.{open_left, call_left, left_of, client_left}
-use Rattle.nam_calls.specs.Left.{move_most, collect_most}
 use Rattle.nam_protocol.specs.Bound.{txn_left, scan_bound}
-use Rattle.nam_calls.specs.Fits.{Falls, Any, IsOf, MoveFits, CollectFits, CollectEnds, IsTableOf}
-use Rattle.nam_protocol.specs.TxnFits.{Begins, StateFits, TxnPlaceFits, TxnFalls, TxnCallFits, ScanFits, txn_call_bound}
+use Rattle.nam_protocol.specs.TxnFits.{Begins, StateFits, TxnPlaceFits, TxnFalls, TxnCallFits, ScanFits}
+use Rattle.nam_protocol.specs.TxnFits.{txn_call_bound}
 use Rattle.nam_protocol.specs.ClientFits.{OpenFits, OpenPlaceFits, CallPlaceFits, NowFits, ClientFits, CallFits}
 use Rattle.nam_protocol.specs.ClientFits.{call_bound, open_bound}
-use Rattle.nam_calls.proofs.FallsTests.{either, or_last}
-use Rattle.nam_calls.proofs.FallsMachines.{FindFalls, find_falls}
-use Rattle.nam_calls.proofs.FallsCells.{move_falls}
-use Rattle.nam_calls.proofs.FallsRead.{collect_falls}
-use Rattle.nam_calls.proofs.FallsTables.{has_capacity, place_fits, width_is, bucket_within}
 use Rattle.nam_protocol.proofs.FallsTxn.{txn_falls}
 use Rattle.nam_protocol.proofs.FallsBegins.{txn_begins}
 use Rattle.nam_protocol.proofs.FallsScan.{ScanFalls, scan_skip_falls, scan_read_falls, scan_falls, scan_begins}
+use Rattle.nam_protocol.specs.declared.txn.TxnAnswer.TheVariants as txn_answer
+use Rattle.nam_protocol.specs.declared.scan.ScanAnswer.TheVariants as scan_answer
 
 -- 1. A snapshot
 
@@ -74,15 +76,14 @@ module _ (workers : ℕ) (least : 1 ≤ workers) where
   SnapEnds (snap_end.Again worker first second) = Unit {0}
 
   abbrev SnapFalls : ℕ → Now SnapPlace SnapEnd → Type 0
-  SnapFalls = Falls (snap.SnapFits workers) SnapEnds (snap.left_at workers)
+  SnapFalls = Falls (SnapFits workers) SnapEnds (snap_left workers)
 
-  snap_falls : (at : SnapPlace) (found : ℕ) → snap.SnapFits workers at
-      → SnapFalls (snap.left_at workers at) (snap.after_word workers at found)
+  snap_falls : (at : SnapPlace) (found : ℕ) → SnapFits workers at
+      → SnapFalls (snap_left workers at) (snap_after workers at found)
   snap_falls (First got) found l =
-      let long : length (got ++ found ∷ []) ≡ length got + 1 = length-append got (found ∷ []) in
-      or_last (SnapFalls (snap.left_at workers (First got))) workers (length got) (At (Second (got ++ found ∷ []) 0))
-      (At (First (got ++ found ∷ []))) l
-      (λ e. ((omega arith, least), omega arith)) (λ e. (omega arith, omega arith))
+      one_more (λ place. SnapFalls (snap_left workers (First got)) (At place)) workers got found First
+      (λ seen. Second seen 0) l
+      (λ e m. (m, omega arith)) (λ e m. ((m, least), omega arith))
   snap_falls (Second seen at) found l =
       either (SnapFalls (workers - at)) (found == slice_index seen at)
       (if at + 1 == workers then Over (snap_end.Done seen) else At (Second seen (at + 1)))
@@ -229,7 +230,8 @@ module _ (shape : Shape) (limits : FitsLimits shape) where
         (w, record { worker_is = w; placed = tt; written = tt; guarded = tt; wide = tt }, (tt, h.1))
     on_begin_falls txn nth n (Over (snap_end.Again worker first second)) h = (w, f, (tt, h.1))
 
-    on_seek_falls : (table key n : ℕ) (now : Now ℕ FindEnd) → IsTableOf shape table → FindFalls shape table key n now
+    on_seek_falls : (table key n : ℕ) (now : Now ℕ FindEnd) → IsTableOf shape table
+        → FindFalls (path_of shape table key) n now
         → ClientFalls (n + move_most shape table) (on_seek shape client table key now)
     on_seek_falls table key n (At passed) is h = (w, f, ((is, h.0), let m = h.1 in omega arith))
     on_seek_falls table key n (Over (found_key.At position)) is h =
@@ -275,7 +277,7 @@ module _ (shape : Shape) (limits : FitsLimits shape) where
   call_falls client (Scanning table low high at) found w f p =
       take_scan_falls client table low high at client.txn found (w, f, p.0) (w, f, p.0) p.1 p.2
   call_falls client (Seeking table key passed) found w f p =
-      on_seek_falls client w f table key _ _ p.0 (find_falls shape table key passed found p.1)
+      on_seek_falls client w f table key _ _ p.0 (find_falls (path_of shape table key) passed found p.1)
   call_falls client (Moving table key position at) found w f p = move_goes client w f table key position _ _ p.0 p.1
       (move_falls (place_of shape table position) (cells_by shape (place_of shape table position))
       (place_fits shape limits table position p.0 p.1)

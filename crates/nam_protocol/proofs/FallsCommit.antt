@@ -4,9 +4,10 @@ use Rattle.std.proofs.Common.{length-append, refl, sym, ◌∙◌, ap, subst, ar
 use Rattle.std.specs.Prelude.{◌==◌}
 use Rattle.std.proofs.lemmas.Bool.Decides.{nat_tests}
 use Rattle.std.proofs.lemmas.List.{length-take}
+use Rattle.si_model.specs.declared.log.Lock.{Lock}
 use Rattle.nam_verbs.specs.declared.now.Now.{Now}
 use Rattle.nam_verbs.specs.declared.now.Now.TheVariants.{At, Over}
-use Rattle.si_model.specs.declared.log.Lock.{Lock}
+use Rattle.nam_verbs.proofs.TestLemmas.{by_test}
 use Rattle.nam_catalog.specs.declared.shape.Shape.{Shape}
 use Rattle.nam_catalog.specs.Fits.{FitsLimits}
 use Rattle.nam_layout.specs.declared.field.Place.{Place}
@@ -19,6 +20,13 @@ use Rattle.nam_calls.specs.declared.ring.SlotEnd.TheVariants.{Free, NotMoved}
 use Rattle.nam_calls.specs.declared.ring.CopyPlace.{CopyPlace}
 use Rattle.nam_calls.specs.declared.lock.LockPlace.{LockPlace}
 use Rattle.nam_calls.specs.declared.lock.LockEnd.{LockEnd}
+use Rattle.nam_calls.specs.Record.{words_begin, install_begin}
+use Rattle.nam_calls.specs.Ring.{slot_begin, copy_begin}
+use Rattle.nam_calls.specs.Lock.{nth_place}
+use Rattle.nam_calls.specs.Fits.{LockFits}
+use Rattle.nam_calls.proofs.FallsMachines.{WordsFall, words_fall, InstallFalls, install_falls, SlotFalls, slot_falls}
+use Rattle.nam_calls.proofs.FallsMachines.{CopyFalls, copy_falls}
+use Rattle.nam_calls.proofs.FallsLocks.{LockFalls, lock_falls, UnlockFalls, unlock_falls}
 use Rattle.nam_calls.specs.declared.lock.LockEnd.TheVariants as lock_end
 use Rattle.nam_protocol.specs.declared.txn.TxnState.{TxnState}
 use Rattle.nam_protocol.specs.declared.txn.CommitPlace.{CommitPlace}
@@ -26,19 +34,11 @@ use Rattle.nam_protocol.specs.declared.txn.CommitPlace.TheVariants.{Locking, Che
 use Rattle.nam_protocol.specs.declared.txn.CommitPlace.TheVariants.{Installing, Publishing, Freeing}
 use Rattle.nam_protocol.specs.declared.txn.TxnAnswer.{TxnAnswer}
 use Rattle.nam_protocol.specs.declared.txn.TxnAnswer.TheVariants.{Committed, Locked, Newer, Full}
-use Rattle.nam_calls.specs.Record.{words_begin, install_begin}
-use Rattle.nam_calls.specs.Ring.{slot_begin, copy_begin}
-use Rattle.nam_calls.specs.Lock.{nth_place}
 use Rattle.nam_protocol.specs.Txn.{answered}
-use Rattle.nam_protocol.specs.Commit.{records_of, lock_at, places, place_at, value_at, go, on_lock, next_check, on_slot}
-use Rattle.nam_protocol.specs.Commit.{on_return, on_words, on_copy, on_install, next_free, commit_after}
+use Rattle.nam_protocol.specs.Commit.{records_of, lock_at, places, record_place, value_at, go, on_lock, next_check}
+use Rattle.nam_protocol.specs.Commit.{on_slot, on_return, on_words, on_copy, on_install, next_free, commit_after}
 use Rattle.nam_protocol.specs.Bound.{installs_most, publish_most, rest_from, commit_left}
-use Rattle.nam_calls.specs.Fits.{LockFits}
 use Rattle.nam_protocol.specs.TxnFits.{StateFits, CommitPlaceFits, CommitFits, TxnFalls}
-use Rattle.nam_calls.proofs.FallsTests.{by_test}
-use Rattle.nam_calls.proofs.FallsMachines.{WordsFall, words_fall, InstallFalls, install_falls, SlotFalls, slot_falls}
-use Rattle.nam_calls.proofs.FallsMachines.{CopyFalls, copy_falls}
-use Rattle.nam_calls.proofs.FallsLocks.{LockFalls, lock_falls, UnlockFalls, unlock_falls}
 use Rattle.nam_protocol.proofs.FallsKeys.{places_length, writes_within, nth_fits}
 
 -- 1. What copies and installs take
@@ -91,7 +91,7 @@ module _ (shape : Shape) (limits : FitsLimits shape) (state : TxnState) (fits : 
 
   -- the nth written record is copied and installed before the others
   rest_is : (nth : ℕ) → nth < writes
-      → rest_from state nth ≡ 3 * (place_at state nth).width + 5 + rest_from state (nth + 1)
+      → rest_from state nth ≡ 3 * (record_place state nth).width + 5 + rest_from state (nth + 1)
   rest_is nth l =
       let t = taken_length in
       let one = one_install (take writes (places state)) nth (omega arith) in
@@ -104,7 +104,7 @@ module _ (shape : Shape) (limits : FitsLimits shape) (state : TxnState) (fits : 
   rest_least = let t = taken_length in let l = installs_least (take writes (places state)) in omega arith
 
   -- the nth written record's place
-  nth_is : (nth : ℕ) → nth < writes → FitsPlace (place_at state nth)
+  nth_is : (nth : ℕ) → nth < writes → FitsPlace (record_place state nth)
   nth_is nth l = let w = within in nth_fits shape state fits are limits nth (omega arith)
 
   -- 3. Each step
@@ -139,8 +139,9 @@ module _ (shape : Shape) (limits : FitsLimits shape) (state : TxnState) (fits : 
 
   on_words_falls : (nth n : ℕ) (now : Now (List ℕ) (List ℕ)) → length state.held ≡ records
       → length state.counts ≡ writes → (l : nth < writes)
-      → WordsFall (place_at state nth) (nth_is nth l) n now
-      → TxnFalls shape (n + (2 * (place_at state nth).width + 5) + rest_from state (nth + 1)) (on_words state nth now)
+      → WordsFall (record_place state nth) (nth_is nth l) n now
+      → TxnFalls shape (n + (2 * (record_place state nth).width + 5) + rest_from state (nth + 1))
+      (on_words state nth now)
   on_words_falls nth n (At got) held counts l h =
       goes shape state _ (Saving nth got) fits are some (held, counts, l, h.0) (let m = h.1 in omega arith)
   on_words_falls nth n (Over old) held counts l h =
@@ -149,7 +150,7 @@ module _ (shape : Shape) (limits : FitsLimits shape) (state : TxnState) (fits : 
 
   install_begins : (nth n : ℕ) (value : Option (List ℕ)) → length state.held ≡ records → length state.counts ≡ writes
       → nth < writes
-      → (place_at state nth).width + 2 + rest_from state (nth + 1) < n
+      → (record_place state nth).width + 2 + rest_from state (nth + 1) < n
       → TxnFalls shape n (go state (Installing nth (install_begin value)))
   install_begins nth n None held counts l m =
       goes shape state n (Installing nth InstallCount) fits are some (held, counts, l, tt) (omega arith)
@@ -160,8 +161,9 @@ module _ (shape : Shape) (limits : FitsLimits shape) (state : TxnState) (fits : 
   on_copy_falls : (nth n : ℕ) (old : List ℕ) (now : Now CopyPlace (Unit {0})) → length state.held ≡ records
       → length state.counts ≡ writes
       → (l : nth < writes)
-      → length old ≡ (place_at state nth).width → CopyFalls (place_at state nth) (nth_is nth l) n now
-      → TxnFalls shape (n + ((place_at state nth).width + 2) + rest_from state (nth + 1)) (on_copy state nth old now)
+      → length old ≡ (record_place state nth).width → CopyFalls (record_place state nth) (nth_is nth l) n now
+      → TxnFalls shape (n + ((record_place state nth).width + 2) + rest_from state (nth + 1))
+      (on_copy state nth old now)
   on_copy_falls nth n old (At place) held counts l wide h =
       goes shape state _ (Copying nth old place) fits are some (held, counts, l, wide, h.0) (let m = h.1 in omega arith)
   on_copy_falls nth n old (Over done) held counts l wide h =
@@ -173,7 +175,7 @@ module _ (shape : Shape) (limits : FitsLimits shape) (state : TxnState) (fits : 
 
   on_install_falls : (nth n : ℕ) (now : Now InstallPlace (Unit {0})) → length state.held ≡ records
       → length state.counts ≡ writes → (l : nth < writes)
-      → InstallFalls (place_at state nth) (nth_is nth l) n now
+      → InstallFalls (record_place state nth) (nth_is nth l) n now
       → TxnFalls shape (n + rest_from state (nth + 1)) (on_install state nth now)
   on_install_falls nth n (At place) held counts l h =
       goes shape state _ (Installing nth place) fits are some (held, counts, l, h.0) (let m = h.1 in omega arith)
@@ -253,20 +255,20 @@ module _ (shape : Shape) (limits : FitsLimits shape) (state : TxnState) (fits : 
   commit_falls (Checking at) found c =
       let is = nth_is shape limits state fits c.0 c.1 (length state.counts) c.2.1 in
       on_slot_falls shape limits state fits c.0 c.1 _ is _ _ c.2.0 c.2.1
-      (slot_falls (place_at state (length state.counts)) is at found)
+      (slot_falls (record_place state (length state.counts)) is at found)
   commit_falls (Returning given full) found c =
       let e = as_many shape limits state fits c.0 c.1 in
       on_return_falls shape limits state fits c.0 c.1 full _ _ c.2.0
       (unlock_falls (places state) given (let l = c.2.1 in omega arith))
   commit_falls (Saving nth got) found c =
       on_words_falls shape limits state fits c.0 c.1 nth _ _ c.2.0 c.2.1 c.2.2
-      (words_fall (place_at state nth) (nth_is shape limits state fits c.0 c.1 nth c.2.2) got found c.2.3)
+      (words_fall (record_place state nth) (nth_is shape limits state fits c.0 c.1 nth c.2.2) got found c.2.3)
   commit_falls (Copying nth old at) found c =
       on_copy_falls shape limits state fits c.0 c.1 nth _ old _ c.2.0 c.2.1 c.2.2 c.2.3
-      (copy_falls (place_at state nth) (nth_is shape limits state fits c.0 c.1 nth c.2.2) at c.2.4)
+      (copy_falls (record_place state nth) (nth_is shape limits state fits c.0 c.1 nth c.2.2) at c.2.4)
   commit_falls (Installing nth at) found c =
       on_install_falls shape limits state fits c.0 c.1 nth _ _ c.2.0 c.2.1 c.2.2
-      (install_falls (place_at state nth) (nth_is shape limits state fits c.0 c.1 nth c.2.2) at c.2.3)
+      (install_falls (record_place state nth) (nth_is shape limits state fits c.0 c.1 nth c.2.2) at c.2.3)
   commit_falls Publishing found c =
       let w = within shape limits state fits c.0 c.1 in
       next_free_falls shape limits state fits c.0 c.1 (length state.writes) _ c.2.0 c.2.1 (omega arith) w (omega arith)

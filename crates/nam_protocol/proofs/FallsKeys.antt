@@ -15,21 +15,23 @@ use Rattle.si_model.specs.Evaluation.{unwritten}
 use Rattle.si_model.specs.EvaluationLaws.{IsWide}
 use Rattle.si_model.proofs.EvaluationLemmas.{same_key-refl, same_key_says}
 use Rattle.si_model.proofs.ListLemmas.{All-append, All-map}
+use Rattle.nam_verbs.proofs.TestLemmas.{by_test}
 use Rattle.nam_catalog.specs.declared.shape.Table.{Table}
 use Rattle.nam_catalog.specs.declared.shape.Shape.{Shape}
 use Rattle.nam_catalog.specs.Fits.{FitsLimits}
 use Rattle.nam_catalog.specs.Tables.{widths_of}
 use Rattle.nam_layout.specs.PlaceFits.{FitsPlace}
+use Rattle.nam_layout.specs.Place.{no_place}
+use Rattle.nam_calls.specs.Words.{width_of}
+use Rattle.nam_calls.specs.Fits.{HasWidth, IsTableOf}
+use Rattle.nam_calls.proofs.FallsTests.{either}
+use Rattle.nam_calls.proofs.FallsTables.{place_fits}
 use Rattle.nam_protocol.specs.declared.txn.Record.{Record}
 use Rattle.nam_protocol.specs.declared.txn.TxnState.{TxnState}
-use Rattle.nam_calls.specs.Words.{no_place, width_of}
 use Rattle.nam_protocol.specs.Operations.{key_of, holding, own_value}
 use Rattle.nam_protocol.specs.Txn.{with_claim}
-use Rattle.nam_protocol.specs.Commit.{record_in, commit_keys, records_of, places, place_at, no_record, record_at}
-use Rattle.nam_calls.specs.Fits.{HasWidth, IsTableOf}
+use Rattle.nam_protocol.specs.Commit.{record_in, commit_keys, records_of, places, record_place, no_record, record_at}
 use Rattle.nam_protocol.specs.TxnFits.{is_claimed, IsPlaced, KeysFit, StateFits, OpStands}
-use Rattle.nam_calls.proofs.FallsTests.{by_test, either}
-use Rattle.nam_calls.proofs.FallsTables.{place_fits}
 
 -- 1. Lists
 
@@ -244,7 +246,7 @@ module _ (shape : Shape) where
           all_at (IsPlaced shape) no_record state.records nth
           (subst (AllByRecursion (IsPlaced shape)) (sym are) records_placed) l
 
-      pub nth_fits : FitsLimits shape → (nth : ℕ) → nth < length state.records → FitsPlace (place_at state nth)
+      pub nth_fits : FitsLimits shape → (nth : ℕ) → nth < length state.records → FitsPlace (record_place state nth)
       nth_fits limits nth l =
           let p = record_is_placed nth l in
           subst FitsPlace (sym (place_of_nth state.records nth ∙ p.2))

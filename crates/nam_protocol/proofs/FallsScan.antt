@@ -3,25 +3,26 @@ use Rattle.std.proofs.Common.{◌≡◌, ℕ, suc, ◌+◌, ◌-◌, ◌*◌, �
 use Rattle.std.proofs.Math.Nat.{suc-mul}
 use Rattle.nam_verbs.specs.declared.now.Now.{Now}
 use Rattle.nam_verbs.specs.declared.now.Now.TheVariants.{At, Over}
+use Rattle.nam_verbs.specs.Falls.{FallsTo}
 use Rattle.nam_catalog.specs.declared.shape.Shape.{Shape}
 use Rattle.nam_catalog.specs.Fits.{FitsLimits}
 use Rattle.nam_calls.specs.declared.reading.ReadPlace.{ReadPlace}
 use Rattle.nam_calls.specs.declared.reading.ReadingEnd.{ReadingEnd}
+use Rattle.nam_calls.specs.Words.{capacity_of}
+use Rattle.nam_calls.specs.Reading.{sight_of, read_begin, read_most}
+use Rattle.nam_calls.specs.Fits.{HasWidth, IsTableOf}
+use Rattle.nam_calls.proofs.FallsTests.{either, or_last}
+use Rattle.nam_calls.proofs.FallsRead.{ReadFalls, read_falls}
+use Rattle.nam_calls.proofs.FallsTables.{has_capacity, width_is, sight_fits, read_figure}
 use Rattle.nam_calls.specs.declared.reading.ReadingEnd.TheVariants as read_end
 use Rattle.nam_protocol.specs.declared.scan.ScanPlace.{ScanPlace}
 use Rattle.nam_protocol.specs.declared.scan.ScanPlace.TheVariants.{ScanKey, ScanRead}
 use Rattle.nam_protocol.specs.declared.scan.ScanAnswer.{ScanAnswer}
 use Rattle.nam_protocol.specs.declared.scan.ScanAnswer.TheVariants.{Key, Done}
-use Rattle.nam_calls.specs.Words.{capacity_of}
-use Rattle.nam_calls.specs.Reading.{sight_of, read_begin, read_most}
 use Rattle.nam_protocol.specs.Scan.{in_range, scan_begin, scan_skip, scan_read, on_scan_read, scan_after, position_of}
 use Rattle.nam_protocol.specs.Scan.{positions_left, scan_left}
 use Rattle.nam_protocol.specs.Bound.{scan_bound}
-use Rattle.nam_calls.specs.Fits.{FallsTo, HasWidth, IsTableOf}
 use Rattle.nam_protocol.specs.TxnFits.{ScanFits, ScanEnds, after_scan}
-use Rattle.nam_calls.proofs.FallsTests.{either, or_last}
-use Rattle.nam_calls.proofs.FallsRead.{ReadFalls, read_falls}
-use Rattle.nam_calls.proofs.FallsTables.{has_capacity, width_is, sight_fits, read_figure}
 
 -- the verbs of this position, and of those after it
 first_row : (r k m q : ℕ) → r ≡ suc m → m ≡ q → q * k + k ≡ r * k

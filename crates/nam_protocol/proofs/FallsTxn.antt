@@ -1,42 +1,44 @@
 -- The verbs to come fall in each call of a transaction, and how many a call begins with.
-use Rattle.std.proofs.Common.{◌≡◌, ℕ, ◌+◌, ◌*◌, ◌<◌, ◌≤◌, List, refl, sym, subst, arith, Bool, true, false, not, Option}
-use Rattle.std.proofs.Common.{None}
+use Rattle.std.proofs.Common.{◌≡◌, ℕ, ◌+◌, ◌*◌, ◌<◌, ◌≤◌, List, refl, sym, subst, arith, Bool, true, false, not}
+use Rattle.std.proofs.Common.{Option, None}
 use Rattle.std.specs.Prelude.{if◌then◌else◌}
 use Rattle.std.proofs.lemmas.Bool.{false≢true}
-use Rattle.nam_verbs.specs.declared.now.Now.{Now}
-use Rattle.nam_verbs.specs.declared.now.Now.TheVariants.{At, Over}
 use Rattle.si_model.specs.declared.op.Op.{Op}
-use Rattle.si_model.specs.declared.op.Op.TheVariants as op
 use Rattle.si_model.specs.Rows.{writes_key}
 use Rattle.si_model.specs.Evaluation.{passes}
+use Rattle.si_model.specs.declared.op.Op.TheVariants as op
+use Rattle.nam_verbs.specs.declared.now.Now.{Now}
+use Rattle.nam_verbs.specs.declared.now.Now.TheVariants.{At, Over}
+use Rattle.nam_verbs.proofs.TestLemmas.{by_test}
 use Rattle.nam_catalog.specs.declared.shape.Shape.{Shape}
 use Rattle.nam_catalog.specs.Fits.{FitsLimits}
 use Rattle.nam_calls.specs.declared.index.FindEnd.{FindEnd}
-use Rattle.nam_calls.specs.declared.index.FindEnd.TheVariants as found_key
 use Rattle.nam_calls.specs.declared.index.ClaimKeyPlace.{ClaimKeyPlace}
 use Rattle.nam_calls.specs.declared.index.ClaimKeyEnd.{ClaimKeyEnd}
-use Rattle.nam_calls.specs.declared.index.ClaimKeyEnd.TheVariants as claimed_key
 use Rattle.nam_calls.specs.declared.reading.ReadPlace.{ReadPlace}
 use Rattle.nam_calls.specs.declared.reading.ReadingEnd.{ReadingEnd}
+use Rattle.nam_calls.specs.Words.{width_of, capacity_of}
+use Rattle.nam_calls.specs.Index.{find_begin, claim_key_begin}
+use Rattle.nam_calls.specs.Reading.{sight_of, read_most}
+use Rattle.nam_calls.specs.Fits.{HasWidth, IsTableOf}
+use Rattle.nam_calls.proofs.FallsTests.{either}
+use Rattle.nam_calls.proofs.FallsMachines.{FindFalls, find_falls, ClaimKeyFalls, claim_key_falls}
+use Rattle.nam_calls.proofs.FallsRead.{ReadFalls, read_falls}
+use Rattle.nam_calls.proofs.FallsTables.{has_capacity, width_is, sight_fits, read_figure}
+use Rattle.nam_calls.specs.declared.index.FindEnd.TheVariants as found_key
+use Rattle.nam_calls.specs.declared.index.ClaimKeyEnd.TheVariants as claimed_key
 use Rattle.nam_calls.specs.declared.reading.ReadingEnd.TheVariants as read_end
 use Rattle.nam_protocol.specs.declared.txn.TxnState.{TxnState}
 use Rattle.nam_protocol.specs.declared.txn.TxnPlace.{TxnPlace}
 use Rattle.nam_protocol.specs.declared.txn.TxnPlace.TheVariants.{Finding, Reading, Claiming, Committing}
 use Rattle.nam_protocol.specs.declared.txn.TxnAnswer.TheVariants.{Declined}
-use Rattle.nam_calls.specs.Words.{width_of, capacity_of}
-use Rattle.nam_calls.specs.Index.{find_begin, claim_key_begin}
-use Rattle.nam_calls.specs.Reading.{sight_of, read_most}
 use Rattle.nam_protocol.specs.Operations.{key_of, reads, claims, holding, own_value, read_of, value_in, answer_of}
+use Rattle.nam_protocol.specs.Operations.{op_path}
 use Rattle.nam_protocol.specs.Txn.{at, answered, with_claim, with_op, with_own, ask_op, valued, on_find, on_read}
 use Rattle.nam_protocol.specs.Txn.{record_of, on_claim}
 use Rattle.nam_protocol.specs.TxnCalls.{txn_after}
 use Rattle.nam_protocol.specs.Bound.{claim_most, txn_left, op_bound}
-use Rattle.nam_calls.specs.Fits.{HasWidth, IsTableOf}
 use Rattle.nam_protocol.specs.TxnFits.{StateFits, OpStands, TxnPlaceFits, TxnFalls, TxnBegins}
-use Rattle.nam_calls.proofs.FallsTests.{by_test, either}
-use Rattle.nam_calls.proofs.FallsMachines.{FindFalls, find_falls, ClaimKeyFalls, claim_key_falls}
-use Rattle.nam_calls.proofs.FallsRead.{ReadFalls, read_falls}
-use Rattle.nam_calls.proofs.FallsTables.{has_capacity, width_is, sight_fits, read_figure}
 use Rattle.nam_protocol.proofs.FallsKeys.{op_table, claim_fits, op_fits, own_claimed, own_wide}
 use Rattle.nam_protocol.proofs.FallsCommit.{commit_falls}
 
@@ -81,7 +83,7 @@ module _ (shape : Shape) (limits : FitsLimits shape) where
         (fits, ((stands, c, read_wide shape op value stands wide), omega arith)))
         (λ e. (fits, (tt, omega arith))))
 
-    on_find_falls : (n : ℕ) (now : Now ℕ FindEnd) → FindFalls shape table (key_of op).key n now
+    on_find_falls : (n : ℕ) (now : Now ℕ FindEnd) → FindFalls (op_path shape op) n now
         → TxnFalls shape (n + (read_most shape table + claim_most shape op)) (on_find shape state op now)
     on_find_falls n (At passed) h = (fits, ((stands, h.0), let m = h.1 in omega arith))
     on_find_falls n (Over (found_key.At position)) h =
@@ -102,7 +104,7 @@ module _ (shape : Shape) (limits : FitsLimits shape) where
 
     on_claim_falls : (n : ℕ) (now : Now ClaimKeyPlace ClaimKeyEnd)
         → HasWidth (width_of shape table) (value_in state.read)
-        → ClaimKeyFalls shape table (key_of op).key n now → TxnFalls shape n (on_claim shape state op now)
+        → ClaimKeyFalls (op_path shape op) n now → TxnFalls shape n (on_claim shape state op now)
     on_claim_falls n (At place) wide h = (fits, ((stands, h.0, wide), h.1))
     on_claim_falls n (Over claimed_key.NoSpace) wide h = (fits, (tt, h.1))
     on_claim_falls n (Over (claimed_key.At position)) wide h =
@@ -119,13 +121,13 @@ module _ (shape : Shape) (limits : FitsLimits shape) where
       → TxnPlaceFits shape state place
       → TxnFalls shape (txn_left shape state place) (txn_after shape state place found)
   txn_falls state (Finding op passed) found fits p =
-      on_find_falls state fits op p.0 _ _ (find_falls shape (key_of op).table (key_of op).key passed found p.1)
+      on_find_falls state fits op p.0 _ _ (find_falls (op_path shape op) passed found p.1)
   txn_falls state (Reading op position at) found fits p =
       on_read_falls state fits op p.0 position _ _ p.1
       (read_falls (sight_of shape (key_of op).table position)
       (sight_fits shape limits (key_of op).table position (is_table state fits op p.0) p.1) state.seen at found p.2)
   txn_falls state (Claiming op at) found fits p =
-      on_claim_falls state fits op p.0 _ _ p.2 (claim_key_falls shape (key_of op).table (key_of op).key at found p.1)
+      on_claim_falls state fits op p.0 _ _ p.2 (claim_key_falls (op_path shape op) at found p.1)
   txn_falls state (Committing at) found fits p = commit_falls shape limits state fits at found p
 
   -- an operation is asked

@@ -1,8 +1,8 @@
 -- Workers whose lines fail, simulated.
 use Rattle.std.proofs.Common.{◌≡◌, true, false, [], ◌∷◌, Some, refl}
-use Rattle.nam_catalog.specs.declared.form.Form.TheVariants.{Narrow}
 use Rattle.si_model.specs.declared.op.Op.TheVariants.{Put, Add, Need}
 use Rattle.si_model.specs.declared.log.Outcome.TheVariants.{Commit, Locked, Newer, Cut}
+use Rattle.nam_catalog.specs.declared.form.Form.TheVariants.{Narrow}
 use Rattle.nam_protocol.specs.Schedule.{Scenario, Stints, stint_workers, picked, after_workers, until_ended}
 use Rattle.nam_protocol.specs.Session.{settle}
 use Rattle.nam_protocol.specs.Opening.{copies, load_from}

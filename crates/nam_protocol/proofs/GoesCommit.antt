@@ -2,14 +2,14 @@
 use Rattle.std.proofs.Common.{◌≡◌, ℕ, ◌+◌, true, false, List, [], ◌∷◌, ◌++◌, length, None, refl}
 use Rattle.std.specs.Prelude.{◌==◌}
 use Rattle.std.proofs.lemmas.Bool.{cond_both}
+use Rattle.si_model.specs.declared.log.Lock.{Lock}
 use Rattle.nam_verbs.specs.declared.now.Now.{Now}
 use Rattle.nam_verbs.specs.declared.now.Now.TheVariants.{At, Over}
-use Rattle.si_model.specs.declared.log.Lock.{Lock}
 use Rattle.nam_catalog.specs.declared.shape.Shape.{Shape}
+use Rattle.nam_catalog.specs.Greatest.{greatest_number}
 use Rattle.nam_calls.specs.declared.lock.LockPlace.{LockPlace}
 use Rattle.nam_calls.specs.declared.lock.LockPlace.TheVariants.{Peek}
 use Rattle.nam_calls.specs.declared.lock.LockEnd.{LockEnd}
-use Rattle.nam_calls.specs.declared.lock.LockEnd.TheVariants as lock_end
 use Rattle.nam_calls.specs.declared.ring.SlotPlace.{SlotPlace}
 use Rattle.nam_calls.specs.declared.ring.SlotPlace.TheVariants.{CheckCount}
 use Rattle.nam_calls.specs.declared.ring.SlotEnd.{SlotEnd}
@@ -17,18 +17,18 @@ use Rattle.nam_calls.specs.declared.ring.SlotEnd.TheVariants.{Free, NotMoved}
 use Rattle.nam_calls.specs.declared.ring.CopyPlace.{CopyPlace}
 use Rattle.nam_calls.specs.declared.ring.CopyPlace.TheVariants.{CopyMark}
 use Rattle.nam_calls.specs.declared.record.InstallPlace.{InstallPlace}
+use Rattle.nam_calls.specs.Record.{install_begin}
+use Rattle.nam_calls.specs.declared.lock.LockEnd.TheVariants as lock_end
 use Rattle.nam_protocol.specs.declared.txn.TxnState.{TxnState}
 use Rattle.nam_protocol.specs.declared.txn.TxnAnswer.{TxnAnswer}
 use Rattle.nam_protocol.specs.declared.txn.TxnAnswer.TheVariants.{ReadOnly, Spent, Committed, Locked, Newer, Full}
 use Rattle.nam_protocol.specs.declared.txn.CommitPlace.{CommitPlace}
 use Rattle.nam_protocol.specs.declared.txn.CommitPlace.TheVariants.{Locking, Checking, Returning, Saving, Copying}
 use Rattle.nam_protocol.specs.declared.txn.CommitPlace.TheVariants.{Installing, Publishing, Freeing}
-use Rattle.nam_catalog.specs.Greatest.{greatest_number}
-use Rattle.nam_calls.specs.Record.{install_begin}
 use Rattle.nam_protocol.specs.Txn.{Stepped, answered}
 use Rattle.nam_protocol.specs.ProgramCommit.{committing}
-use Rattle.nam_protocol.specs.Commit.{go, lock_at, value_at, ask_commit, on_lock, on_slot, on_return, on_words, on_copy}
-use Rattle.nam_protocol.specs.Commit.{on_install, next_free, commit_after}
+use Rattle.nam_protocol.specs.Commit.{go, lock_at, value_at, ask_commit, on_lock, on_slot, on_return, on_words}
+use Rattle.nam_protocol.specs.Commit.{on_copy, on_install, next_free, commit_after}
 
 -- the state with all locks, and with one more count
 abbrev pub holding_locks : TxnState → List ℕ → TxnState

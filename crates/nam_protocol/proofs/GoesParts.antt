@@ -1,13 +1,12 @@
 -- Where a composed call goes on, by what its part has come to: for the read, the move, and the scan.
 use Rattle.std.proofs.Common.{◌≡◌, ℕ, true, false, List, [], Option, Some, refl}
 use Rattle.std.proofs.lemmas.Bool.{cond_both}
+use Rattle.si_model.specs.Rows.{key_at, item_at}
 use Rattle.nam_verbs.specs.declared.now.Now.{Now}
 use Rattle.nam_verbs.specs.declared.now.Now.TheVariants.{At, Over}
-use Rattle.si_model.specs.Rows.{key_at, item_at}
 use Rattle.nam_layout.specs.declared.field.Cells.{Cells}
 use Rattle.nam_calls.specs.declared.record.CurrentPlace.{CurrentPlace}
 use Rattle.nam_calls.specs.declared.record.CurrentEnd.{CurrentEnd}
-use Rattle.nam_calls.specs.declared.record.CurrentEnd.TheVariants as current
 use Rattle.nam_calls.specs.declared.ring.RingPlace.{RingPlace}
 use Rattle.nam_calls.specs.declared.ring.SearchEnd.{SearchEnd}
 use Rattle.nam_calls.specs.declared.ring.SearchEnd.TheVariants.{Found, NotThere}
@@ -24,22 +23,23 @@ use Rattle.nam_calls.specs.declared.reading.ReadPlace.{ReadPlace}
 use Rattle.nam_calls.specs.declared.reading.ReadPlace.TheVariants.{ReadCurrent, ReadUnsure, ReadRecheck, ReadRing}
 use Rattle.nam_calls.specs.declared.reading.ReadPlace.TheVariants.{ReadCells, ReadHorizon}
 use Rattle.nam_calls.specs.declared.reading.ReadingEnd.{ReadingEnd}
-use Rattle.nam_calls.specs.declared.reading.ReadingEnd.TheVariants as read_end
 use Rattle.nam_calls.specs.declared.mover.MovePlace.{MovePlace}
 use Rattle.nam_calls.specs.declared.mover.MovePlace.TheVariants.{MoveClaim, MoveWords, MoveFill, MoveAgain}
 use Rattle.nam_calls.specs.declared.mover.MoveAnswer.{MoveAnswer}
-use Rattle.nam_calls.specs.declared.mover.MoveAnswer.TheVariants as move_end
-use Rattle.nam_protocol.specs.declared.scan.ScanPlace.{ScanPlace}
-use Rattle.nam_protocol.specs.declared.scan.ScanPlace.TheVariants.{ScanRead}
-use Rattle.nam_protocol.specs.declared.scan.ScanAnswer.{ScanAnswer}
-use Rattle.nam_protocol.specs.declared.scan.ScanAnswer.TheVariants as scan_answer
 use Rattle.nam_calls.specs.Ring.{ring_begin}
 use Rattle.nam_calls.specs.Overflow.{cell_begin}
 use Rattle.nam_calls.specs.Horizon.{old_begin}
 use Rattle.nam_calls.specs.Record.{recheck_end}
 use Rattle.nam_calls.specs.Reading.{on_current, on_unsure, on_ring, on_cells, on_horizon, read_after}
 use Rattle.nam_calls.specs.Mover.{on_claim, on_fill}
+use Rattle.nam_calls.specs.declared.record.CurrentEnd.TheVariants as current
+use Rattle.nam_calls.specs.declared.reading.ReadingEnd.TheVariants as read_end
+use Rattle.nam_calls.specs.declared.mover.MoveAnswer.TheVariants as move_end
+use Rattle.nam_protocol.specs.declared.scan.ScanPlace.{ScanPlace}
+use Rattle.nam_protocol.specs.declared.scan.ScanPlace.TheVariants.{ScanRead}
+use Rattle.nam_protocol.specs.declared.scan.ScanAnswer.{ScanAnswer}
 use Rattle.nam_protocol.specs.Scan.{on_scan_read}
+use Rattle.nam_protocol.specs.declared.scan.ScanAnswer.TheVariants as scan_answer
 
 -- 1. The read
 

@@ -4,34 +4,49 @@
 use Rattle.std.proofs.Common.{◌≡◌, ℕ, Bool, true, false, not, List, Option, None, refl}
 use Rattle.std.specs.Prelude.{if◌then◌else◌}
 use Rattle.std.proofs.lemmas.Bool.{cond_both}
-use Rattle.nam_verbs.specs.declared.now.Now.{Now}
-use Rattle.nam_verbs.specs.declared.now.Now.TheVariants.{At, Over}
 use Rattle.si_model.specs.declared.op.Op.{Op}
+use Rattle.si_model.specs.declared.op.Op.TheVariants.{Get, Put, Add, Del, Need, Guard, Scan}
 use Rattle.si_model.specs.Evaluation.{passes}
 use Rattle.si_model.specs.Rows.{writes_key}
+use Rattle.nam_verbs.specs.declared.now.Now.{Now}
+use Rattle.nam_verbs.specs.declared.now.Now.TheVariants.{At, Over}
 use Rattle.nam_catalog.specs.declared.shape.Shape.{Shape}
 use Rattle.nam_calls.specs.declared.index.FindEnd.{FindEnd}
-use Rattle.nam_calls.specs.declared.index.FindEnd.TheVariants as found_key
 use Rattle.nam_calls.specs.declared.index.ClaimKeyPlace.{ClaimKeyPlace}
 use Rattle.nam_calls.specs.declared.index.ClaimKeyPlace.TheVariants.{KeyLook}
 use Rattle.nam_calls.specs.declared.index.ClaimKeyEnd.{ClaimKeyEnd}
-use Rattle.nam_calls.specs.declared.index.ClaimKeyEnd.TheVariants as claimed_key
 use Rattle.nam_calls.specs.declared.reading.ReadPlace.{ReadPlace}
 use Rattle.nam_calls.specs.declared.reading.ReadingEnd.{ReadingEnd}
+use Rattle.nam_calls.specs.Reading.{read_begin}
+use Rattle.nam_calls.specs.declared.index.FindEnd.TheVariants as found_key
+use Rattle.nam_calls.specs.declared.index.ClaimKeyEnd.TheVariants as claimed_key
 use Rattle.nam_calls.specs.declared.reading.ReadingEnd.TheVariants as read_end
 use Rattle.nam_protocol.specs.declared.txn.TxnState.{TxnState}
 use Rattle.nam_protocol.specs.declared.txn.TxnPlace.TheVariants.{Finding, Reading, Claiming}
 use Rattle.nam_protocol.specs.declared.txn.TxnAnswer.{TxnAnswer}
-use Rattle.nam_protocol.specs.declared.txn.TxnAnswer.TheVariants.{TooOld, NoSpace, Declined, Astray}
-use Rattle.nam_calls.specs.Reading.{read_begin}
+use Rattle.nam_protocol.specs.declared.txn.TxnAnswer.TheVariants.{Committed, TooOld, NoSpace, Declined, Astray}
 use Rattle.nam_protocol.specs.Operations.{key_of, reads, claims, holding, own_value, read_of, value_in, answer_of}
-use Rattle.nam_protocol.specs.Txn.{Stepped, at, answered, with_op, ask_op, decided, valued, on_find, on_read, on_claim}
-use Rattle.nam_protocol.specs.Txn.{claimed}
+use Rattle.nam_protocol.specs.Txn.{Stepped, at, answered, with_op, ask_op, decided, valued, on_find, on_read}
+use Rattle.nam_protocol.specs.Txn.{on_claim, claimed}
 use Rattle.nam_protocol.specs.TxnCalls.{txn_after}
 
 -- the state once the value is known
 abbrev pub knowing : TxnState → Op → Option (List ℕ) → TxnState
 knowing state op value = record state { read = read_of op value }
+
+-- an answer that publishes nothing, as those of operations
+abbrev pub IsSilent : TxnAnswer → Type 0
+IsSilent (Committed number) = ⊥
+IsSilent _ = Unit {0}
+
+pub silent_answer : (op : Op) (value : Option (List ℕ)) → IsSilent (answer_of op value)
+silent_answer (Get t k) value = tt
+silent_answer (Put t k v) value = tt
+silent_answer (Add t k f up by) value = tt
+silent_answer (Del t k) value = tt
+silent_answer (Need t k f least) value = tt
+silent_answer (Guard t k) value = tt
+silent_answer (Scan t low high) value = tt
 
 by_not : {A : Type 0} (P : A → Type 0) (b : Bool) (x y : A) → (b ≡ false → P x) → (b ≡ true → P y)
     → P (if not b then x else y)
@@ -52,11 +67,11 @@ module _ (shape : Shape) (P : Stepped → Type 0) (op : Op) where
   -- the same, whatever the answer
   pub valued_goes : (state : TxnState) (value : Option (List ℕ))
       → (claims op ≡ true → P (at (knowing state op value) (Claiming op (KeyLook 0))))
-      → ((answer : TxnAnswer) → P (answered (knowing state op value) answer))
+      → ((answer : TxnAnswer) → IsSilent answer → P (answered (knowing state op value) answer))
       → P (valued shape state op value)
   valued_goes state value claiming answer =
-      decided_goes (knowing state op value) value (λ e. answer Declined) (λ e. claiming)
-      (λ e f. answer (answer_of op value))
+      decided_goes (knowing state op value) value (λ e. answer Declined tt) (λ e. claiming)
+      (λ e f. answer (answer_of op value) (silent_answer op value))
 
   -- 2. An operation is asked
 
@@ -115,7 +130,7 @@ module _ (shape : Shape) (P : Stepped → Type 0) (op : Op) where
       → ((next : ℕ) → P (at state (Finding op next)))
       → ((position : ℕ) → P (at state (Reading op position read_begin)))
       → (claims op ≡ true → P (at (knowing state op None) (Claiming op (KeyLook 0))))
-      → ((answer : TxnAnswer) → P (answered (knowing state op None) answer))
+      → ((answer : TxnAnswer) → IsSilent answer → P (answered (knowing state op None) answer))
       → P (txn_after shape state (Finding op passed) found)
   finding_goes state passed found stays reading claiming answer =
       on_find_goes state _ (λ next e. stays next) (λ position e. reading position)
@@ -124,13 +139,14 @@ module _ (shape : Shape) (P : Stepped → Type 0) (op : Op) where
   pub reading_goes : (state : TxnState) (position : ℕ) (place : ReadPlace) (found : ℕ)
       → ((next : ReadPlace) → P (at state (Reading op position next)))
       → ((value : Option (List ℕ)) → claims op ≡ true → P (at (knowing state op value) (Claiming op (KeyLook 0))))
-      → ((value : Option (List ℕ)) (answer : TxnAnswer) → P (answered (knowing state op value) answer))
-      → ((answer : TxnAnswer) → P (answered state answer))
+      → ((value : Option (List ℕ)) (answer : TxnAnswer) → IsSilent answer
+      → P (answered (knowing state op value) answer))
+      → ((answer : TxnAnswer) → IsSilent answer → P (answered state answer))
       → P (txn_after shape state (Reading op position place) found)
   reading_goes state position place found stays claiming answer ended =
       on_read_goes state position _ (λ next e. stays next)
       (λ value e. valued_goes state value (claiming value) (answer value))
-      (λ worker entry horizon e. ended (TooOld worker entry horizon)) (λ e. ended Astray)
+      (λ worker entry horizon e. ended (TooOld worker entry horizon) tt) (λ e. ended Astray tt)
 
   pub claiming_goes : (state : TxnState) (place : ClaimKeyPlace) (found : ℕ)
       → ((next : ClaimKeyPlace) → P (at state (Claiming op next)))

@@ -1,12 +1,13 @@
 -- How a group of invariants says that a call does not concern it, shown on the view of a client's commit in progress.
 use Rattle.std.proofs.Common.{◌≡◌, ℕ, List, Option, Some, None, refl}
+use Rattle.si_model.specs.declared.op.Op.{Op}
 use Rattle.nam_verbs.specs.declared.now.Now.{Now}
 use Rattle.nam_verbs.specs.declared.now.Now.TheVariants.{At}
-use Rattle.si_model.specs.declared.op.Op.{Op}
 use Rattle.nam_catalog.specs.declared.shape.Shape.{Shape}
 use Rattle.nam_calls.specs.declared.index.ClaimKeyPlace.{ClaimKeyPlace}
 use Rattle.nam_calls.specs.declared.reading.ReadPlace.{ReadPlace}
 use Rattle.nam_calls.specs.declared.ring.CopyPlace.{CopyPlace}
+use Rattle.nam_calls.specs.Record.{install_begin}
 use Rattle.nam_protocol.specs.declared.scan.ScanPlace.{ScanPlace}
 use Rattle.nam_protocol.specs.declared.txn.Record.{Record}
 use Rattle.nam_protocol.specs.declared.txn.CommitPlace.{CommitPlace}
@@ -19,7 +20,6 @@ use Rattle.nam_protocol.specs.declared.client.CallPlace.TheVariants.{Beginning, 
 use Rattle.nam_protocol.specs.declared.client.CallPlace.TheVariants.{Snapping, Collecting}
 use Rattle.nam_protocol.specs.declared.client.Open.{Open}
 use Rattle.nam_protocol.specs.declared.client.ClientState.{ClientState}
-use Rattle.nam_calls.specs.Record.{install_begin}
 use Rattle.nam_protocol.specs.Txn.{Stepped, ask_op}
 use Rattle.nam_protocol.specs.TxnCalls.{txn_after}
 use Rattle.nam_protocol.specs.Commit.{value_at}
@@ -57,13 +57,13 @@ module _ (shape : Shape) (client : ClientState) (attempt : Open) where
   pub finding_quiet : (op : Op) (passed found : ℕ) → Quiet (txn_after shape attempt.state (Finding op passed) found)
   finding_quiet op passed found =
       finding_goes shape Quiet op attempt.state passed found (λ next. refl) (λ position. refl) (λ e. refl)
-      (λ answer. refl)
+      (λ answer s. refl)
 
   pub reading_quiet : (op : Op) (position : ℕ) (place : ReadPlace) (found : ℕ)
       → Quiet (txn_after shape attempt.state (Reading op position place) found)
   reading_quiet op position place found =
       reading_goes shape Quiet op attempt.state position place found (λ next. refl) (λ value e. refl)
-      (λ value answer. refl) (λ answer. refl)
+      (λ value answer s. refl) (λ answer s. refl)
 
   pub claiming_quiet : (op : Op) (place : ClaimKeyPlace) (found : ℕ)
       → Quiet (txn_after shape attempt.state (Claiming op place) found)

@@ -1,8 +1,8 @@
 -- Guards and held headers, simulated.
 use Rattle.std.proofs.Common.{◌≡◌, true, false, [], ◌∷◌, Some, refl}
-use Rattle.nam_catalog.specs.declared.form.Form.TheVariants.{Narrow, Held}
 use Rattle.si_model.specs.declared.op.Op.TheVariants.{Put, Add, Need, Guard}
 use Rattle.si_model.specs.declared.log.Outcome.TheVariants.{Commit, Newer}
+use Rattle.nam_catalog.specs.declared.form.Form.TheVariants.{Narrow, Held}
 use Rattle.nam_protocol.specs.Schedule.{Scenario, Stints, stint_workers, picked, after_workers, until_ended}
 use Rattle.nam_protocol.specs.Session.{settle}
 use Rattle.nam_protocol.specs.Opening.{copies, load_from}

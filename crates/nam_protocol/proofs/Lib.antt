@@ -13,7 +13,10 @@ pub mod FallsTxn
 pub mod FallsBegins
 pub mod FallsScan
 pub mod FallsClient
-pub mod AddressesCalls
+pub mod FieldLemmas
+pub mod BlankLemmas
+pub mod OpeningLemmas
+pub mod StepLemmas
 pub mod FallsAttempt
 pub mod Grows
 pub mod GrowsSession

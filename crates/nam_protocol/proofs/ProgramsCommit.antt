@@ -4,13 +4,17 @@ use Rattle.std.proofs.Common.{Some, None, refl, sym, subst, arith, length-append
 use Rattle.std.specs.Prelude.{◌==◌, if◌then◌else◌, slice_index}
 use Rattle.std.proofs.lemmas.Bool.Decides.{nat_tests}
 use Rattle.std.proofs.lemmas.List.{length-map}
-use Rattle.nam_verbs.specs.declared.now.Now.{Now}
-use Rattle.nam_verbs.specs.declared.now.Now.TheVariants.{At, Over}
 use Rattle.si_model.specs.Rows.{item_key}
 use Rattle.si_model.specs.Evaluation.{unwritten}
+use Rattle.nam_verbs.specs.declared.now.Now.{Now}
+use Rattle.nam_verbs.specs.declared.now.Now.TheVariants.{At, Over}
+use Rattle.nam_verbs.proofs.TestLemmas.{if_in}
 use Rattle.nam_catalog.specs.declared.shape.Shape.{Shape}
 use Rattle.nam_catalog.specs.Greatest.{greatest_number}
+use Rattle.nam_header.specs.Stamp.{is_locked, is_moved, sees}
 use Rattle.nam_layout.specs.declared.field.Place.{Place}
+use Rattle.nam_layout.specs.Place.{slot_of}
+use Rattle.nam_layout.specs.declared.field.Field.TheVariants as field
 use Rattle.nam_calls.specs.declared.record.InstallPlace.TheVariants.{InstallWord, InstallCount}
 use Rattle.nam_calls.specs.declared.ring.CopyPlace.TheVariants.{CopyMark, CopyWord, CopyHead}
 use Rattle.nam_calls.specs.declared.ring.SlotPlace.{SlotPlace}
@@ -19,25 +23,23 @@ use Rattle.nam_calls.specs.declared.ring.SlotEnd.{SlotEnd}
 use Rattle.nam_calls.specs.declared.lock.LockPlace.{LockPlace}
 use Rattle.nam_calls.specs.declared.lock.LockPlace.TheVariants.{Peek, GiveBack}
 use Rattle.nam_calls.specs.declared.lock.LockEnd.{LockEnd}
+use Rattle.nam_calls.specs.Record.{install_begin, word_in}
+use Rattle.nam_calls.specs.Lock.{nth_place, lock_begin, lock_verb, lock_after, lock_next, loss_of, give_back}
+use Rattle.nam_calls.specs.Program.{Prog, ◌>>=◌, write_words, IsProgram, standing, taking}
+use Rattle.nam_calls.proofs.Programs.{both, both_not, is_last, is_more, at_last, before_last, word_then, words_is}
+use Rattle.nam_calls.proofs.Programs.{writes_left, writes_is, part_is, the_program}
 use Rattle.nam_calls.specs.declared.lock.LockEnd.TheVariants as lock_end
 use Rattle.nam_protocol.specs.declared.txn.TxnState.{TxnState}
 use Rattle.nam_protocol.specs.declared.txn.TxnAnswer.{TxnAnswer}
 use Rattle.nam_protocol.specs.declared.txn.TxnAnswer.TheVariants.{Committed, Full}
 use Rattle.nam_protocol.specs.declared.txn.CommitPlace.TheVariants.{Locking, Checking, Returning, Saving, Copying}
 use Rattle.nam_protocol.specs.declared.txn.CommitPlace.TheVariants.{Installing, Publishing, Freeing}
-use Rattle.nam_calls.specs.Stamps.{sees, is_locked, is_moved}
-use Rattle.nam_calls.specs.Words.{word_at, slot_word_at, slot_of}
-use Rattle.nam_calls.specs.Record.{install_begin, word_in}
-use Rattle.nam_calls.specs.Lock.{nth_place, lock_begin, lock_verb, lock_after, lock_next, loss_of, give_back}
 use Rattle.nam_protocol.specs.Txn.{Stepped, answered}
-use Rattle.nam_protocol.specs.Commit.{go, places, place_at, value_at, lock_at, records_of, commit_keys, record_in}
+use Rattle.nam_protocol.specs.Commit.{go, places, record_place, value_at, lock_at, records_of, commit_keys, record_in}
 use Rattle.nam_protocol.specs.Commit.{next_check, on_lock, on_slot, on_return, on_words, on_copy, on_install}
-use Rattle.nam_calls.specs.Program.{Prog, ◌>>=◌, write_words, IsProgram, standing, taking}
 use Rattle.nam_protocol.specs.ProgramCommit.{Checked, NotFree, give_all_back, lock_records, check_slots, data_words}
 use Rattle.nam_protocol.specs.ProgramCommit.{replace_versions, publish, after_check, after_locks, commit_records}
 use Rattle.nam_protocol.specs.ProgramCommit.{committing, txn_stands, txn_takes, CommitIsProgram}
-use Rattle.nam_calls.proofs.Programs.{both, both_not, is_last, is_more, at_last, before_last, if_in, word_then}
-use Rattle.nam_calls.proofs.Programs.{words_is, writes_left, writes_is, part_is, the_program}
 
 -- 1. The locks
 
@@ -89,12 +91,12 @@ module _ (shape : Shape) (state : TxnState) where
 
   module _ (some : 0 < length state.writes) (each : length state.writes ≤ length state.records)
       (all : length (places state) ≡ length state.records)
-      (wide : (nth : ℕ) → nth < length state.writes → 0 < (place_at state nth).width) where
+      (wide : (nth : ℕ) → nth < length state.writes → 0 < (record_place state nth).width) where
     -- the entry and the guards
     publish_is : (held counts : List ℕ) → IsTxn (go (with_locks held counts) Publishing) (publish state held)
     publish_is held counts =
         word_then refl λ found.
-        writes_left (txn_stands shape) (txn_takes shape) (λ k. (nth_place (places state) k).header_at)
+        writes_left (txn_stands shape) (txn_takes shape) (λ k. field.Header (nth_place (places state) k).row)
         (slice_index held) (length state.records)
         (λ nth. go (with_locks held counts) (Freeing nth))
         (answered (with_locks held counts) (Committed (state.last + 1))) _
@@ -103,36 +105,38 @@ module _ (shape : Shape) (state : TxnState) where
 
     -- the new version of the nth record, where what follows is known
     install_is : (held counts : List ℕ) (nth : ℕ) (value : Option (List ℕ)) (next : Prog TxnAnswer)
-        → 0 < (place_at state nth).width
+        → 0 < (record_place state nth).width
         → IsTxn (go (with_locks held counts) (Installing nth InstallCount)) next
         → IsTxn (go (with_locks held counts) (Installing nth (install_begin value)))
-        (write_words (word_at (place_at state nth)) (word_in (value_at state nth))
-        (data_words state (place_at state nth) value) 0 >>= λ end. next)
+        (write_words (field.Word (record_place state nth).row) (word_in (value_at state nth))
+        (data_words state (record_place state nth) value) 0 >>= λ end. next)
     install_is held counts nth None next l f = f
     install_is held counts nth (Some value) next l f =
-        writes_is (txn_stands shape) (txn_takes shape) (word_at (place_at state nth)) (word_in (value_at state nth))
-        (place_at state nth).width
+        writes_is (txn_stands shape) (txn_takes shape) (field.Word (record_place state nth).row)
+        (word_in (value_at state nth))
+        (record_place state nth).width
         (λ k. go (with_locks held counts) (Installing nth (InstallWord k)))
         (go (with_locks held counts) (Installing nth InstallCount)) next
         (λ k. refl)
-        (λ k found. if_in (on_install (with_locks held counts) nth) (k + 1 == (place_at state nth).width) _
+        (λ k found. if_in (on_install (with_locks held counts) nth) (k + 1 == (record_place state nth).width) _
         (At (InstallWord (k + 1)))) f l
 
     -- one record: its words, the copy, the new version
-    record_is : (held counts : List ℕ) (rest nth : ℕ) → 0 < (place_at state nth).width
+    record_is : (held counts : List ℕ) (rest nth : ℕ) → 0 < (record_place state nth).width
         → IsTxn (on_install (with_locks held counts) nth (Over tt))
         (replace_versions state held counts (publish state held) rest (nth + 1))
         → IsTxn (go (with_locks held counts) (Saving nth []))
         (replace_versions state held counts (publish state held) (suc rest) nth)
     record_is held counts rest nth l next =
-        let s = with_locks held counts in let place = place_at state nth in
-        words_is (txn_stands shape) (txn_takes shape) (word_at place) place.width
+        let s = with_locks held counts in let place = record_place state nth in
+        words_is (txn_stands shape) (txn_takes shape) (field.Word place.row) place.width
         (λ got. go s (Saving nth got)) (λ got. go s (Copying nth got CopyMark)) _ (λ got. refl)
         (λ got word. if_in (on_words s nth) (length (got ++ word ∷ []) == place.width) (Over (got ++ word ∷ []))
         (At (got ++ word ∷ []))) l λ old e.
         word_then refl λ marked.
         word_then refl λ ended.
-        writes_is (txn_stands shape) (txn_takes shape) (slot_word_at place (slot_of place (slice_index counts nth)))
+        writes_is (txn_stands shape) (txn_takes shape)
+        (field.SlotWord place.row (slot_of place (slice_index counts nth)))
         (slice_index old) place.width
         (λ k. go s (Copying nth old (CopyWord k))) (go s (Copying nth old CopyHead)) _
         (λ k. refl)
@@ -169,7 +173,7 @@ module _ (shape : Shape) (state : TxnState) where
         (after_check state held (NotFree nth found))
     full_is held counts nth found =
         let s = with_locks held counts in let full = lock_at state nth found in
-        writes_is (txn_stands shape) (txn_takes shape) (λ k. (nth_place (places state) k).header_at)
+        writes_is (txn_stands shape) (txn_takes shape) (λ k. field.Header (nth_place (places state) k).row)
         (slice_index held) (length (places state))
         (λ k. go s (Returning k full)) (answered s (Full full)) _ (λ k. refl)
         (λ k word. if_in (on_return s full) (k + 1 == length (places state)) (Over tt) (At (k + 1))) refl (omega arith)
@@ -182,7 +186,7 @@ module _ (shape : Shape) (state : TxnState) where
         (omega arith)
         (records_are held counts (length state.writes) refl)
     checks_from held (suc rest) counts e =
-        let s = with_locks held counts in let place = place_at state (length counts) in
+        let s = with_locks held counts in let place = record_place state (length counts) in
         before_last (λ call. IsTxn call (check_slots state (suc rest) counts >>= after_check state held))
         (length counts) (length state.writes) _ _
         rest (omega arith) (

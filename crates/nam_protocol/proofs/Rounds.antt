@@ -1,9 +1,10 @@
 -- A simulated run is the only one: once all sessions have ended, a further round changes nothing.
 use Rattle.std.proofs.Common.{◌≡◌, ℕ, zero, suc, ◌+◌, ◌-◌, List, [], ◌∷◌, None, refl, sym, ap, ◌∙◌, arith}
 use Rattle.std.proofs.Math.Nat.{add_comm}
-use Rattle.std.specs.Prelude.{slice_get}
+use Rattle.std.specs.Prelude.{slice_get, option_map}
 use Rattle.std.specs.List.{AllByRecursion}
 use Rattle.nam_catalog.specs.declared.shape.Shape.{Shape}
+use Rattle.nam_calls.specs.Memory.{verb_there}
 use Rattle.nam_protocol.specs.declared.session.SessionState.{SessionState}
 use Rattle.nam_protocol.specs.World.{HasNoVerb, HasEnded, verb_in}
 use Rattle.nam_protocol.specs.Schedule.{Run, Line, Scenario, Simulated, turn_on, turn_of, after_workers, after_round}
@@ -17,7 +18,9 @@ module _ (shape : Shape) where
   no_verb (x ∷ xs) all (suc k) = no_verb xs all.1 k
 
   turn_rests : (run : Run) → HasEnded shape run.world → (worker : ℕ) → turn_of shape run worker ≡ run
-  turn_rests run ended worker = ap (turn_on shape run worker) (no_verb run.world.sessions ended (worker - 1))
+  turn_rests run ended worker =
+      ap (λ verb. turn_on shape run worker (option_map (verb_there shape) verb))
+      (no_verb run.world.sessions ended (worker - 1))
 
   workers_rest : (run : Run) → HasEnded shape run.world → (workers : List ℕ) → after_workers shape run workers ≡ run
   unfolding after_workers

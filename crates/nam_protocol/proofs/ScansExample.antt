@@ -1,13 +1,14 @@
 -- Scans, simulated.
 use Rattle.std.proofs.Common.{◌≡◌, true, false, [], ◌∷◌, Some, None, refl}
-use Rattle.nam_catalog.specs.declared.form.Form.TheVariants.{Narrow}
 use Rattle.si_model.specs.declared.op.Op.TheVariants.{Put, Add, Del, Scan}
 use Rattle.si_model.specs.declared.log.Outcome.TheVariants.{Commit, ReadOnly, TooOld}
 use Rattle.si_model.specs.declared.log.Event.TheVariants.{NoRoom, Collected}
+use Rattle.nam_catalog.specs.declared.form.Form.TheVariants.{Narrow}
 use Rattle.nam_protocol.specs.Schedule.{Scenario, Stints, stint_workers, picked, after_workers, until_ended}
 use Rattle.nam_protocol.specs.Session.{settle}
 use Rattle.nam_protocol.specs.Opening.{copies, load_from}
-use Rattle.nam_protocol.proofs.Shown.{shape, table, loaded, txn, stint, item, row, lock, tried, move, move_done, shown}
+use Rattle.nam_protocol.proofs.Shown.{shape, table, loaded, txn, stint, item, row, lock, tried, move, move_done}
+use Rattle.nam_protocol.proofs.Shown.{shown}
 
 unfoldable of_scan_with_own_writes : Scenario
 of_scan_with_own_writes = record {

@@ -1,13 +1,13 @@
 -- Addresses, opening words, the generator and the bounds at small numbers.
 use Rattle.std.proofs.Common.{◌≡◌, ◌+◌, ◌*◌, false, [], ◌∷◌, refl}
 use Rattle.std.specs.Prelude.{length}
+use Rattle.si_model.specs.declared.op.Op.TheVariants.{Need, Add, Scan}
 use Rattle.nam_catalog.specs.declared.form.Form.TheVariants.{Narrow}
 use Rattle.nam_catalog.specs.declared.shape.Shape.{Shape}
 use Rattle.nam_catalog.specs.Words.{words_of}
-use Rattle.nam_layout.specs.Place.{place_of, cells_of}
-use Rattle.si_model.specs.declared.op.Op.TheVariants.{Need, Add, Scan}
-use Rattle.nam_calls.specs.Words.{slot_at, tag_at}
-use Rattle.nam_calls.specs.Stamps.{freed}
+use Rattle.nam_header.specs.Tag.{freed}
+use Rattle.nam_layout.specs.declared.field.Field.TheVariants.{Header, SlotHeader, Tag}
+use Rattle.nam_layout.specs.Address.{address}
 use Rattle.nam_protocol.specs.Opening.{copies, load_from, blank_words, opening_words}
 use Rattle.nam_protocol.specs.Schedule.{next_state, pick}
 use Rattle.nam_protocol.specs.Bound.{verb_bound}
@@ -17,13 +17,13 @@ use Rattle.nam_protocol.proofs.Shown.{shape, table, loaded}
 abbrev small : Shape
 small = shape Narrow 1 (table 1 2 1 ∷ []) 1 1 0
 
-second_header : (place_of small 0 1).header_at ≡ 10
+second_header : address small (Header 1) ≡ 10
 second_header = refl
 
-second_slot : slot_at (place_of small 0 1) 0 ≡ 13
+second_slot : address small (SlotHeader 1 0) ≡ 13
 second_slot = refl
 
-first_tag : tag_at (cells_of small 0) 0 ≡ 16
+first_tag : address small (Tag 0 0) ≡ 16
 first_tag = refl
 
 blank_is_whole : length (blank_words small) ≡ words_of small

@@ -6,20 +6,20 @@ use Rattle.si_model.specs.declared.op.Op.TheVariants.{Get, Put, Add, Del, Need, 
 use Rattle.si_model.specs.Evaluation.{written_keys, guard_keys}
 use Rattle.nam_catalog.specs.declared.shape.Shape.{Shape}
 use Rattle.nam_layout.specs.declared.field.Place.{Place}
-use Rattle.nam_protocol.specs.declared.txn.TxnState.{TxnState}
-use Rattle.nam_protocol.specs.declared.txn.CommitPlace.{CommitPlace}
-use Rattle.nam_protocol.specs.declared.txn.CommitPlace.TheVariants.{Locking, Checking, Returning, Saving, Copying}
-use Rattle.nam_protocol.specs.declared.txn.CommitPlace.TheVariants.{Installing, Publishing, Freeing}
-use Rattle.nam_protocol.specs.declared.txn.TxnPlace.{TxnPlace}
-use Rattle.nam_protocol.specs.declared.txn.TxnPlace.TheVariants.{Finding, Reading, Claiming, Committing}
 use Rattle.nam_calls.specs.Words.{width_of, capacity_of}
 use Rattle.nam_calls.specs.Index.{find_left, claim_key_left}
 use Rattle.nam_calls.specs.Record.{words_left, install_left}
 use Rattle.nam_calls.specs.Ring.{slot_left, copy_left}
 use Rattle.nam_calls.specs.Lock.{lock_left, unlock_left}
 use Rattle.nam_calls.specs.Reading.{sight_of, read_left, read_most}
-use Rattle.nam_protocol.specs.Operations.{key_of, claims}
-use Rattle.nam_protocol.specs.Commit.{places, place_at}
+use Rattle.nam_protocol.specs.declared.txn.TxnState.{TxnState}
+use Rattle.nam_protocol.specs.declared.txn.CommitPlace.{CommitPlace}
+use Rattle.nam_protocol.specs.declared.txn.CommitPlace.TheVariants.{Locking, Checking, Returning, Saving, Copying}
+use Rattle.nam_protocol.specs.declared.txn.CommitPlace.TheVariants.{Installing, Publishing, Freeing}
+use Rattle.nam_protocol.specs.declared.txn.TxnPlace.{TxnPlace}
+use Rattle.nam_protocol.specs.declared.txn.TxnPlace.TheVariants.{Finding, Reading, Claiming, Committing}
+use Rattle.nam_protocol.specs.Operations.{key_of, claims, op_path}
+use Rattle.nam_protocol.specs.Commit.{places, record_place}
 
 -- 1. What is to come of a commit
 
@@ -46,10 +46,10 @@ commit_left state (Checking at) =
     slot_left at + (2 * (length state.writes - length state.counts - 1) + rest_from state 0)
 commit_left state (Returning given full) = unlock_left (places state) given
 commit_left state (Saving nth got) =
-    words_left (place_at state nth) got + (2 * (place_at state nth).width + 5) + rest_from state (nth + 1)
+    words_left (record_place state nth) got + (2 * (record_place state nth).width + 5) + rest_from state (nth + 1)
 commit_left state (Copying nth old at) =
-    copy_left (place_at state nth) at + ((place_at state nth).width + 2) + rest_from state (nth + 1)
-commit_left state (Installing nth at) = install_left (place_at state nth) at + rest_from state (nth + 1)
+    copy_left (record_place state nth) at + ((record_place state nth).width + 2) + rest_from state (nth + 1)
+commit_left state (Installing nth at) = install_left (record_place state nth) at + rest_from state (nth + 1)
 commit_left state Publishing = publish_most state
 commit_left state (Freeing nth) = unlock_left (places state) nth
 
@@ -61,9 +61,9 @@ module _ (shape : Shape) where
 
   abbrev pub txn_left : TxnState → TxnPlace → ℕ
   txn_left state (Finding op passed) =
-      find_left shape (key_of op).table passed + (read_most shape (key_of op).table + claim_most op)
+      find_left (op_path shape op) passed + (read_most shape (key_of op).table + claim_most op)
   txn_left state (Reading op position at) = read_left (sight_of shape (key_of op).table position) at + claim_most op
-  txn_left state (Claiming op at) = claim_key_left shape (key_of op).table at
+  txn_left state (Claiming op at) = claim_key_left (op_path shape op) at
   txn_left state (Committing at) = commit_left state at
 
   -- 3. A whole attempt of these operations

@@ -1,23 +1,28 @@
 -- One worker's client: its calls, one at a time.
 use Rattle.std.specs.Prelude.{ℕ, ◌+◌, false, if◌then◌else◌, List, [], length, Option, Some, None}
-use Rattle.nam_verbs.specs.declared.verb.Verb.{Verb}
-use Rattle.nam_verbs.specs.declared.verb.Verb.TheVariants.{Read}
-use Rattle.nam_verbs.specs.declared.now.Now.{Now}
-use Rattle.nam_verbs.specs.declared.now.Now.TheVariants.{At, Over}
 use Rattle.si_model.specs.declared.log.Outcome.TheVariants as outcome
 use Rattle.si_model.specs.declared.log.MoveEnd.TheVariants as moved
 use Rattle.si_model.specs.declared.log.Event.TheVariants as event
+use Rattle.nam_verbs.specs.declared.now.Now.{Now}
+use Rattle.nam_verbs.specs.declared.now.Now.TheVariants.{At, Over}
+use Rattle.nam_verbs.specs.VerbAt.{VerbAt, ReadAt}
 use Rattle.nam_catalog.specs.declared.shape.Shape.{Shape}
-use Rattle.nam_layout.specs.Place.{place_of, cells_of, bucket_of}
+use Rattle.nam_layout.specs.declared.field.Field.TheVariants.{Entry}
+use Rattle.nam_layout.specs.Place.{place_of, cells_of, bucket_of, cells_by}
+use Rattle.nam_layout.specs.declared.field.Field.{Field}
 use Rattle.nam_vector.specs.declared.snap.SnapPlace.{SnapPlace}
 use Rattle.nam_vector.specs.declared.snap.SnapEnd.{SnapEnd}
+use Rattle.nam_vector.specs.Snap.{snap_begin, snap_verb, snap_after}
 use Rattle.nam_vector.specs.declared.snap.SnapEnd.TheVariants as snap_end
-use Rattle.nam_vector.specs.SnapPlace as snap
 use Rattle.nam_calls.specs.declared.index.FindEnd.{FindEnd}
-use Rattle.nam_calls.specs.declared.index.FindEnd.TheVariants as found_key
 use Rattle.nam_calls.specs.declared.horizon.CollectPlace.{CollectPlace}
 use Rattle.nam_calls.specs.declared.mover.MovePlace.{MovePlace}
 use Rattle.nam_calls.specs.declared.mover.MoveAnswer.{MoveAnswer}
+use Rattle.nam_calls.specs.Words.{capacity_of, path_of}
+use Rattle.nam_calls.specs.Index.{find_begin, find_verb, find_after}
+use Rattle.nam_calls.specs.Mover.{move_begin, move_verb, move_after}
+use Rattle.nam_calls.specs.Horizon.{collect_begin, collect_verb, collect_after}
+use Rattle.nam_calls.specs.declared.index.FindEnd.TheVariants as found_key
 use Rattle.nam_calls.specs.declared.mover.MoveAnswer.TheVariants as move_end
 use Rattle.nam_protocol.specs.declared.txn.TxnCall.{TxnCall}
 use Rattle.nam_protocol.specs.declared.txn.TxnCall.TheVariants.{Commit}
@@ -26,21 +31,17 @@ use Rattle.nam_protocol.specs.declared.scan.ScanPlace.{ScanPlace}
 use Rattle.nam_protocol.specs.declared.client.Call.{Call}
 use Rattle.nam_protocol.specs.declared.client.Call.TheVariants.{Begin, Txn, Scan, Tidy, Collect}
 use Rattle.nam_protocol.specs.declared.client.Answer.{Answer}
-use Rattle.nam_protocol.specs.declared.client.Answer.TheVariants as client_answer
 use Rattle.nam_protocol.specs.declared.client.CallPlace.{CallPlace}
 use Rattle.nam_protocol.specs.declared.client.CallPlace.TheVariants.{Beginning, InTxn, Scanning, Seeking, Moving}
 use Rattle.nam_protocol.specs.declared.client.CallPlace.TheVariants.{Snapping, Collecting}
 use Rattle.nam_protocol.specs.declared.client.Open.{Open}
 use Rattle.nam_protocol.specs.declared.client.ClientState.{ClientState}
-use Rattle.nam_calls.specs.Words.{capacity_of, cells_by}
-use Rattle.nam_calls.specs.Index.{find_begin, find_verb, find_after}
-use Rattle.nam_calls.specs.Mover.{move_begin, move_verb, move_after}
-use Rattle.nam_calls.specs.Horizon.{collect_begin, collect_verb, collect_after}
 use Rattle.nam_protocol.specs.TxnCalls.{txn_ask, txn_verb, txn_after, taken_at}
 use Rattle.nam_protocol.specs.Scan.{scan_begin, scan_verb, scan_after, position_of}
 use Rattle.nam_protocol.specs.Log.{with_snap, prefix_of, unbegun}
 use Rattle.nam_protocol.specs.Telling.{go, answered, opened, told, ended, stepped}
 use Rattle.nam_protocol.specs.ScanCall.{on_scan}
+use Rattle.nam_protocol.specs.declared.client.Answer.TheVariants as client_answer
 
 -- an operation counts as one; the commit is none
 abbrev pub counted : Open → TxnCall → Open
@@ -62,34 +63,34 @@ module _ (shape : Shape) where
       go (record client { txn = Some counted; scanned = [] }) (Scanning table low high scan_begin)
 
   abbrev pub client_ask : ClientState → Call → ClientState
-  client_ask client (Begin txn nth) = go client (Beginning txn nth snap.begin)
+  client_ask client (Begin txn nth) = go client (Beginning txn nth snap_begin)
   client_ask client (Txn call) = ask_txn client call client.txn
   client_ask client (Scan table low high) = ask_scan client table low high client.txn
   client_ask client (Tidy table key) = go client (Seeking table key find_begin)
-  client_ask client (Collect bucket) = go client (Snapping bucket snap.begin)
+  client_ask client (Collect bucket) = go client (Snapping bucket snap_begin)
 
   -- 2. The verb that stands
 
   -- a call of a transaction stands only where one is open
-  abbrev pub open_verb : Option Open → TxnPlace → Verb
-  open_verb None at = Read 0
+  abbrev pub open_verb : Option Open → TxnPlace → VerbAt Field
+  open_verb None at = ReadAt (Entry 1)
   open_verb (Some attempt) at = txn_verb shape attempt.state at
 
-  abbrev pub call_verb : ClientState → CallPlace → Verb
-  call_verb client (Beginning txn nth at) = snap.verb_at at
+  abbrev pub call_verb : ClientState → CallPlace → VerbAt Field
+  call_verb client (Beginning txn nth at) = snap_verb at
   call_verb client (InTxn at) = open_verb client.txn at
   call_verb client (Scanning table low high at) = scan_verb shape table at
-  call_verb client (Seeking table key passed) = find_verb shape table key passed
+  call_verb client (Seeking table key passed) = find_verb (path_of shape table key) passed
   call_verb client (Moving table key position at) =
       let place = place_of shape table position in move_verb place (cells_by shape place) at
-  call_verb client (Snapping bucket at) = snap.verb_at at
-  call_verb client (Collecting bucket prefix seen at) = collect_verb (cells_of shape bucket) shape.workers seen at
+  call_verb client (Snapping bucket at) = snap_verb at
+  call_verb client (Collecting bucket prefix seen at) = collect_verb (cells_of shape bucket) seen at
 
-  abbrev pub verb_of : ClientState → Option (Now CallPlace Answer) → Option Verb
+  abbrev pub verb_of : ClientState → Option (Now CallPlace Answer) → Option (VerbAt Field)
   verb_of client (Some (At place)) = Some (call_verb client place)
   verb_of client _ = None
 
-  abbrev pub client_verb : ClientState → Option Verb
+  abbrev pub client_verb : ClientState → Option (VerbAt Field)
   client_verb client = if client.cut then None else verb_of client client.call
 
   -- 3. A word is taken
@@ -145,15 +146,15 @@ module _ (shape : Shape) where
       (scan_after shape table low high attempt.state.seen at found)
 
   abbrev pub call_after : ClientState → CallPlace → ℕ → ClientState
-  call_after client (Beginning txn nth at) found = on_begin client txn nth (snap.after_word shape.workers at found)
+  call_after client (Beginning txn nth at) found = on_begin client txn nth (snap_after shape.workers at found)
   call_after client (InTxn at) found = take_txn client at client.txn found
   call_after client (Scanning table low high at) found = take_scan client table low high at client.txn found
   call_after client (Seeking table key passed) found =
-      on_seek client table key (find_after shape table key passed found)
+      on_seek client table key (find_after (path_of shape table key) passed found)
   call_after client (Moving table key position at) found =
       let place = place_of shape table position in
       on_move client table key position (bucket_of shape place.row) (move_after place (cells_by shape place) at found)
-  call_after client (Snapping bucket at) found = on_snap client bucket (snap.after_word shape.workers at found)
+  call_after client (Snapping bucket at) found = on_snap client bucket (snap_after shape.workers at found)
   call_after client (Collecting bucket prefix seen at) found =
       on_collect client bucket prefix seen (collect_after (cells_of shape bucket) shape.workers seen at found)
 

@@ -3,8 +3,10 @@ use Rattle.std.specs.Prelude.{◌≡◌, ℕ, ◌*◌, ◌<◌, length, Option, 
 use Rattle.nam_verbs.specs.declared.now.Now.{Now}
 use Rattle.nam_verbs.specs.declared.now.Now.TheVariants.{At}
 use Rattle.nam_catalog.specs.declared.shape.Shape.{Shape}
-use Rattle.nam_layout.specs.Place.{place_of, cells_of}
-use Rattle.nam_vector.specs.SnapPlace.{SnapFits}
+use Rattle.nam_layout.specs.Place.{place_of, cells_of, cells_by}
+use Rattle.nam_vector.specs.Snap.{SnapFits}
+use Rattle.nam_calls.specs.Words.{capacity_of}
+use Rattle.nam_calls.specs.Fits.{IsOf, FindFits, MoveFits, CollectFits, IsTableOf}
 use Rattle.nam_protocol.specs.declared.txn.TxnPlace.{TxnPlace}
 use Rattle.nam_protocol.specs.declared.txn.TxnCall.{TxnCall}
 use Rattle.nam_protocol.specs.declared.client.Call.{Call}
@@ -15,9 +17,7 @@ use Rattle.nam_protocol.specs.declared.client.CallPlace.TheVariants.{Beginning, 
 use Rattle.nam_protocol.specs.declared.client.CallPlace.TheVariants.{Snapping, Collecting}
 use Rattle.nam_protocol.specs.declared.client.Open.{Open}
 use Rattle.nam_protocol.specs.declared.client.ClientState.{ClientState}
-use Rattle.nam_calls.specs.Words.{capacity_of, cells_by}
 use Rattle.nam_protocol.specs.Bound.{scan_bound, tidy_bound, collect_bound}
-use Rattle.nam_calls.specs.Fits.{IsOf, FindFits, MoveFits, CollectFits, IsTableOf}
 use Rattle.nam_protocol.specs.TxnFits.{StateFits, TxnPlaceFits, ScanFits, TxnCallFits, txn_call_bound}
 
 module _ (shape : Shape) where

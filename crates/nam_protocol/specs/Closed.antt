@@ -1,29 +1,31 @@
 -- A closed world: the logs, and the audit of the words under their last vector.
-use Rattle.std.specs.Prelude.{ℕ, zero, suc, ◌+◌, ◌-◌, ◌==◌, ◌||◌, not, nat_lt, Bool, true, if◌then◌else◌, List, [], ◌∷◌}
-use Rattle.std.specs.Prelude.{◌++◌, take, slice_index, Option, Some, None}
-use Rattle.nam_verbs.specs.declared.now.Now.{Now}
-use Rattle.nam_verbs.specs.declared.now.Now.TheVariants.{At, Over}
-use Rattle.nam_verbs.specs.Verb.{found_by}
+use Rattle.std.specs.Prelude.{ℕ, zero, suc, ◌+◌, ◌-◌, ◌==◌, ◌||◌, not, nat_lt, Bool, true, if◌then◌else◌, List, []}
+use Rattle.std.specs.Prelude.{◌∷◌, ◌++◌, take, Option, Some, None}
 use Rattle.si_model.specs.declared.report.AuditRow.{AuditRow}
 use Rattle.si_model.specs.declared.report.Closed.{Closed}
+use Rattle.nam_verbs.specs.declared.now.Now.{Now}
+use Rattle.nam_verbs.specs.declared.now.Now.TheVariants.{At, Over}
+use Rattle.nam_verbs.specs.VerbAt.{found_at}
 use Rattle.nam_catalog.specs.declared.shape.Table.{Table}
 use Rattle.nam_catalog.specs.declared.shape.Shape.{Shape}
-use Rattle.nam_layout.specs.declared.field.Place.{Place}
-use Rattle.nam_layout.specs.Place.{place_of}
+use Rattle.nam_header.specs.Stamp.{is_locked}
+use Rattle.nam_layout.specs.declared.field.Field.{Field}
+use Rattle.nam_layout.specs.declared.field.Field.TheVariants.{Key, Header}
+use Rattle.nam_layout.specs.Rows.{row_of}
+use Rattle.nam_calls.specs.Memory.{memory}
 use Rattle.nam_calls.specs.declared.reading.Sight.{Sight}
 use Rattle.nam_calls.specs.declared.reading.ReadPlace.{ReadPlace}
 use Rattle.nam_calls.specs.declared.reading.ReadingEnd.{ReadingEnd}
 use Rattle.nam_calls.specs.declared.reading.ReadingEnd.TheVariants.{Got}
-use Rattle.nam_calls.specs.Stamps.{is_locked}
 use Rattle.nam_calls.specs.Reading.{sight_of, read_begin, read_verb, read_after, read_left}
 use Rattle.nam_protocol.specs.World.{World}
 use Rattle.nam_protocol.specs.Schedule.{logs_of}
 
 -- a read on words that nobody changes, of at most so many verbs
-abbrev pub read_alone : Sight → List ℕ → List ℕ → ℕ → Now ReadPlace ReadingEnd → Option (List ℕ)
+abbrev pub read_alone : Sight → List ℕ → (Field → ℕ) → ℕ → Now ReadPlace ReadingEnd → Option (List ℕ)
 read_alone sight seen words verbs (Over (Got value)) = value
 read_alone sight seen words (suc verbs) (At place) =
-    read_alone sight seen words verbs (read_after sight seen place (found_by words (read_verb sight place)))
+    read_alone sight seen words verbs (read_after sight seen place (found_at words (read_verb sight place)))
 read_alone sight seen words verbs end = None
 
 -- a present row is audited, and an absent one that is locked
@@ -49,12 +51,12 @@ module _ (shape : Shape) (words : List ℕ) where
   abbrev pub value_under : ℕ → ℕ → Option (List ℕ)
   value_under table position =
       let sight = sight_of shape table position in
-      read_alone sight vector words (read_left sight read_begin) (At read_begin)
+      read_alone sight vector (memory shape words) (read_left sight read_begin) (At read_begin)
 
-  abbrev pub audit_row : ℕ → Place → Option (List ℕ) → List AuditRow
-  audit_row table place value =
-      let locked = is_locked place.form (slice_index words place.header_at) in
-      let key = slice_index words place.key_at in
+  abbrev pub audit_row : ℕ → ℕ → Option (List ℕ) → List AuditRow
+  audit_row table row value =
+      let locked = is_locked shape.form (memory shape words (Header row)) in
+      let key = memory shape words (Key row) in
       if (key == 0) || not (is_audited value locked) then []
       else record { table = table; key = key - 1; value = value; locked = locked } ∷ []
 
@@ -62,7 +64,7 @@ module _ (shape : Shape) (words : List ℕ) where
   abbrev pub table_rows : ℕ → ℕ → ℕ → List AuditRow
   table_rows table position zero = []
   table_rows table position (suc rest) =
-      inserted_all (audit_row table (place_of shape table position) (value_under table position))
+      inserted_all (audit_row table (row_of shape.tables table position) (value_under table position))
       (table_rows table (position + 1) rest)
 
   abbrev pub tables_rows : ℕ → List Table → List AuditRow

@@ -1,19 +1,22 @@
 -- A commit: lock, check the slots, copy and install, publish, free the guards.
 use Rattle.std.specs.Prelude.{ℕ, ◌+◌, ◌==◌, if◌then◌else◌, List, [], ◌∷◌, ◌++◌, length, map, slice_index}
 use Rattle.std.specs.Prelude.{slice_index_or, Option, None, is_some, not}
-use Rattle.nam_verbs.specs.declared.verb.Verb.{Verb}
-use Rattle.nam_verbs.specs.declared.now.Now.{Now}
-use Rattle.nam_verbs.specs.declared.now.Now.TheVariants.{At, Over}
 use Rattle.si_model.specs.declared.row.Key.{Key}
 use Rattle.si_model.specs.declared.row.Item.{Item}
 use Rattle.si_model.specs.declared.log.Stamp.{Stamp}
 use Rattle.si_model.specs.declared.log.Lock.{Lock}
 use Rattle.si_model.specs.Rows.{key_at, same_key, item_key}
 use Rattle.si_model.specs.Evaluation.{unwritten}
+use Rattle.nam_verbs.specs.declared.now.Now.{Now}
+use Rattle.nam_verbs.specs.declared.now.Now.TheVariants.{At, Over}
+use Rattle.nam_verbs.specs.VerbAt.{VerbAt}
 use Rattle.nam_catalog.specs.declared.shape.Shape.{Shape}
 use Rattle.nam_catalog.specs.Greatest.{greatest_number}
+use Rattle.nam_header.specs.Stamp.{stamp_in, version_word}
 use Rattle.nam_layout.specs.declared.field.Place.{Place}
-use Rattle.nam_vector.specs.Publish.{write_of}
+use Rattle.nam_layout.specs.Place.{no_place}
+use Rattle.nam_layout.specs.declared.field.Field.{Field}
+use Rattle.nam_vector.specs.Publish.{publish_verb}
 use Rattle.nam_calls.specs.declared.record.InstallPlace.{InstallPlace}
 use Rattle.nam_calls.specs.declared.ring.SlotPlace.{SlotPlace}
 use Rattle.nam_calls.specs.declared.ring.SlotEnd.{SlotEnd}
@@ -21,6 +24,9 @@ use Rattle.nam_calls.specs.declared.ring.SlotEnd.TheVariants.{Free, NotMoved}
 use Rattle.nam_calls.specs.declared.ring.CopyPlace.{CopyPlace}
 use Rattle.nam_calls.specs.declared.lock.LockPlace.{LockPlace}
 use Rattle.nam_calls.specs.declared.lock.LockEnd.{LockEnd}
+use Rattle.nam_calls.specs.Record.{words_begin, words_verb, words_after, install_begin, install_verb, install_after}
+use Rattle.nam_calls.specs.Ring.{slot_begin, slot_verb, slot_after, copy_begin, copy_verb, copy_after}
+use Rattle.nam_calls.specs.Lock.{nth_place, lock_begin, lock_verb, lock_after, taken, unlock_verb, unlock_after}
 use Rattle.nam_calls.specs.declared.lock.LockEnd.TheVariants as lock_end
 use Rattle.nam_protocol.specs.declared.txn.Record.{Record}
 use Rattle.nam_protocol.specs.declared.txn.TxnState.{TxnState}
@@ -29,11 +35,6 @@ use Rattle.nam_protocol.specs.declared.txn.CommitPlace.TheVariants.{Locking, Che
 use Rattle.nam_protocol.specs.declared.txn.CommitPlace.TheVariants.{Installing, Publishing, Freeing}
 use Rattle.nam_protocol.specs.declared.txn.TxnPlace.TheVariants.{Committing}
 use Rattle.nam_protocol.specs.declared.txn.TxnAnswer.TheVariants.{Committed, ReadOnly, Spent, Locked, Newer, Full}
-use Rattle.nam_calls.specs.Stamps.{stamp_in, version_word}
-use Rattle.nam_calls.specs.Words.{no_place}
-use Rattle.nam_calls.specs.Record.{words_begin, words_verb, words_after, install_begin, install_verb, install_after}
-use Rattle.nam_calls.specs.Ring.{slot_begin, slot_verb, slot_after, copy_begin, copy_verb, copy_after}
-use Rattle.nam_calls.specs.Lock.{nth_place, lock_begin, lock_verb, lock_after, taken, unlock_verb, unlock_after}
 use Rattle.nam_protocol.specs.Txn.{Stepped, at, answered}
 
 -- 1. The records
@@ -53,8 +54,8 @@ records_of state = map (record_in state.claims) (commit_keys state)
 abbrev pub places : TxnState → List Place
 places state = map (λ r. r.place) state.records
 
-abbrev pub place_at : TxnState → ℕ → Place
-place_at state nth = nth_place (places state) nth
+abbrev pub record_place : TxnState → ℕ → Place
+record_place state nth = nth_place (places state) nth
 
 abbrev pub no_record : Record
 no_record = record { key = key_at 0 0; place = no_place }
@@ -79,7 +80,7 @@ abbrev pub own_stamp : TxnState → Stamp
 own_stamp state = record { thread = state.worker; number = state.last + 1 }
 
 abbrev pub new_header : TxnState → ℕ → ℕ
-new_header state nth = version_word (place_at state nth).form (own_stamp state) (not (is_some (value_at state nth)))
+new_header state nth = version_word (record_place state nth).form (own_stamp state) (not (is_some (value_at state nth)))
 
 -- 2. The commit is asked
 
@@ -92,16 +93,17 @@ ask_commit shape state =
 
 -- 3. The verb that stands
 
-abbrev pub commit_verb : TxnState → CommitPlace → Verb
+abbrev pub commit_verb : TxnState → CommitPlace → VerbAt Field
 commit_verb state (Locking at) = lock_verb state.worker (places state) at
-commit_verb state (Checking at) = slot_verb (place_at state (length state.counts)) at
+commit_verb state (Checking at) = slot_verb (record_place state (length state.counts)) at
 commit_verb state (Returning given full) = unlock_verb (places state) state.held given
-commit_verb state (Saving nth got) = words_verb (place_at state nth) got
+commit_verb state (Saving nth got) = words_verb (record_place state nth) got
 commit_verb state (Copying nth old at) =
-    copy_verb (place_at state nth) (slice_index state.counts nth) (slice_index state.held nth) old (own_stamp state) at
+    copy_verb (record_place state nth) (slice_index state.counts nth) (slice_index state.held nth) old
+    (own_stamp state) at
 commit_verb state (Installing nth at) =
-    install_verb (place_at state nth) (value_at state nth) (slice_index state.counts nth) (new_header state nth) at
-commit_verb state Publishing = write_of state.worker (state.last + 1)
+    install_verb (record_place state nth) (value_at state nth) (slice_index state.counts nth) (new_header state nth) at
+commit_verb state Publishing = publish_verb state.worker (state.last + 1)
 commit_verb state (Freeing nth) = unlock_verb (places state) state.held nth
 
 -- 4. A word is taken
@@ -151,11 +153,11 @@ next_free state nth =
 
 abbrev pub commit_after : TxnState → CommitPlace → ℕ → Stepped
 commit_after state (Locking at) found = on_lock state (lock_after (places state) state.seen at found)
-commit_after state (Checking at) found = on_slot state (slot_after (place_at state (length state.counts)) at found)
+commit_after state (Checking at) found = on_slot state (slot_after (record_place state (length state.counts)) at found)
 commit_after state (Returning given full) found = on_return state full (unlock_after (places state) given)
-commit_after state (Saving nth got) found = on_words state nth (words_after (place_at state nth) got found)
-commit_after state (Copying nth old at) found = on_copy state nth old (copy_after (place_at state nth) at)
-commit_after state (Installing nth at) found = on_install state nth (install_after (place_at state nth) at)
+commit_after state (Saving nth got) found = on_words state nth (words_after (record_place state nth) got found)
+commit_after state (Copying nth old at) found = on_copy state nth old (copy_after (record_place state nth) at)
+commit_after state (Installing nth at) found = on_install state nth (install_after (record_place state nth) at)
 commit_after state Publishing found = next_free state (length state.writes)
 commit_after state (Freeing nth) found = next_free state (nth + 1)
 

@@ -1,14 +1,15 @@
 -- A client that is stopped, and the log that a client leaves. A call that was stopped in its middle is listed.
 use Rattle.std.specs.Prelude.{ℕ, ◌+◌, true, if◌then◌else◌, Option, Some, None}
-use Rattle.nam_verbs.specs.declared.now.Now.{Now}
-use Rattle.nam_verbs.specs.declared.now.Now.TheVariants.{At}
 use Rattle.si_model.specs.declared.log.Stamp.{Stamp}
-use Rattle.si_model.specs.declared.log.Outcome.TheVariants as outcome
-use Rattle.si_model.specs.declared.log.MoveEnd.TheVariants as moved
 use Rattle.si_model.specs.declared.log.Event.TheVariants.{Moved, Collected, CollectCut, TidyCut, TailCut}
 use Rattle.si_model.specs.declared.log.Log.{Log}
+use Rattle.si_model.specs.declared.log.Outcome.TheVariants as outcome
+use Rattle.si_model.specs.declared.log.MoveEnd.TheVariants as moved
+use Rattle.nam_verbs.specs.declared.now.Now.{Now}
+use Rattle.nam_verbs.specs.declared.now.Now.TheVariants.{At}
 use Rattle.nam_catalog.specs.declared.shape.Shape.{Shape}
 use Rattle.nam_layout.specs.Place.{place_of, bucket_of}
+use Rattle.nam_calls.specs.Mover.{move_claimed}
 use Rattle.nam_protocol.specs.declared.txn.CommitPlace.TheVariants.{Freeing}
 use Rattle.nam_protocol.specs.declared.txn.TxnPlace.{TxnPlace}
 use Rattle.nam_protocol.specs.declared.txn.TxnPlace.TheVariants.{Committing}
@@ -18,7 +19,6 @@ use Rattle.nam_protocol.specs.declared.client.CallPlace.TheVariants.{Beginning, 
 use Rattle.nam_protocol.specs.declared.client.CallPlace.TheVariants.{Snapping, Collecting}
 use Rattle.nam_protocol.specs.declared.client.Open.{Open}
 use Rattle.nam_protocol.specs.declared.client.ClientState.{ClientState}
-use Rattle.nam_calls.specs.Mover.{move_claimed}
 use Rattle.nam_protocol.specs.Log.{unbegun}
 use Rattle.nam_protocol.specs.Telling.{told, ended, committed}
 

@@ -2,8 +2,12 @@
 -- begin.
 use Rattle.std.specs.Prelude.{◌≡◌, ℕ, ◌-◌, ◌<◌, ◌≤◌, false, List, Some}
 use Rattle.nam_verbs.specs.declared.now.Now.TheVariants.{At}
+use Rattle.nam_verbs.specs.Falls.{FallsTo}
 use Rattle.nam_catalog.specs.declared.shape.Shape.{Shape}
 use Rattle.nam_catalog.specs.Fits.{FitsLimits}
+use Rattle.nam_calls.specs.Words.{capacity_of}
+use Rattle.nam_calls.specs.Reading.{read_begin}
+use Rattle.nam_calls.specs.Fits.{IsTableOf}
 use Rattle.nam_protocol.specs.declared.txn.TxnState.{TxnState}
 use Rattle.nam_protocol.specs.declared.txn.TxnCall.{TxnCall}
 use Rattle.nam_protocol.specs.declared.txn.TxnPlace.{TxnPlace}
@@ -12,14 +16,11 @@ use Rattle.nam_protocol.specs.declared.scan.ScanPlace.TheVariants.{ScanRead}
 use Rattle.nam_protocol.specs.declared.client.Call.{Call}
 use Rattle.nam_protocol.specs.declared.client.CallPlace.{CallPlace}
 use Rattle.nam_protocol.specs.declared.client.ClientState.{ClientState}
-use Rattle.nam_calls.specs.Words.{capacity_of}
-use Rattle.nam_calls.specs.Reading.{read_begin}
 use Rattle.nam_protocol.specs.TxnCalls.{txn_ask, txn_after}
 use Rattle.nam_protocol.specs.Scan.{scan_begin, scan_skip, scan_read, scan_after, scan_left, position_of}
 use Rattle.nam_protocol.specs.Scan.{positions_left}
 use Rattle.nam_protocol.specs.Client.{client_ask, client_after}
 use Rattle.nam_protocol.specs.Bound.{txn_left, scan_bound}
-use Rattle.nam_calls.specs.Fits.{FallsTo, IsTableOf}
 use Rattle.nam_protocol.specs.TxnFits.{StateFits, TxnPlaceFits, TxnFalls, TxnBegins, TxnCallFits, txn_call_bound}
 use Rattle.nam_protocol.specs.TxnFits.{ScanFits, ScanEnds, after_scan}
 use Rattle.nam_protocol.specs.Left.{client_left}

@@ -2,16 +2,21 @@
 -- jobs.
 use Rattle.std.specs.Prelude.{ℕ, ◌+◌, ◌-◌, ◌*◌, if◌then◌else◌, true, false, List, [], ◌∷◌, length, drop, Option, Some}
 use Rattle.std.specs.Prelude.{None, is_some, slice_get}
-use Rattle.nam_verbs.specs.declared.now.Now.{Now}
-use Rattle.nam_verbs.specs.declared.now.Now.TheVariants.{At}
 use Rattle.si_model.specs.declared.row.Key.{Key}
 use Rattle.si_model.specs.declared.op.Op.{Op}
 use Rattle.si_model.specs.declared.op.Op.TheVariants.{Scan}
 use Rattle.si_model.specs.declared.op.Policy.{Policy}
 use Rattle.si_model.specs.Evaluation.{key_written, written_keys, guard_keys}
+use Rattle.nam_verbs.specs.declared.now.Now.{Now}
+use Rattle.nam_verbs.specs.declared.now.Now.TheVariants.{At}
 use Rattle.nam_catalog.specs.declared.shape.Shape.{Shape}
-use Rattle.nam_layout.specs.Place.{place_of, cells_of}
-use Rattle.nam_vector.specs.SnapPlace as snap
+use Rattle.nam_layout.specs.Place.{place_of, cells_of, cells_by}
+use Rattle.nam_vector.specs.Snap.{snap_left}
+use Rattle.nam_calls.specs.Words.{capacity_of, path_of}
+use Rattle.nam_calls.specs.Index.{find_left}
+use Rattle.nam_calls.specs.Mover.{move_left}
+use Rattle.nam_calls.specs.Horizon.{collect_left}
+use Rattle.nam_calls.specs.Left.{move_most, collect_most}
 use Rattle.nam_protocol.specs.declared.txn.TxnPlace.{TxnPlace}
 use Rattle.nam_protocol.specs.declared.client.Answer.{Answer}
 use Rattle.nam_protocol.specs.declared.client.CallPlace.{CallPlace}
@@ -24,13 +29,8 @@ use Rattle.nam_protocol.specs.declared.session.DriverPlace.{DriverPlace}
 use Rattle.nam_protocol.specs.declared.session.DriverPlace.TheVariants.{ToBegin, ToAsk, ToTidy, ToCollect}
 use Rattle.nam_protocol.specs.declared.session.DriverState.{DriverState}
 use Rattle.nam_protocol.specs.declared.session.SessionState.{SessionState}
-use Rattle.nam_calls.specs.Words.{capacity_of, cells_by}
-use Rattle.nam_calls.specs.Index.{find_left}
-use Rattle.nam_calls.specs.Mover.{move_left}
-use Rattle.nam_calls.specs.Horizon.{collect_left}
 use Rattle.nam_protocol.specs.Scan.{scan_left}
 use Rattle.nam_protocol.specs.Bound.{txn_left, ops_bound, writes_bound, verb_bound, tidy_bound, collect_bound}
-use Rattle.nam_calls.specs.Left.{move_most, collect_most}
 
 module _ (shape : Shape) where
   -- 1. What is to come of a client's call
@@ -40,13 +40,13 @@ module _ (shape : Shape) where
   open_left (Some attempt) at = txn_left shape attempt.state at
 
   abbrev pub call_left : ClientState → CallPlace → ℕ
-  call_left client (Beginning txn nth at) = snap.left_at shape.workers at
+  call_left client (Beginning txn nth at) = snap_left shape.workers at
   call_left client (InTxn at) = open_left client.txn at
   call_left client (Scanning table low high at) = scan_left shape table at
-  call_left client (Seeking table key passed) = find_left shape table passed + move_most shape table
+  call_left client (Seeking table key passed) = find_left (path_of shape table key) passed + move_most shape table
   call_left client (Moving table key position at) =
       let place = place_of shape table position in move_left place (cells_by shape place) at
-  call_left client (Snapping bucket at) = snap.left_at shape.workers at + collect_most shape
+  call_left client (Snapping bucket at) = snap_left shape.workers at + collect_most shape
   call_left client (Collecting bucket prefix seen at) = collect_left (cells_of shape bucket) shape.workers at
 
   abbrev pub left_of : ClientState → Option (Now CallPlace Answer) → ℕ

@@ -20,7 +20,8 @@ pub mod TxnFits
 pub mod ClientFits
 pub mod FallsLaw
 pub mod AttemptLaw
-pub mod VerbFields
-pub mod AddressFact
+pub mod FieldLaw
+pub mod OpeningLaw
+pub mod StepLaw
 pub mod Grows
 pub mod ProgramCommit

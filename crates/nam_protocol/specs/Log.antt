@@ -6,8 +6,8 @@ use Rattle.si_model.specs.declared.log.Outcome.{Outcome}
 use Rattle.si_model.specs.declared.log.Event.{Event}
 use Rattle.si_model.specs.declared.log.Event.TheVariants.{Tried}
 use Rattle.si_model.specs.declared.log.Log.{Log}
+use Rattle.nam_calls.specs.Words.{wrapped}
 use Rattle.nam_protocol.specs.declared.client.Open.{Open}
-use Rattle.nam_calls.specs.Stamps.{wrapped}
 
 abbrev pub no_log : Log
 no_log = record { events = []; reads = []; locks = []; writes = []; snaps = [] }

@@ -6,6 +6,9 @@ use Rattle.si_model.specs.declared.op.Op.{Op}
 use Rattle.si_model.specs.declared.op.Op.TheVariants.{Get, Put, Add, Del, Need, Guard, Scan}
 use Rattle.si_model.specs.Rows.{Rows, key_at, overlay}
 use Rattle.si_model.specs.Evaluation.{found, field_of, changed, key_read, key_claimed}
+use Rattle.nam_catalog.specs.declared.shape.Shape.{Shape}
+use Rattle.nam_calls.specs.Words.{path_of}
+use Rattle.nam_calls.specs.declared.index.Path.{Path}
 use Rattle.nam_protocol.specs.declared.txn.TxnAnswer.{TxnAnswer}
 use Rattle.nam_protocol.specs.declared.txn.TxnAnswer.TheVariants.{Value, Written, Added, Met}
 
@@ -18,6 +21,10 @@ key_of (Del t k) = key_at t k
 key_of (Need t k f least) = key_at t k
 key_of (Guard t k) = key_at t k
 key_of (Scan t low high) = key_at t low
+
+-- the path of its key
+abbrev pub op_path : Shape → Op → Path
+op_path shape op = path_of shape (key_of op).table (key_of op).key
 
 -- does it read its key, and does it write or guard it
 abbrev pub reads : Op → Bool

@@ -1,32 +1,36 @@
 -- The commit as a straight program, to be compared with the order of verbs.
 use Rattle.std.specs.Prelude.{ℕ, zero, suc, ◌+◌, ◌-◌, ◌<◌, ◌==◌, not, if◌then◌else◌, List, [], ◌∷◌, ◌++◌, length}
 use Rattle.std.specs.Prelude.{Option, Some, None, slice_index}
-use Rattle.nam_verbs.specs.declared.verb.Verb.{Verb}
 use Rattle.nam_verbs.specs.declared.now.Now.{Now}
 use Rattle.nam_verbs.specs.declared.now.Now.TheVariants.{At, Over}
+use Rattle.nam_verbs.specs.VerbAt.{VerbAt}
 use Rattle.nam_catalog.specs.declared.shape.Shape.{Shape}
 use Rattle.nam_catalog.specs.Greatest.{greatest_number}
+use Rattle.nam_header.specs.Stamp.{is_locked, is_moved, sees, with_lock, stamp_word, mark}
 use Rattle.nam_layout.specs.declared.field.Place.{Place}
+use Rattle.nam_layout.specs.Place.{slot_of}
+use Rattle.nam_layout.specs.declared.field.Field.{Field}
+use Rattle.nam_layout.specs.declared.field.Field.TheVariants as field
 use Rattle.nam_calls.specs.declared.lock.LockEnd.{LockEnd}
+use Rattle.nam_calls.specs.Record.{word_in}
+use Rattle.nam_calls.specs.Lock.{nth_place, loss_of}
+use Rattle.nam_calls.specs.Program.{Prog, Ret, ◌>>=◌, ◌>>◌, read, exchange, write, words, write_words, IsTheProgram}
+use Rattle.nam_calls.specs.Program.{standing}
+use Rattle.nam_calls.specs.Words.{wrapped}
 use Rattle.nam_calls.specs.declared.lock.LockEnd.TheVariants as lock_end
 use Rattle.nam_protocol.specs.declared.txn.TxnState.{TxnState}
 use Rattle.nam_protocol.specs.declared.txn.TxnPlace.{TxnPlace}
 use Rattle.nam_protocol.specs.declared.txn.TxnAnswer.{TxnAnswer}
 use Rattle.nam_protocol.specs.declared.txn.TxnAnswer.TheVariants.{ReadOnly, Spent, Committed, Locked, Newer, Full}
-use Rattle.nam_calls.specs.Stamps.{sees, is_locked, is_moved, with_lock, stamp_word, mark, wrapped}
-use Rattle.nam_calls.specs.Words.{word_at, slot_at, slot_end_at, slot_word_at, slot_of}
-use Rattle.nam_calls.specs.Record.{word_in}
-use Rattle.nam_calls.specs.Lock.{nth_place, loss_of}
 use Rattle.nam_protocol.specs.Txn.{Stepped}
-use Rattle.nam_protocol.specs.Commit.{places, place_at, value_at, lock_at, own_stamp, new_header, records_of}
+use Rattle.nam_protocol.specs.Commit.{places, record_place, value_at, lock_at, own_stamp, new_header, records_of}
 use Rattle.nam_protocol.specs.Commit.{ask_commit}
 use Rattle.nam_protocol.specs.TxnCalls.{txn_verb, txn_after}
-use Rattle.nam_calls.specs.Program.{Prog, Ret, ◌>>=◌, ◌>>◌, read, exchange, write, words, write_words, IsTheProgram}
-use Rattle.nam_calls.specs.Program.{standing}
 
 -- the headers of so many records, from the nth on, are written back
 abbrev pub write_back : List Place → List ℕ → ℕ → ℕ → Prog (Unit {0})
-write_back places headers count nth = write_words (λ k. (nth_place places k).header_at) (slice_index headers) count nth
+write_back places headers count nth =
+    write_words (λ k. field.Header (nth_place places k).row) (slice_index headers) count nth
 
 -- 1. The locks: of so many records beyond those held
 
@@ -40,10 +44,10 @@ module _ (worker : ℕ) (places : List Place) (seen : List ℕ) where
   lock_records zero held = Ret (lock_end.Held held)
   lock_records (suc rest) held =
       let place = nth_place places (length held) in
-      read place.header_at >>= λ header.
+      read (field.Header place.row) >>= λ header.
       if is_locked place.form header then give_all_back held header else
       if not (sees place.form seen header) then give_all_back held header else
-      exchange place.header_at header (with_lock place.form worker header) >>= λ found.
+      exchange (field.Header place.row) header (with_lock place.form worker header) >>= λ found.
       if found == header then lock_records rest (held ++ header ∷ []) else give_all_back held found
 
 -- how the look at the slots ended: all are free, and these are the counts; or the nth record's slot has this header
@@ -56,9 +60,9 @@ module _ (state : TxnState) where
   abbrev pub check_slots : ℕ → List ℕ → Prog Checked
   check_slots zero counts = Ret (AllFree counts)
   check_slots (suc rest) counts =
-      let place = place_at state (length counts) in
-      read place.count_at >>= λ count.
-      read (slot_at place (slot_of place count)) >>= λ header.
+      let place = record_place state (length counts) in
+      read (field.Count place.row) >>= λ count.
+      read (field.SlotHeader place.row (slot_of place count)) >>= λ header.
       if is_moved place.form header then check_slots rest (counts ++ count ∷ [])
       else Ret (NotFree (length counts) header)
 
@@ -71,23 +75,23 @@ module _ (state : TxnState) where
   abbrev pub replace_versions : List ℕ → List ℕ → Prog TxnAnswer → ℕ → ℕ → Prog TxnAnswer
   replace_versions held counts after zero nth = after
   replace_versions held counts after (suc rest) nth = do
-    let place = place_at state nth
+    let place = record_place state nth
     let count = slice_index counts nth
     let slot = slot_of place count
-    old ← words (word_at place) place.width []
-    write (slot_at place slot) mark
-    write (slot_end_at place slot) (stamp_word place.form (own_stamp state))
-    write_words (slot_word_at place slot) (slice_index old) place.width 0
-    write (slot_at place slot) (slice_index held nth)
-    write_words (word_at place) (word_in (value_at state nth)) (data_words place (value_at state nth)) 0
-    write place.count_at (wrapped (count + 1))
-    write place.header_at (new_header state nth)
+    old ← words (field.Word place.row) place.width []
+    write (field.SlotHeader place.row slot) mark
+    write (field.SlotEnd place.row slot) (stamp_word place.form (own_stamp state))
+    write_words (field.SlotWord place.row slot) (slice_index old) place.width 0
+    write (field.SlotHeader place.row slot) (slice_index held nth)
+    write_words (field.Word place.row) (word_in (value_at state nth)) (data_words place (value_at state nth)) 0
+    write (field.Count place.row) (wrapped (count + 1))
+    write (field.Header place.row) (new_header state nth)
     replace_versions held counts after rest (nth + 1)
 
   -- 4 and 5. The worker's entry, and the guards' headers
   abbrev pub publish : List ℕ → Prog TxnAnswer
   publish held = do
-    write (state.worker - 1) (state.last + 1)
+    write (field.Entry state.worker) (state.last + 1)
     write_back (places state) held (length state.records - length state.writes) (length state.writes)
     Ret (Committed (state.last + 1))
 
@@ -117,7 +121,7 @@ module _ (shape : Shape) where
       commit_records (committing state)
 
   -- where a transaction's call stands, and the transaction after a word
-  abbrev pub txn_stands : Stepped → Now Verb TxnAnswer
+  abbrev pub txn_stands : Stepped → Now (VerbAt Field) TxnAnswer
   txn_stands step = standing (txn_verb shape step.state) step.call
 
   abbrev pub call_taken : Stepped → Now TxnPlace TxnAnswer → ℕ → Stepped
@@ -130,5 +134,5 @@ module _ (shape : Shape) where
 -- where each written key has a position with words, the commit does what its program says
 abbrev pub CommitIsProgram : Type 0
 CommitIsProgram = (shape : Shape) (state : TxnState)
-    → ((nth : ℕ) → nth < length state.writes → 0 < (place_at (committing state) nth).width)
+    → ((nth : ℕ) → nth < length state.writes → 0 < (record_place (committing state) nth).width)
     → IsTheProgram (txn_stands shape) (txn_takes shape) (ask_commit shape state) (commit_program shape state)

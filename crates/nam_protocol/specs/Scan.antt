@@ -1,21 +1,22 @@
 -- Scanning a table position by position. At a key of the range the caller reads there or leaves the position.
 use Rattle.std.specs.Prelude.{ℕ, ◌+◌, ◌-◌, ◌*◌, ◌==◌, ◌&&◌, nat_le, Bool, if◌then◌else◌, List}
-use Rattle.nam_verbs.specs.declared.verb.Verb.{Verb}
-use Rattle.nam_verbs.specs.declared.verb.Verb.TheVariants.{Read}
+use Rattle.si_model.specs.Rows.{key_at, item_at}
 use Rattle.nam_verbs.specs.declared.now.Now.{Now}
 use Rattle.nam_verbs.specs.declared.now.Now.TheVariants.{At, Over}
-use Rattle.si_model.specs.Rows.{key_at, item_at}
+use Rattle.nam_verbs.specs.VerbAt.{VerbAt, ReadAt}
 use Rattle.nam_catalog.specs.declared.shape.Shape.{Shape}
-use Rattle.nam_layout.specs.Place.{place_of}
+use Rattle.nam_layout.specs.Rows.{row_of}
+use Rattle.nam_layout.specs.declared.field.Field.{Field}
+use Rattle.nam_layout.specs.declared.field.Field.TheVariants as field
 use Rattle.nam_calls.specs.declared.reading.ReadPlace.{ReadPlace}
 use Rattle.nam_calls.specs.declared.reading.ReadingEnd.{ReadingEnd}
+use Rattle.nam_calls.specs.Words.{capacity_of}
+use Rattle.nam_calls.specs.Reading.{sight_of, read_begin, read_verb, read_after, read_left, read_most}
 use Rattle.nam_calls.specs.declared.reading.ReadingEnd.TheVariants as read_end
 use Rattle.nam_protocol.specs.declared.scan.ScanPlace.{ScanPlace}
 use Rattle.nam_protocol.specs.declared.scan.ScanPlace.TheVariants.{ScanKey, ScanRead}
 use Rattle.nam_protocol.specs.declared.scan.ScanAnswer.{ScanAnswer}
 use Rattle.nam_protocol.specs.declared.scan.ScanAnswer.TheVariants.{Key, Row, Done, TooOld, Astray}
-use Rattle.nam_calls.specs.Words.{capacity_of}
-use Rattle.nam_calls.specs.Reading.{sight_of, read_begin, read_verb, read_after, read_left, read_most}
 
 -- does a key word name a key from low to high
 abbrev pub in_range : ℕ → ℕ → ℕ → Bool
@@ -44,8 +45,8 @@ module _ (shape : Shape) (table : ℕ) where
   abbrev pub scan_skip : ℕ → Now ScanPlace ScanAnswer
   scan_skip position = if position + 1 == capacity_of shape table then Over Done else At (ScanKey (position + 1))
 
-  abbrev pub scan_verb : ScanPlace → Verb
-  scan_verb (ScanKey position) = Read (place_of shape table position).key_at
+  abbrev pub scan_verb : ScanPlace → VerbAt Field
+  scan_verb (ScanKey position) = ReadAt (field.Key (row_of shape.tables table position))
   scan_verb (ScanRead position key at) = read_verb (sight_of shape table position) at
 
   abbrev pub scan_after : ℕ → ℕ → List ℕ → ScanPlace → ℕ → Now ScanPlace ScanAnswer

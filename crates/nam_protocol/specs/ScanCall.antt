@@ -1,18 +1,15 @@
 -- A client's scan: it gathers the present rows of the range, and lists them in order of keys once it is done.
 use Rattle.std.specs.Prelude.{ℕ, nat_lt, if◌then◌else◌, List, [], ◌∷◌, ◌++◌, map, length, Option, Some, None}
-use Rattle.nam_verbs.specs.declared.now.Now.{Now}
-use Rattle.nam_verbs.specs.declared.now.Now.TheVariants.{At, Over}
 use Rattle.si_model.specs.declared.row.Item.{Item}
 use Rattle.si_model.specs.declared.log.Outcome.{Outcome}
-use Rattle.si_model.specs.declared.log.Outcome.TheVariants as outcome
 use Rattle.si_model.specs.Rows.{key_at, item_at, writes_key}
+use Rattle.si_model.specs.declared.log.Outcome.TheVariants as outcome
+use Rattle.nam_verbs.specs.declared.now.Now.{Now}
+use Rattle.nam_verbs.specs.declared.now.Now.TheVariants.{At, Over}
 use Rattle.nam_catalog.specs.declared.shape.Shape.{Shape}
 use Rattle.nam_protocol.specs.declared.txn.TxnAnswer.{TxnAnswer}
-use Rattle.nam_protocol.specs.declared.txn.TxnAnswer.TheVariants as txn_answer
 use Rattle.nam_protocol.specs.declared.scan.ScanPlace.{ScanPlace}
 use Rattle.nam_protocol.specs.declared.scan.ScanAnswer.{ScanAnswer}
-use Rattle.nam_protocol.specs.declared.scan.ScanAnswer.TheVariants as scan_answer
-use Rattle.nam_protocol.specs.declared.client.Answer.TheVariants as client_answer
 use Rattle.nam_protocol.specs.declared.client.CallPlace.TheVariants.{Scanning}
 use Rattle.nam_protocol.specs.declared.client.Open.{Open}
 use Rattle.nam_protocol.specs.declared.client.Scanned.{Scanned}
@@ -20,6 +17,9 @@ use Rattle.nam_protocol.specs.declared.client.ClientState.{ClientState}
 use Rattle.nam_protocol.specs.Operations.{own_value}
 use Rattle.nam_protocol.specs.Scan.{scan_skip, scan_read}
 use Rattle.nam_protocol.specs.Telling.{go, answered, ended, read_listed}
+use Rattle.nam_protocol.specs.declared.txn.TxnAnswer.TheVariants as txn_answer
+use Rattle.nam_protocol.specs.declared.scan.ScanAnswer.TheVariants as scan_answer
+use Rattle.nam_protocol.specs.declared.client.Answer.TheVariants as client_answer
 
 -- 1. The rows that were found
 

@@ -1,12 +1,13 @@
 -- A session: a client that is asked its driver's calls, one after another.
 use Rattle.std.specs.Prelude.{ℕ, zero, suc, ◌+◌, Bool, if◌then◌else◌, List, [], ◌∷◌, length, Option, Some, None}
 use Rattle.std.specs.Prelude.{is_some, not}
-use Rattle.nam_verbs.specs.declared.verb.Verb.{Verb}
-use Rattle.nam_verbs.specs.declared.now.Now.{Now}
-use Rattle.nam_verbs.specs.declared.now.Now.TheVariants.{Over}
 use Rattle.si_model.specs.declared.op.Policy.{Policy}
 use Rattle.si_model.specs.declared.log.Log.{Log}
+use Rattle.nam_verbs.specs.declared.now.Now.{Now}
+use Rattle.nam_verbs.specs.declared.now.Now.TheVariants.{Over}
+use Rattle.nam_verbs.specs.VerbAt.{VerbAt}
 use Rattle.nam_catalog.specs.declared.shape.Shape.{Shape}
+use Rattle.nam_layout.specs.declared.field.Field.{Field}
 use Rattle.nam_protocol.specs.declared.client.Answer.{Answer}
 use Rattle.nam_protocol.specs.declared.client.CallPlace.{CallPlace}
 use Rattle.nam_protocol.specs.declared.client.ClientState.{ClientState}
@@ -48,7 +49,7 @@ module _ (shape : Shape) where
   abbrev pub new_session : ClientState → List Job → Policy → SessionState
   new_session client jobs policy = settled record { client = client; driver = new_driver policy; jobs = jobs }
 
-  abbrev pub session_verb : SessionState → Option Verb
+  abbrev pub session_verb : SessionState → Option (VerbAt Field)
   session_verb session = client_verb shape session.client
 
   abbrev pub session_after : SessionState → ℕ → SessionState

@@ -1,18 +1,16 @@
 -- A client, what it lists, and what follows each step of its transaction.
 use Rattle.std.specs.Prelude.{ℕ, ◌+◌, false, List, [], ◌∷◌, length, drop, Option, Some, None}
-use Rattle.nam_verbs.specs.declared.now.Now.{Now}
-use Rattle.nam_verbs.specs.declared.now.Now.TheVariants.{At, Over}
 use Rattle.si_model.specs.declared.row.Item.{Item}
 use Rattle.si_model.specs.declared.log.Lock.{Lock}
 use Rattle.si_model.specs.declared.log.Outcome.{Outcome}
-use Rattle.si_model.specs.declared.log.Outcome.TheVariants as outcome
 use Rattle.si_model.specs.declared.log.Event.{Event}
+use Rattle.si_model.specs.declared.log.Outcome.TheVariants as outcome
+use Rattle.nam_verbs.specs.declared.now.Now.{Now}
+use Rattle.nam_verbs.specs.declared.now.Now.TheVariants.{At, Over}
 use Rattle.nam_protocol.specs.declared.txn.TxnState.{TxnState}
 use Rattle.nam_protocol.specs.declared.txn.TxnPlace.{TxnPlace}
 use Rattle.nam_protocol.specs.declared.txn.TxnAnswer.{TxnAnswer}
-use Rattle.nam_protocol.specs.declared.txn.TxnAnswer.TheVariants as txn_answer
 use Rattle.nam_protocol.specs.declared.client.Answer.{Answer}
-use Rattle.nam_protocol.specs.declared.client.Answer.TheVariants as client_answer
 use Rattle.nam_protocol.specs.declared.client.CallPlace.{CallPlace}
 use Rattle.nam_protocol.specs.declared.client.CallPlace.TheVariants.{InTxn}
 use Rattle.nam_protocol.specs.declared.client.Open.{Open}
@@ -21,6 +19,8 @@ use Rattle.nam_protocol.specs.Txn.{Stepped, new_txn}
 use Rattle.nam_protocol.specs.Commit.{lock_at}
 use Rattle.nam_protocol.specs.TxnCalls.{taken_now}
 use Rattle.nam_protocol.specs.Log.{no_log, with_event, with_reads, with_locks, with_writes, attempt_of}
+use Rattle.nam_protocol.specs.declared.txn.TxnAnswer.TheVariants as txn_answer
+use Rattle.nam_protocol.specs.declared.client.Answer.TheVariants as client_answer
 
 abbrev pub new_client : ℕ → ℕ → ClientState
 new_client worker start = record {

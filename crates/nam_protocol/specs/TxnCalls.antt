@@ -1,19 +1,20 @@
 -- The calls of a transaction: what is asked, the verb that stands, and what follows a found word.
 use Rattle.std.specs.Prelude.{ℕ, List, []}
-use Rattle.nam_verbs.specs.declared.verb.Verb.{Verb}
+use Rattle.si_model.specs.declared.op.Op.TheVariants as op
 use Rattle.nam_verbs.specs.declared.now.Now.{Now}
 use Rattle.nam_verbs.specs.declared.now.Now.TheVariants.{At, Over}
-use Rattle.si_model.specs.declared.op.Op.TheVariants as op
+use Rattle.nam_verbs.specs.VerbAt.{VerbAt}
 use Rattle.nam_catalog.specs.declared.shape.Shape.{Shape}
+use Rattle.nam_layout.specs.declared.field.Field.{Field}
+use Rattle.nam_calls.specs.Index.{find_verb, find_after, claim_key_verb, claim_key_after}
+use Rattle.nam_calls.specs.Reading.{sight_of, read_verb, read_after}
 use Rattle.nam_protocol.specs.declared.txn.TxnCall.{TxnCall}
 use Rattle.nam_protocol.specs.declared.txn.TxnCall.TheVariants.{Get, Put, Add, Del, Need, Guard, Commit}
 use Rattle.nam_protocol.specs.declared.txn.TxnState.{TxnState}
 use Rattle.nam_protocol.specs.declared.txn.TxnPlace.{TxnPlace}
 use Rattle.nam_protocol.specs.declared.txn.TxnPlace.TheVariants.{Finding, Reading, Claiming, Committing}
 use Rattle.nam_protocol.specs.declared.txn.TxnAnswer.{TxnAnswer}
-use Rattle.nam_calls.specs.Index.{find_verb, find_after, claim_key_verb, claim_key_after}
-use Rattle.nam_calls.specs.Reading.{sight_of, read_verb, read_after}
-use Rattle.nam_protocol.specs.Operations.{key_of}
+use Rattle.nam_protocol.specs.Operations.{key_of, op_path}
 use Rattle.nam_protocol.specs.Txn.{Stepped, ask_op, on_find, on_read, on_claim}
 use Rattle.nam_protocol.specs.Commit.{ask_commit, commit_verb, commit_after, locks_taken}
 
@@ -27,19 +28,19 @@ module _ (shape : Shape) where
   txn_ask state (Guard t k) = ask_op shape state (op.Guard t k)
   txn_ask state Commit = ask_commit shape state
 
-  abbrev pub txn_verb : TxnState → TxnPlace → Verb
-  txn_verb state (Finding op passed) = find_verb shape (key_of op).table (key_of op).key passed
+  abbrev pub txn_verb : TxnState → TxnPlace → VerbAt Field
+  txn_verb state (Finding op passed) = find_verb (op_path shape op) passed
   txn_verb state (Reading op position at) = read_verb (sight_of shape (key_of op).table position) at
-  txn_verb state (Claiming op at) = claim_key_verb shape (key_of op).table (key_of op).key at
+  txn_verb state (Claiming op at) = claim_key_verb (op_path shape op) at
   txn_verb state (Committing at) = commit_verb state at
 
   abbrev pub txn_after : TxnState → TxnPlace → ℕ → Stepped
   txn_after state (Finding op passed) found =
-      on_find shape state op (find_after shape (key_of op).table (key_of op).key passed found)
+      on_find shape state op (find_after (op_path shape op) passed found)
   txn_after state (Reading op position at) found =
       on_read shape state op position (read_after (sight_of shape (key_of op).table position) state.seen at found)
   txn_after state (Claiming op at) found =
-      on_claim shape state op (claim_key_after shape (key_of op).table (key_of op).key at found)
+      on_claim shape state op (claim_key_after (op_path shape op) at found)
   txn_after state (Committing at) found = commit_after state at found
 
 -- the headers of the locks that the transaction has taken so far

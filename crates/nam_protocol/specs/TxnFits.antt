@@ -1,24 +1,28 @@
 -- What holds of a transaction and of the places of its calls, of a scan, and of a client.
-use Rattle.std.specs.Prelude.{◌≡◌, ℕ, ◌+◌, ◌-◌, ◌*◌, ◌<◌, ◌≤◌, Bool, true, false, if◌then◌else◌, List, [], ◌∷◌, length}
-use Rattle.std.specs.Prelude.{map}
+use Rattle.std.specs.Prelude.{◌≡◌, ℕ, ◌+◌, ◌-◌, ◌*◌, ◌<◌, ◌≤◌, Bool, true, false, if◌then◌else◌, List, [], ◌∷◌}
+use Rattle.std.specs.Prelude.{length, map}
 use Rattle.std.specs.List.{AllByRecursion}
-use Rattle.nam_verbs.specs.declared.now.Now.{Now}
-use Rattle.nam_verbs.specs.declared.now.Now.TheVariants.{At, Over}
 use Rattle.si_model.specs.declared.row.Key.{Key}
 use Rattle.si_model.specs.declared.row.Item.{Item}
 use Rattle.si_model.specs.declared.op.Op.{Op}
-use Rattle.si_model.specs.declared.op.Op.TheVariants as op
 use Rattle.si_model.specs.Rows.{same_key, item_key}
 use Rattle.si_model.specs.Evaluation.{OpFits, unwritten}
 use Rattle.si_model.specs.EvaluationLaws.{IsWide, is_scan}
+use Rattle.si_model.specs.declared.op.Op.TheVariants as op
+use Rattle.nam_verbs.specs.declared.now.Now.{Now}
+use Rattle.nam_verbs.specs.declared.now.Now.TheVariants.{At, Over}
+use Rattle.nam_verbs.specs.Falls.{Falls, Any}
 use Rattle.nam_catalog.specs.declared.shape.Shape.{Shape}
 use Rattle.nam_catalog.specs.Tables.{widths_of}
 use Rattle.nam_layout.specs.RowLaw.{IsPosition}
 use Rattle.nam_layout.specs.Place.{place_of}
+use Rattle.nam_calls.specs.Words.{width_of, capacity_of}
+use Rattle.nam_calls.specs.Reading.{sight_of, read_begin}
+use Rattle.nam_calls.specs.Fits.{HasWidth, IsOf, FindFits, ClaimKeyFits, ReadFits, WordsFit, WordsEnd, CopyFits}
+use Rattle.nam_calls.specs.Fits.{InstallFits, LockFits}
 use Rattle.nam_protocol.specs.declared.scan.ScanPlace.{ScanPlace}
 use Rattle.nam_protocol.specs.declared.scan.ScanPlace.TheVariants.{ScanKey, ScanRead}
 use Rattle.nam_protocol.specs.declared.scan.ScanAnswer.{ScanAnswer}
-use Rattle.nam_protocol.specs.declared.scan.ScanAnswer.TheVariants as scan
 use Rattle.nam_protocol.specs.declared.txn.Record.{Record}
 use Rattle.nam_protocol.specs.declared.txn.TxnState.{TxnState}
 use Rattle.nam_protocol.specs.declared.txn.TxnCall.{TxnCall}
@@ -29,14 +33,11 @@ use Rattle.nam_protocol.specs.declared.txn.CommitPlace.{CommitPlace}
 use Rattle.nam_protocol.specs.declared.txn.CommitPlace.TheVariants.{Locking, Checking, Returning, Saving, Copying}
 use Rattle.nam_protocol.specs.declared.txn.CommitPlace.TheVariants.{Installing, Publishing, Freeing}
 use Rattle.nam_protocol.specs.Txn.{Stepped}
-use Rattle.nam_calls.specs.Words.{width_of, capacity_of}
-use Rattle.nam_calls.specs.Reading.{sight_of, read_begin}
 use Rattle.nam_protocol.specs.Operations.{key_of, value_in}
-use Rattle.nam_protocol.specs.Commit.{records_of, place_at}
+use Rattle.nam_protocol.specs.Commit.{records_of, record_place}
 use Rattle.nam_protocol.specs.Scan.{positions_left, scan_left}
 use Rattle.nam_protocol.specs.Bound.{txn_left, op_bound, writes_bound}
-use Rattle.nam_calls.specs.Fits.{Falls, Any, HasWidth, IsOf, FindFits, ClaimKeyFits, ReadFits, WordsFit, WordsEnd}
-use Rattle.nam_calls.specs.Fits.{CopyFits, InstallFits, LockFits}
+use Rattle.nam_protocol.specs.declared.scan.ScanAnswer.TheVariants as scan
 
 -- a call begins at a place that fits, with at most n verbs to come, or takes none
 abbrev pub Begins : {P E : Type 0} → (P → Type 0) → (E → Type 0) → (P → ℕ) → ℕ → Now P E → Type 0
@@ -78,15 +79,15 @@ module _ (shape : Shape) where
   CommitPlaceFits state (Saving nth got) =
       (length state.held ≡ length state.records) × (length state.counts ≡ length state.writes)
       × (nth < length state.writes)
-      × WordsFit (place_at state nth) got
+      × WordsFit (record_place state nth) got
   CommitPlaceFits state (Copying nth old at) =
       (length state.held ≡ length state.records) × (length state.counts ≡ length state.writes)
       × (nth < length state.writes)
-      × WordsEnd (place_at state nth) old × CopyFits (place_at state nth) at
+      × WordsEnd (record_place state nth) old × CopyFits (record_place state nth) at
   CommitPlaceFits state (Installing nth at) =
       (length state.held ≡ length state.records) × (length state.counts ≡ length state.writes)
       × (nth < length state.writes)
-      × InstallFits (place_at state nth) at
+      × InstallFits (record_place state nth) at
   CommitPlaceFits state Publishing =
       (length state.held ≡ length state.records) × (length state.counts ≡ length state.writes)
   CommitPlaceFits state (Freeing nth) =

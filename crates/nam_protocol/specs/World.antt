@@ -1,11 +1,14 @@
 -- A world: words, and the sessions that change them verb by verb.
-use Rattle.std.specs.Prelude.{ℕ, ◌≡◌, ◌+◌, ◌-◌, List, [], ◌∷◌, Option, Some, None, slice_get, slice_set}
+use Rattle.std.specs.Prelude.{ℕ, ◌≡◌, ◌+◌, ◌-◌, List, [], ◌∷◌, Option, Some, None, option_map, slice_get, slice_set}
 use Rattle.std.specs.List.{AllByRecursion}
-use Rattle.nam_verbs.specs.declared.verb.Verb.{Verb}
-use Rattle.nam_verbs.specs.Verb.{found_by, after_verb}
 use Rattle.si_model.specs.declared.row.Row.{Row}
 use Rattle.si_model.specs.declared.op.Policy.{Policy}
+use Rattle.nam_verbs.specs.declared.verb.Verb.{Verb}
+use Rattle.nam_verbs.specs.Verb.{found_by, after_verb}
+use Rattle.nam_verbs.specs.VerbAt.{VerbAt}
 use Rattle.nam_catalog.specs.declared.shape.Shape.{Shape}
+use Rattle.nam_layout.specs.declared.field.Field.{Field}
+use Rattle.nam_calls.specs.Memory.{verb_there}
 use Rattle.nam_protocol.specs.declared.session.Job.{Job}
 use Rattle.nam_protocol.specs.declared.session.SessionState.{SessionState}
 use Rattle.nam_protocol.specs.Telling.{new_client}
@@ -29,20 +32,24 @@ abbrev pub with_session : World → ℕ → SessionState → World
 with_session world worker session = record world { sessions = slice_set world.sessions (worker - 1) session }
 
 module _ (shape : Shape) where
-  abbrev pub verb_in : Option SessionState → Option Verb
+  abbrev pub verb_in : Option SessionState → Option (VerbAt Field)
   verb_in None = None
   verb_in (Some session) = session_verb shape session
 
-  -- the worker's next verb
+  -- the worker's next verb, at the address of its field
   abbrev pub world_verb : World → ℕ → Option Verb
-  world_verb world worker = verb_in (session_of world worker)
+  world_verb world worker = option_map (verb_there shape) (verb_in (session_of world worker))
 
-  -- the verb is done, and the session takes the word that it found
-  abbrev pub step_by : World → ℕ → SessionState → Option Verb → World
-  step_by world worker session None = world
-  step_by world worker session (Some verb) =
+  -- a verb is done, and the session takes the word that it found
+  abbrev pub taken_by : World → ℕ → SessionState → Verb → World
+  taken_by world worker session verb =
       with_session (record world { words = after_verb world.words verb }) worker
       (session_after shape session (found_by world.words verb))
+
+  -- the verb of the session is done
+  abbrev pub step_by : World → ℕ → SessionState → Option (VerbAt Field) → World
+  step_by world worker session None = world
+  step_by world worker session (Some verb) = taken_by world worker session (verb_there shape verb)
 
   abbrev pub step_of : World → ℕ → Option SessionState → World
   step_of world worker None = world

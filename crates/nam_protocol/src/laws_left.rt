@@ -1,9 +1,9 @@
-//! Verbs to come: fewer with each word taken, and how many there are at the begin; and which word each of them reaches.
+//! Verbs to come: fewer with each word taken, and how many there are at the begin; and which field each of them is at.
 
 ghost use Rattle.nam_protocol.specs.FallsLaw.{TxnLaw, TxnBeginsLaw, ScanLaw, ClientLaw, ClientBeginsLaw};
 ghost use Rattle.nam_protocol.specs.AttemptLaw.{NewAskedLaw, AskLaw, TakeLaw, AttemptLaw};
-ghost use Rattle.nam_protocol.specs.AddressFact.{TableReachesLaw, TxnReachesLaw, CallReachesLaw, WithinLaw};
-ghost use Rattle.nam_protocol.specs.AddressFact.{ClientWithinLaw};
+ghost use Rattle.nam_protocol.specs.FieldLaw.{TableFieldsLaw, CommitFieldsLaw, TxnFieldsLaw, CallFieldsLaw};
+ghost use Rattle.nam_protocol.specs.FieldLaw.{ClientFieldsLaw, WithinLaw};
 
 /// At each place of a call of a transaction, its commit included, that fits, each word leads to a place that fits with
 /// fewer verbs to come, or to an answer: what the transaction has at hand fits after each word, and a call begins with
@@ -36,17 +36,17 @@ pub fn attempt_bound()
 {}
 
 /// Each verb of each call at a table's positions, of each call of a transaction, its commit included, and of each call
-/// of a client reaches the field that its place says, and that field is one of the shape's. This needs no more than
-/// that the place fits, which the other laws keep.
-pub fn calls_reach()
-    ensures table { TableReachesLaw }
-    ensures txn { TxnReachesLaw }
-    ensures call { CallReachesLaw }
+/// of a client is at a field of the shape, and so is a client's next verb. This needs no more than that the place fits,
+/// which the other laws keep. The place of each record of a commit is that of its row.
+pub fn calls_at_fields()
+    ensures table { TableFieldsLaw }
+    ensures commit { CommitFieldsLaw }
+    ensures txn { TxnFieldsLaw }
+    ensures call { CallFieldsLaw }
+    ensures client { ClientFieldsLaw }
 {}
 
-/// A verb that reaches a field has an address below the number of the shape's words, where that field stands; so has
-/// each next verb of a client.
+/// A verb at a field of the shape has an address below the number of the shape's words, where that field stands.
 pub fn reached_within()
-    ensures field { WithinLaw }
-    ensures client { ClientWithinLaw }
+    ensures { WithinLaw }
 {}

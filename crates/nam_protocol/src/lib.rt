@@ -4,13 +4,16 @@
 //! the session that follows the retry policy, the world of all sessions over one region of words, and the simulated
 //! run. The definitions compute: proofs/ has worked runs. The crate promises, by its laws, that in each call of a
 //! transaction and of a client the number of verbs to come falls with each word and begins within its bound, that an
-//! attempt takes no more than the sum of these, that each verb is at the field of the layout that its place names, that
-//! clients' and sessions' logs only grow, and that a commit is one straight program.
+//! attempt takes no more than the sum of these, that each verb is at the field of the layout that its place names, what
+//! each field has at the opening, what a step of the world does to the fields, that clients' and sessions' logs only
+//! grow, and that a commit is one straight program.
 #![tactic(auto)]
 
 mod client;
 mod laws_growth;
 mod laws_left;
+mod laws_opening;
+mod laws_steps;
 mod scan;
 mod session;
 mod txn;
@@ -18,8 +21,10 @@ mod txn;
 pub use client::{Answer, Call, CallPlace, ClientState, Open, Scanned};
 pub use laws_growth::{commit_program_law, logs_grow_law, session_logs_grow_law};
 pub use laws_left::{
-    attempt_bound, calls_reach, client_falls, reached_within, scan_falls, txn_falls,
+    attempt_bound, calls_at_fields, client_falls, reached_within, scan_falls, txn_falls,
 };
+pub use laws_opening::{blank_law, opening_law};
+pub use laws_steps::step_law;
 pub use scan::{ScanAnswer, ScanPlace};
 pub use session::{DriverPlace, DriverState, Job, SessionState};
 pub use txn::{CommitPlace, Record, TxnAnswer, TxnCall, TxnPlace, TxnState};

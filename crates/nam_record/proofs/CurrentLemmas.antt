@@ -2,28 +2,24 @@
 use Rattle.std.proofs.Common.{◌≡◌, ◌⊎◌, inl, inr, ℕ, ◌<◌, Bool, true, false, ◌||◌, Some, None}
 use Rattle.std.proofs.Common.{List, [], ◌∷◌, ◌++◌, length, refl, sym, subst}
 use Rattle.std.specs.Prelude.{if◌then◌else◌, IsTrue, IsFalse}
-use Rattle.nam_verbs.specs.declared.verb.Verb.{Verb}
 use Rattle.nam_verbs.specs.declared.now.Now.{Now}
 use Rattle.nam_verbs.specs.declared.now.Now.TheVariants.{At, Over}
 use Rattle.nam_verbs.specs.Steps.{Step, Ends, saw, saw_words}
-use Rattle.nam_verbs.proofs.TestLemmas.{by_test}
+use Rattle.nam_verbs.proofs.TestLemmas.{by_test, if_in}
+use Rattle.nam_verbs.proofs.ReadingLemmas.{step_of, words_read, reads_words}
+use Rattle.nam_verbs.specs.VerbAt.{VerbAt}
+use Rattle.nam_header.specs.Stamp.{is_locked, is_deleted, same_stamp, sees}
 use Rattle.nam_layout.specs.declared.field.Place.{Place}
+use Rattle.nam_layout.specs.declared.field.Field.{Field}
+use Rattle.nam_layout.specs.declared.field.Field.TheVariants as field
 use Rattle.nam_calls.specs.declared.record.CurrentPlace.{CurrentPlace}
 use Rattle.nam_calls.specs.declared.record.CurrentPlace.TheVariants.{CurrentHead, CurrentWords, CurrentAgain}
 use Rattle.nam_calls.specs.declared.record.CurrentEnd.{CurrentEnd}
 use Rattle.nam_calls.specs.declared.record.CurrentEnd.TheVariants.{Found, Unsure, GoOld}
-use Rattle.nam_calls.specs.Stamps.{sees, is_deleted, is_locked, same_stamp}
-use Rattle.nam_calls.specs.Words.{word_at, until}
 use Rattle.nam_calls.specs.Record.{current_verb, current_after}
-use Rattle.nam_words.proofs.ReadingLemmas.{step_of, words_read, reads_words}
 use Rattle.nam_record.specs.CurrentLaw.{SawUnseen, SawDeletion, SawTwice, SawWhole, SawLocked, SawAnother}
 
 -- 1. Choices
-
-at_choice : {P E : Type 0} (test : Bool) (a b : P)
-    → ◌≡◌ {A = Now P E} (At (if test then a else b)) (if test then At a else At b)
-at_choice true a b = refl
-at_choice false a b = refl
 
 -- one of two tests says yes, or both say no
 one_says : (a b : Bool) → (a || b) ≡ true → (a ≡ true) ⊎ (b ≡ true)
@@ -44,13 +40,13 @@ none_of_both true b none other = absurd (cc)
 none_of_both false b none other = other
 
 module _ (place : Place) (seen : List ℕ) where
-  abbrev verb : CurrentPlace → Verb
+  abbrev verb : CurrentPlace → VerbAt Field
   verb = current_verb place
 
   abbrev after : CurrentPlace → ℕ → Now CurrentPlace CurrentEnd
   after = current_after place seen
 
-  abbrev EndsSo : Now CurrentPlace CurrentEnd → List Step → CurrentEnd → Type 0
+  abbrev EndsSo : Now CurrentPlace CurrentEnd → List (Step Field) → CurrentEnd → Type 0
   EndsSo = Ends verb after
 
   abbrev visible_at : ℕ → Bool
@@ -63,23 +59,17 @@ module _ (place : Place) (seen : List ℕ) where
   locked_at first again = is_locked place.form first || is_locked place.form again
 
   -- a look at the header, and all data words after it
-  abbrev looked : ℕ → Step
-  looked header = saw place.header_at header
+  abbrev looked : ℕ → Step Field
+  looked header = saw (field.Header place.row) header
 
-  abbrev looked_on : ℕ → List ℕ → List Step → List Step
-  looked_on first value rest = looked first ∷ saw_words (word_at place) value ++ rest
+  abbrev looked_on : ℕ → List ℕ → List (Step Field) → List (Step Field)
+  looked_on first value rest = looked first ∷ saw_words (field.Word place.row) value ++ rest
 
   abbrev goes_again : ℕ → List ℕ → Now CurrentPlace CurrentEnd
   goes_again header value = At (CurrentAgain header value)
 
-  -- the words are read one after another
-  takes : (header : ℕ) (got : List ℕ) (word : ℕ) → after (CurrentWords header got) word
-      ≡ until place.width (got ++ word ∷ []) (λ all. At (CurrentWords header all)) (goes_again header)
-  takes header got word =
-      let more = got ++ word ∷ [] in at_choice _ (CurrentAgain header more) (CurrentWords header more)
-
   -- what each end tells of the steps
-  abbrev pub Tells : CurrentEnd → List Step → Type 0
+  abbrev pub Tells : CurrentEnd → List (Step Field) → Type 0
   Tells (Found None) steps = SawDeletion place seen steps
   Tells (Found (Some value)) steps = SawWhole place seen steps value
   Tells (Unsure value header) steps = SawLocked place seen steps value header
@@ -88,21 +78,21 @@ module _ (place : Place) (seen : List ℕ) where
   -- 2. From the steps to what they tell
 
   -- a reading that is over takes no step
-  told_over : (shown : List Step → List Step) (over : CurrentEnd) → Tells over (shown [])
-      → (steps : List Step) (end : CurrentEnd) → EndsSo (Over over) steps end → Tells end (shown steps)
+  told_over : (shown : List (Step Field) → List (Step Field)) (over : CurrentEnd) → Tells over (shown [])
+      → (steps : List (Step Field)) (end : CurrentEnd) → EndsSo (Over over) steps end → Tells end (shown steps)
   told_over shown over told [] end ends = subst (λ e. Tells e (shown [])) ends told
   told_over shown over told (step ∷ steps) end ends = absurd ends
 
   -- after the words, by the header read again
   again_tells : (first : ℕ) (value : List ℕ) → length value ≡ place.width
       → IsTrue (visible_at first) → IsFalse (deleted_at first)
-      → (steps : List Step) (end : CurrentEnd) → EndsSo (At (CurrentAgain first value)) steps end
+      → (steps : List (Step Field)) (end : CurrentEnd) → EndsSo (At (CurrentAgain first value)) steps end
       → Tells end (looked_on first value steps)
   again_tells first value whole visible present [] end ends = absurd ends
   again_tells first value whole visible present (step ∷ steps) end ends =
       let again = step.found in
       let is : looked again ≡ step = sym (step_of _ step ends.0) in
-      let shown = λ (rest : List Step). looked_on first value (looked again ∷ rest) in
+      let shown = λ (rest : List (Step Field)). looked_on first value (looked again ∷ rest) in
       let looks : SawTwice place seen (shown []) value first again =
       record { whole = whole; steps_are = refl; visible = visible; present = present } in
       let Claim = λ (now : Now CurrentPlace CurrentEnd). EndsSo now steps end → Tells end (shown steps) in
@@ -127,13 +117,14 @@ module _ (place : Place) (seen : List ℕ) where
       ends.1 in
       subst (λ s. Tells end (looked_on first value (s ∷ steps))) is told
 
-  pub current_tells : 0 < place.width → (steps : List Step) (end : CurrentEnd) → EndsSo (At CurrentHead) steps end
+  pub current_tells : 0 < place.width → (steps : List (Step Field)) (end : CurrentEnd)
+      → EndsSo (At CurrentHead) steps end
       → Tells end steps
   current_tells some [] end ends = absurd ends
   current_tells some (step ∷ steps) end ends =
       let header = step.found in
       let is : looked header ≡ step = sym (step_of _ step ends.0) in
-      let shown = λ (rest : List Step). looked header ∷ rest in
+      let shown = λ (rest : List (Step Field)). looked header ∷ rest in
       let Claim = λ (now : Now CurrentPlace CurrentEnd). EndsSo now steps end → Tells end (shown steps) in
       let reads = At (CurrentWords header []) in
       let told : Tells end (shown steps) =
@@ -142,8 +133,8 @@ module _ (place : Place) (seen : List ℕ) where
       (λ deleted. told_over shown (Found None)
       record { header = header; steps_are = refl; visible = visible; deleted = deleted } steps end)
       (λ present goes.
-      let all = words_read verb after (word_at place) place.width (CurrentWords header) (goes_again header)
-      (λ got. refl) (takes header) some steps end goes in
+      let all = words_read verb after (field.Word place.row) place.width (CurrentWords header) (goes_again header)
+      (λ got. refl) (λ got word. if_in At _ _ _) some steps end goes in
       rw all.2 (again_tells header all.0 all.3 visible present all.1 end all.4)))
       (λ unseen. told_over shown GoOld (inl record { header = header; steps_are = refl; unseen = unseen }) steps end)
       ends.1 in
@@ -152,18 +143,21 @@ module _ (place : Place) (seen : List ℕ) where
   -- 3. And back
 
   -- two looks at a version, where the second leads to this end
-  ends_again : (steps : List Step) (value : List ℕ) (first again : ℕ) (end : CurrentEnd) → 0 < place.width
+  ends_again : (steps : List (Step Field)) (value : List ℕ) (first again : ℕ) (end : CurrentEnd) → 0 < place.width
       → SawTwice place seen steps value first again → after (CurrentAgain first value) again ≡ Over end
       → EndsSo (At CurrentHead) steps end
   ends_again steps value first again end some looks leads =
       let begins : after CurrentHead first ≡ At (CurrentWords first []) = rw (looks.visible, looks.present) refl in
       let last : EndsSo (At (CurrentAgain first value)) (looked again ∷ []) end = (refl, rw leads refl) in
-      let words = reads_words verb after (word_at place) place.width (CurrentWords first) (goes_again first)
-      (λ got. refl) (takes first) value some looks.whole (looked again ∷ []) end last in
-      rw looks.steps_are
-      (refl, subst (λ now. EndsSo now (saw_words (word_at place) value ++ looked again ∷ []) end) (sym begins) words)
+      let words = reads_words verb after (field.Word place.row) place.width (CurrentWords first) (goes_again first)
+      (λ got. refl) (λ got word. if_in At _ _ _) value some looks.whole (looked again ∷ []) end last in
+      rw looks.steps_are (
+        refl,
+        subst (λ now. EndsSo now (saw_words (field.Word place.row) value ++ looked again ∷ []) end)
+            (sym begins) words,
+      )
 
-  pub told_ends : 0 < place.width → (steps : List Step) (end : CurrentEnd) → Tells end steps
+  pub told_ends : 0 < place.width → (steps : List (Step Field)) (end : CurrentEnd) → Tells end steps
       → EndsSo (At CurrentHead) steps end
   told_ends some steps (Found None) told =
       let goes : after CurrentHead told.header ≡ Over (Found None) = rw (told.visible, told.deleted) refl in

@@ -1,3 +1,3 @@
 pub mod CurrentLemmas
 pub mod RecordLemmas
-pub mod ReachLemmas
+pub mod FieldLemmas

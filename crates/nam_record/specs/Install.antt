@@ -4,9 +4,10 @@ use Rattle.nam_verbs.specs.declared.now.Now.{Now}
 use Rattle.nam_verbs.specs.declared.now.Now.TheVariants.{At}
 use Rattle.nam_verbs.specs.Running.{Running}
 use Rattle.nam_layout.specs.declared.field.Place.{Place}
+use Rattle.nam_layout.specs.Place.{position_address, place_end}
+use Rattle.nam_layout.specs.declared.field.Field.{Field}
 use Rattle.nam_calls.specs.declared.record.InstallPlace.{InstallPlace}
 use Rattle.nam_calls.specs.Record.{install_begin, install_verb, install_after, install_left}
-use Rattle.nam_words.specs.Ends.{place_end}
 
 -- a version that is installed after the one of that number, with its header, and where that stands
 pub record Installing : Type 0 where
@@ -22,11 +23,12 @@ installing place value count header =
     record { place = place; value = value; count = count; header = header; state = At (install_begin value) }
 
 -- the same as a running call
-abbrev pub running : Installing → Running InstallPlace (Unit {0})
+abbrev pub running : Installing → Running Field InstallPlace (Unit {0})
 running a = record {
+  address = position_address a.place;
+  reach = place_end a.place;
   verb = install_verb a.place a.value a.count a.header;
   after = λ at found. install_after a.place at;
   left = install_left a.place;
-  reach = place_end a.place;
   state = a.state;
 }

@@ -4,8 +4,9 @@ use Rattle.nam_verbs.specs.declared.now.Now.{Now}
 use Rattle.nam_verbs.specs.declared.now.Now.TheVariants.{At, Over}
 use Rattle.nam_verbs.specs.Running.{Running}
 use Rattle.nam_layout.specs.declared.field.Place.{Place}
+use Rattle.nam_layout.specs.Place.{position_address, place_end}
+use Rattle.nam_layout.specs.declared.field.Field.{Field}
 use Rattle.nam_calls.specs.Record.{recheck_verb, recheck_end}
-use Rattle.nam_words.specs.Ends.{place_end}
 
 -- a record that bore a header, and whether it was looked at again
 pub record Rechecking : Type 0 where
@@ -18,11 +19,12 @@ abbrev pub rechecking : Place → ℕ → Rechecking
 rechecking place header = record { place = place; header = header; state = At tt }
 
 -- the same as a running call, whose one place is before the read
-abbrev pub running : Rechecking → Running (Unit {0}) Bool
+abbrev pub running : Rechecking → Running Field (Unit {0}) Bool
 running a = record {
+  address = position_address a.place;
+  reach = place_end a.place;
   verb = λ at. recheck_verb a.place;
   after = λ at found. Over (recheck_end a.place a.header found);
   left = λ at. 1;
-  reach = place_end a.place;
   state = a.state;
 }

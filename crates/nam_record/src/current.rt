@@ -2,25 +2,25 @@
 
 ghost use Rattle.std.specs.Prelude.{◌≡◌, ◌<◌, ◌+◌};
 ghost use Rattle.nam_verbs.specs.Verb.{address_of};
+ghost use Rattle.nam_verbs.specs.VerbAt.{verb_by};
 ghost use Rattle.nam_verbs.specs.Running.{verbs_left};
+ghost use Rattle.nam_layout.specs.Place.{position_address, place_end};
 ghost use Rattle.nam_layout.specs.PlaceFits.{FitsPlace};
-ghost use Rattle.nam_calls.specs.Record.{current_begin as begin, current_verb as verb_at};
-ghost use Rattle.nam_calls.specs.Record.{current_after as after_word, current_left as left_at};
+ghost use Rattle.nam_calls.specs.Record.{current_begin, current_verb, current_after, current_left};
 ghost use Rattle.nam_calls.specs.Fits.{CurrentFits};
-ghost use Rattle.nam_words.specs.Ends.{place_end};
 ghost use Rattle.nam_record.specs.Current.{reading_current, running};
 
 use nam_calls::{CurrentEnd, CurrentPlace};
-use nam_layout::Place;
+use nam_header::{is_deleted, is_locked, same_stamp, sees};
+use nam_layout::{Field, Place};
 use nam_verbs::{Machine, Now, Verb};
-use nam_words::{is_deleted, is_locked, same_stamp, sees, word_at};
 use si_model::{Snapshot, Value};
 use std::marker::Model;
 use std::mem::replace;
 
 /// Where the reading of a current version begins.
 pub fn current_begin() -> CurrentPlace
-    ensures { result ≡ begin }
+    ensures { result ≡ current_begin }
 {
     CurrentPlace::CurrentHead
 }
@@ -29,17 +29,14 @@ pub fn current_begin() -> CurrentPlace
 pub fn current_verb(place: &Place, at: &CurrentPlace) -> Verb
     requires fits { FitsPlace place.now }
     requires at { CurrentFits place.now at.now }
-    ensures value { result ≡ verb_at place.now at.now }
+    ensures value { result ≡ verb_by (position_address place.now) (current_verb place.now at.now) }
     ensures within { address_of result < place_end place.now }
 {
-    match at {
-        CurrentPlace::CurrentHead | CurrentPlace::CurrentAgain { .. } => Verb::Read {
-            at: place.header_at,
-        },
-        CurrentPlace::CurrentWords { got, .. } => Verb::Read {
-            at: word_at(place, got.len() as u32),
-        },
-    }
+    let at = match at {
+        CurrentPlace::CurrentHead | CurrentPlace::CurrentAgain { .. } => place.header_at,
+        CurrentPlace::CurrentWords { got, .. } => place.word(got.len() as u32),
+    };
+    Verb::Read { at }
 }
 
 /// The reading after the word that its verb found.
@@ -51,7 +48,7 @@ pub fn current_after(
 ) -> Now<CurrentPlace, CurrentEnd>
     requires fits { FitsPlace place.now }
     requires at { CurrentFits place.now at }
-    ensures { result ≡ after_word place.now seen.now at found }
+    ensures { result ≡ current_after place.now seen.now at found }
 {
     match at {
         CurrentPlace::CurrentHead => {
@@ -75,6 +72,7 @@ pub fn current_after(
             }
         }
         CurrentPlace::CurrentAgain { header, value } => {
+            // Under a lock, at either look, the words may be those of the next version.
             if !same_stamp(place.form, found, header) {
                 Now::Over(CurrentEnd::GoOld)
             } else if is_locked(place.form, header) || is_locked(place.form, found) {
@@ -90,7 +88,7 @@ pub fn current_after(
 pub fn current_left(place: &Place, at: &CurrentPlace) -> u64
     requires fits { FitsPlace place.now }
     requires at { CurrentFits place.now at.now }
-    ensures { result ≡ left_at place.now at.now }
+    ensures { result ≡ current_left place.now at.now }
 {
     let width = place.width as u64;
     match at {
@@ -153,42 +151,33 @@ impl ReadCurrent {
 }
 
 impl Machine for ReadCurrent {
-    ghost use Rattle.nam_verbs.specs.Running.{next_verb, after_found, end_of, verbs_left, stands_until_end};
     ghost use Rattle.nam_record.specs.Current.{running};
+
+    type Word = Field;
+
+    type Place = CurrentPlace;
 
     type End = CurrentEnd;
 
-    ghost next = { λ a. next_verb (running a) };
+    ghost running = { running };
 
-    ghost after = { λ a found. record a { state = (after_found (running a) found).state } };
+    fn state(&self) -> &Now<CurrentPlace, CurrentEnd> {
+        &self.state
+    }
 
-    ghost ended = { λ a. end_of (running a) };
+    fn verb_from(&self, at: &CurrentPlace) -> Verb {
+        current_verb(&self.place, at)
+    }
 
-    ghost rest = { λ a. verbs_left (running a) };
-
-    ghost reach = { λ a. (running a).reach };
-
-    ghost stands_until_end = { λ a. stands_until_end (running a) };
-
-    fn verb(&self) -> Option<Verb> {
-        match &self.state {
-            Now::At(at) => Some(current_verb(&self.place, at)),
-            Now::Over(_) => None,
-        }
+    fn left_from(&self, at: &CurrentPlace) -> u64 {
+        current_left(&self.place, at)
     }
 
     fn take(&mut self, found: u64) {
-        match replace(&mut self.state, Now::At(current_begin())) {
-            Now::At(at) => self.state = current_after(&self.place, &self.seen, at, found),
-            Now::Over(end) => self.state = Now::Over(end),
-        }
-    }
-
-    fn left(&self) -> u64 {
-        match &self.state {
-            Now::At(at) => current_left(&self.place, at),
-            Now::Over(_) => 0,
-        }
+        self.state = match replace(&mut self.state, Now::At(current_begin())) {
+            Now::At(at) => current_after(&self.place, &self.seen, at, found),
+            Now::Over(end) => Now::Over(end),
+        };
     }
 
     fn end(&self) -> Option<CurrentEnd> {

@@ -2,25 +2,24 @@
 
 ghost use Rattle.std.specs.Prelude.{◌≡◌, ◌<◌, ◌+◌, MatchOption};
 ghost use Rattle.nam_verbs.specs.Verb.{address_of};
+ghost use Rattle.nam_verbs.specs.VerbAt.{verb_by};
 ghost use Rattle.nam_verbs.specs.Running.{verbs_left};
+ghost use Rattle.nam_layout.specs.Place.{position_address, place_end};
 ghost use Rattle.nam_layout.specs.PlaceFits.{FitsPlace};
-ghost use Rattle.nam_calls.specs.Record.{install_begin as begin, install_verb as verb_at, word_in as word_of_value};
-ghost use Rattle.nam_calls.specs.Record.{install_after as after_write, install_left as left_at};
+ghost use Rattle.nam_calls.specs.Record.{install_begin, word_in, install_verb, install_after, install_left};
 ghost use Rattle.nam_calls.specs.Fits.{HasWidth, InstallFits};
-ghost use Rattle.nam_words.specs.Ends.{place_end};
 ghost use Rattle.nam_record.specs.Install.{installing, running};
 
 use nam_calls::InstallPlace;
-use nam_layout::Place;
+use nam_layout::{Field, Place};
 use nam_verbs::{Machine, Now, Verb};
-use nam_words::word_at;
 use si_model::Value;
 use std::marker::Model;
 use std::mem::replace;
 
 /// Where the install of a version begins. A deletion has no value, and leaves the data words as they are.
 pub fn install_begin(value: &Option<Value>) -> InstallPlace
-    ensures { result ≡ begin value.now }
+    ensures { result ≡ install_begin value.now }
 {
     match value {
         None => InstallPlace::InstallCount,
@@ -32,7 +31,7 @@ pub fn install_begin(value: &Option<Value>) -> InstallPlace
 fn word_in(place: &Place, value: &Option<Value>, nth: u32) -> u64
     requires value { HasWidth place.now.width value.now }
     requires nth { nth < place.now.width }
-    ensures { result ≡ word_of_value value.now nth }
+    ensures { result ≡ word_in value.now nth }
 {
     match value {
         None => 0,
@@ -51,12 +50,13 @@ pub fn install_verb(
     requires fits { FitsPlace place.now }
     requires value { HasWidth place.now.width value.now }
     requires at { InstallFits place.now at.now }
-    ensures value { result ≡ verb_at place.now value.now count header at.now }
+    ensures value { result ≡ verb_by (position_address place.now)
+        (install_verb place.now value.now count header at.now) }
     ensures within { address_of result < place_end place.now }
 {
     match at {
         InstallPlace::InstallWord { nth } => Verb::Write {
-            at: word_at(place, *nth),
+            at: place.word(*nth),
             word: word_in(place, value, *nth),
         },
         InstallPlace::InstallCount => Verb::Write {
@@ -74,8 +74,9 @@ pub fn install_verb(
 pub fn install_after(place: &Place, at: InstallPlace) -> Now<InstallPlace, ()>
     requires fits { FitsPlace place.now }
     requires at { InstallFits place.now at }
-    ensures { result ≡ after_write place.now at }
+    ensures { result ≡ install_after place.now at }
 {
+    // The header is last: until it is written its lock tells readers that the words may be of either version.
     match at {
         InstallPlace::InstallWord { nth } => {
             if nth + 1 == place.width {
@@ -93,7 +94,7 @@ pub fn install_after(place: &Place, at: InstallPlace) -> Now<InstallPlace, ()>
 pub fn install_left(place: &Place, at: &InstallPlace) -> u64
     requires fits { FitsPlace place.now }
     requires at { InstallFits place.now at.now }
-    ensures { result ≡ left_at place.now at.now }
+    ensures { result ≡ install_left place.now at.now }
 {
     match at {
         InstallPlace::InstallWord { nth } => place.width as u64 - *nth as u64 + 2,
@@ -120,9 +121,16 @@ impl Model for Install {
 
     ghost Value = { Installing };
 
-    ghost view = { λ a. record { place = a.place; value = a.value; count = a.count; header = a.header; state = a.state } };
+    ghost view = { λ a. record {
+      place = a.place;
+      value = a.value;
+      count = a.count;
+      header = a.header;
+      state = a.state;
+    } };
 
-    ghost invariant = { λ a. FitsPlace a.place × HasWidth a.place.width a.value × FitsNow (InstallFits a.place) a.state };
+    ghost invariant = { λ a. FitsPlace a.place × HasWidth a.place.width a.value
+        × FitsNow (InstallFits a.place) a.state };
 }
 
 impl Install {
@@ -132,7 +140,8 @@ impl Install {
         requires fits { FitsPlace place }
         requires value { HasWidth place.width value }
         ensures begins { result ≡ installing place value count header }
-        ensures left { MatchOption value (verbs_left (running result) ≡ 2) (λ words. verbs_left (running result) ≡ place.width + 2) }
+        ensures left { MatchOption value (verbs_left (running result) ≡ 2)
+            (λ words. verbs_left (running result) ≡ place.width + 2) }
     {
         let begin = install_begin(&value);
         Install {
@@ -146,54 +155,36 @@ impl Install {
 }
 
 impl Machine for Install {
-    ghost use Rattle.nam_verbs.specs.Running.{next_verb, after_found, end_of, verbs_left, stands_until_end};
     ghost use Rattle.nam_record.specs.Install.{running};
+
+    type Word = Field;
+
+    type Place = InstallPlace;
 
     type End = ();
 
-    ghost next = { λ a. next_verb (running a) };
+    ghost running = { running };
 
-    ghost after = { λ a found. record a { state = (after_found (running a) found).state } };
+    fn state(&self) -> &Now<InstallPlace, ()> {
+        &self.state
+    }
 
-    ghost ended = { λ a. end_of (running a) };
+    fn verb_from(&self, at: &InstallPlace) -> Verb {
+        install_verb(&self.place, &self.value, self.count, self.header, at)
+    }
 
-    ghost rest = { λ a. verbs_left (running a) };
-
-    ghost reach = { λ a. (running a).reach };
-
-    ghost stands_until_end = { λ a. stands_until_end (running a) };
-
-    fn verb(&self) -> Option<Verb> {
-        match &self.state {
-            Now::At(at) => Some(install_verb(
-                &self.place,
-                &self.value,
-                self.count,
-                self.header,
-                at,
-            )),
-            Now::Over(()) => None,
-        }
+    fn left_from(&self, at: &InstallPlace) -> u64 {
+        install_left(&self.place, at)
     }
 
     fn take(&mut self, _found: u64) {
-        match replace(&mut self.state, Now::Over(())) {
-            Now::At(at) => self.state = install_after(&self.place, at),
-            Now::Over(()) => self.state = Now::Over(()),
-        }
-    }
-
-    fn left(&self) -> u64 {
-        match &self.state {
-            Now::At(at) => install_left(&self.place, at),
-            Now::Over(()) => 0,
-        }
+        self.state = match replace(&mut self.state, Now::Over(())) {
+            Now::At(at) => install_after(&self.place, at),
+            Now::Over(()) => Now::Over(()),
+        };
     }
 
     fn end(&self) -> Option<()> {
-        match &self.state {
-            Now::At(_) => None,
-            Now::Over(()) => Some(()),
-        }
+        self.state.end()
     }
 }

@@ -1,9 +1,9 @@
 //! How the calls end, by what their verbs did, whatever words they found.
 
-ghost use Rattle.nam_record.specs.CurrentLaw.{DeletedLaw, FoundLaw, UnsureLaw, OldLaw, CurrentReachesLaw};
-ghost use Rattle.nam_record.specs.RecheckLaw.{RecheckLaw, RecheckReachesLaw};
-ghost use Rattle.nam_record.specs.WordsLaw.{WordsLaw, WordsReachLaw};
-ghost use Rattle.nam_record.specs.InstallLaw.{InstallLaw, OnlyWritesLaw, InstallReachesLaw};
+ghost use Rattle.nam_record.specs.CurrentLaw.{DeletedLaw, FoundLaw, UnsureLaw, OldLaw, CurrentFieldLaw};
+ghost use Rattle.nam_record.specs.RecheckLaw.{RecheckLaw, RecheckFieldLaw};
+ghost use Rattle.nam_record.specs.WordsLaw.{WordsLaw, WordsFieldLaw};
+ghost use Rattle.nam_record.specs.InstallLaw.{InstallLaw, OnlyWritesLaw, InstallFieldLaw};
 
 /// The reading of a current version ends by its first look at the header exactly where the snapshot doesn't see that
 /// version, or sees that it is a deletion. Else it reads all data words in order and the header again, and ends by
@@ -33,10 +33,10 @@ pub fn install_law()
     ensures only { OnlyWritesLaw }
 {}
 
-/// Each verb reaches the header, the number or a data word of the row, as its place says, whatever words are found.
-pub fn reach_law()
-    ensures current { CurrentReachesLaw }
-    ensures recheck { RecheckReachesLaw }
-    ensures words { WordsReachLaw }
-    ensures install { InstallReachesLaw }
+/// Whatever words are found, each verb is at a field of the position that the call was given.
+pub fn field_law()
+    ensures current { CurrentFieldLaw }
+    ensures recheck { RecheckFieldLaw }
+    ensures words { WordsFieldLaw }
+    ensures install { InstallFieldLaw }
 {}

@@ -2,24 +2,23 @@
 
 ghost use Rattle.std.specs.Prelude.{◌≡◌, ◌<◌};
 ghost use Rattle.nam_verbs.specs.Verb.{address_of};
+ghost use Rattle.nam_verbs.specs.VerbAt.{verb_by};
 ghost use Rattle.nam_verbs.specs.Running.{verbs_left};
+ghost use Rattle.nam_layout.specs.Place.{position_address, place_end};
 ghost use Rattle.nam_layout.specs.PlaceFits.{FitsPlace};
-ghost use Rattle.nam_calls.specs.Record.{words_begin as begin, words_verb as verb_at};
-ghost use Rattle.nam_calls.specs.Record.{words_after as after_word, words_left as left_at};
+ghost use Rattle.nam_calls.specs.Record.{words_begin, words_verb, words_after, words_left};
 ghost use Rattle.nam_calls.specs.Fits.{WordsFit};
-ghost use Rattle.nam_words.specs.Ends.{place_end};
 ghost use Rattle.nam_record.specs.ReadWords.{reading_words, running};
 
-use nam_layout::Place;
+use nam_layout::{Field, Place};
 use nam_verbs::{Machine, Now, Verb};
-use nam_words::word_at;
 use si_model::Value;
 use std::marker::Model;
 use std::mem::replace;
 
 /// Where the reading of the data words begins: no word is got. Each place is the words got so far.
 pub fn words_begin() -> Value
-    ensures { result ≡ begin }
+    ensures { result ≡ words_begin }
 {
     Value::new()
 }
@@ -28,11 +27,11 @@ pub fn words_begin() -> Value
 pub fn words_verb(place: &Place, got: &Value) -> Verb
     requires fits { FitsPlace place.now }
     requires got { WordsFit place.now got.now }
-    ensures value { result ≡ verb_at place.now got.now }
+    ensures value { result ≡ verb_by (position_address place.now) (words_verb place.now got.now) }
     ensures within { address_of result < place_end place.now }
 {
     Verb::Read {
-        at: word_at(place, got.len() as u32),
+        at: place.word(got.len() as u32),
     }
 }
 
@@ -40,7 +39,7 @@ pub fn words_verb(place: &Place, got: &Value) -> Verb
 pub fn words_after(place: &Place, got: Value, found: u64) -> Now<Value, Value>
     requires fits { FitsPlace place.now }
     requires got { WordsFit place.now got }
-    ensures { result ≡ after_word place.now got found }
+    ensures { result ≡ words_after place.now got found }
 {
     let mut more = got;
     more.push(found);
@@ -55,7 +54,7 @@ pub fn words_after(place: &Place, got: Value, found: u64) -> Now<Value, Value>
 pub fn words_left(place: &Place, got: &Value) -> u64
     requires fits { FitsPlace place.now }
     requires got { WordsFit place.now got.now }
-    ensures { result ≡ left_at place.now got.now }
+    ensures { result ≡ words_left place.now got.now }
 {
     place.width as u64 - got.len() as u64
 }
@@ -95,42 +94,33 @@ impl ReadWords {
 }
 
 impl Machine for ReadWords {
-    ghost use Rattle.nam_verbs.specs.Running.{next_verb, after_found, end_of, verbs_left, stands_until_end};
     ghost use Rattle.nam_record.specs.ReadWords.{running};
+
+    type Word = Field;
+
+    type Place = Value;
 
     type End = Value;
 
-    ghost next = { λ a. next_verb (running a) };
+    ghost running = { running };
 
-    ghost after = { λ a found. record a { state = (after_found (running a) found).state } };
+    fn state(&self) -> &Now<Value, Value> {
+        &self.state
+    }
 
-    ghost ended = { λ a. end_of (running a) };
+    fn verb_from(&self, got: &Value) -> Verb {
+        words_verb(&self.place, got)
+    }
 
-    ghost rest = { λ a. verbs_left (running a) };
-
-    ghost reach = { λ a. (running a).reach };
-
-    ghost stands_until_end = { λ a. stands_until_end (running a) };
-
-    fn verb(&self) -> Option<Verb> {
-        match &self.state {
-            Now::At(got) => Some(words_verb(&self.place, got)),
-            Now::Over(_) => None,
-        }
+    fn left_from(&self, got: &Value) -> u64 {
+        words_left(&self.place, got)
     }
 
     fn take(&mut self, found: u64) {
-        match replace(&mut self.state, Now::At(words_begin())) {
-            Now::At(got) => self.state = words_after(&self.place, got, found),
-            Now::Over(value) => self.state = Now::Over(value),
-        }
-    }
-
-    fn left(&self) -> u64 {
-        match &self.state {
-            Now::At(got) => words_left(&self.place, got),
-            Now::Over(_) => 0,
-        }
+        self.state = match replace(&mut self.state, Now::At(words_begin())) {
+            Now::At(got) => words_after(&self.place, got, found),
+            Now::Over(value) => Now::Over(value),
+        };
     }
 
     fn end(&self) -> Option<Value> {

@@ -1,5 +1,6 @@
 -- Depths that settle round by round.
-use Rattle.std.proofs.Common.{◌≡◌, ℕ, zero, suc, ◌+◌, ◌<◌, ◌≤◌, max, true, false, cond, inl, inr, List, [], ◌∷◌, length, get_or, set, map, refl, ap, sym, ◌∙◌, subst, arith, ◌&&◌, ◌||◌, ◌==◌}
+use Rattle.std.proofs.Common.{◌≡◌, ℕ, zero, suc, ◌+◌, ◌<◌, ◌≤◌, max, true, false, cond, inl, inr, List, [], ◌∷◌, length}
+use Rattle.std.proofs.Common.{get_or, set, map, refl, ap, sym, ◌∙◌, subst, arith, ◌&&◌, ◌||◌, ◌==◌}
 use Rattle.std.specs.List.{AllByRecursion, list_any}
 use Rattle.std.proofs.lemmas.Bool.{cond_both, cases_Bool}
 use Rattle.std.proofs.lemmas.Bool.Decides.{nat_tests}
@@ -12,7 +13,8 @@ use Rattle.si_model.specs.History.{stamp_of}
 use Rattle.si_model.proofs.ListLemmas.{All-from_listed, listed_map, map_listed}
 use Rattle.nam_report.specs.declared.arranging.placed.Placed.{Placed}
 use Rattle.nam_report.specs.declared.arranging.placed.LevelKey.{LevelKey}
-use Rattle.nam_report.specs.Depths.{at_depth, flat, has_guard, reach, deepest, next_depth, deepened, AreSettled, is_beside, Rises, SettledBelow, AreAcyclic}
+use Rattle.nam_report.specs.Depths.{at_depth, flat, has_guard, reach, deepest, next_depth, with_next_depths, AreSettled}
+use Rattle.nam_report.specs.Depths.{is_beside, Rises, SettledBelow, AreAcyclic}
 
 -- ---- a map over the front of a list
 
@@ -28,7 +30,8 @@ abbrev pub next_by : List Placed → Placed → ℕ
 next_by [] p = 0
 next_by (q ∷ qs) p = max (cond (is_beside q p) (suc q.depth) 0) (next_by qs p)
 
-deepest-max : (f g : LevelKey → ℕ) (level : ℕ) (ws : List Item) → deepest (λ k. max (f k) (g k)) level ws ≡ max (deepest f level ws) (deepest g level ws)
+deepest-max : (f g : LevelKey → ℕ) (level : ℕ) (ws : List Item)
+    → deepest (λ k. max (f k) (g k)) level ws ≡ max (deepest f level ws) (deepest g level ws)
 deepest-max f g level [] = refl
 deepest-max f g level (w ∷ ws) = let rest = deepest-max f g level ws in omega (arith, rest)
 
@@ -37,7 +40,8 @@ deepest-none level [] = refl
 deepest-none level (w ∷ ws) = let rest = deepest-none level ws in omega (arith, rest)
 
 any-or : (w : Item) (ws : List Item) (guards : List Key)
-    → list_any (λ key. writes_key (w ∷ ws) key) guards ≡ (list_any (λ key. same_key key (item_key w)) guards || list_any (λ key. writes_key ws key) guards)
+    → list_any (λ key. writes_key (w ∷ ws) key) guards
+    ≡ (list_any (λ key. same_key key (item_key w)) guards || list_any (λ key. writes_key ws key) guards)
 any-or w ws [] = refl
 any-or w ws (g ∷ gs) = let rest = any-or w ws gs in grind (arith, nat_tests)
 
@@ -45,15 +49,19 @@ any-none : (guards : List Key) → list_any (λ key. writes_key [] key) guards �
 any-none [] = refl
 any-none (g ∷ gs) = any-none gs
 
-deepest-one : (l level n : ℕ) (guards : List Key) (ws : List Item) → deepest (λ k. cond (has_guard l guards k) n 0) level ws ≡ cond ((l == level) && list_any (λ key. writes_key ws key) guards) n 0
+deepest-one : (l level n : ℕ) (guards : List Key) (ws : List Item)
+    → deepest (λ k. cond (has_guard l guards k) n 0) level ws
+    ≡ cond ((l == level) && list_any (λ key. writes_key ws key) guards) n 0
 deepest-one l level n guards [] = let none = any-none guards in grind (arith, nat_tests)
-deepest-one l level n guards (w ∷ ws) = let rest = deepest-one l level n guards ws in let or = any-or w ws guards in grind (arith, nat_tests)
+deepest-one l level n guards (w ∷ ws) = let rest = deepest-one l level n guards ws in let or =
+    any-or w ws guards in grind (arith, nat_tests)
 
 pub next_is : (ps : List Placed) (p : Placed) → next_depth ps p ≡ next_by ps p
 next_is [] p = deepest-none p.level p.line.writes
 next_is (q ∷ qs) p =
     let rest = next_is qs p in
-    let apart = deepest-max (λ k. cond (has_guard q.level q.guards k) (suc q.depth) 0) (reach qs) p.level p.line.writes in
+    let apart = deepest-max (λ k. cond (has_guard q.level q.guards k) (suc q.depth) 0) (reach qs) p.level p.line.writes
+    in
     let one = deepest-one q.level p.level (suc q.depth) q.guards p.line.writes in
     omega (arith, rest, apart, one)
 
@@ -62,10 +70,14 @@ next_is (q ∷ qs) p =
 -- a next depth is at most one more than the depths
 pub next_small : (n : ℕ) (ps : List Placed) (p : Placed) → AllByRecursion (λ q. q.depth ≤ n) ps → next_by ps p ≤ suc n
 next_small n [] p h = omega arith
-next_small n (q ∷ qs) p h = let rest = next_small n qs p h.1 in cond_both (is_beside q p) (suc q.depth) 0 (λ m. max m (next_by qs p) ≤ suc n) (λ _. omega (arith, rest, h.0)) (λ _. omega (arith, rest))
+next_small n (q ∷ qs) p h = let rest = next_small n qs p h.1 in
+    cond_both (is_beside q p) (suc q.depth) 0 (λ m. max m (next_by qs p) ≤ suc n) (λ _. omega (arith, rest, h.0))
+    (λ _. omega (arith, rest))
 
 -- the next depth stays where the depths of those beside do
-next_stays : (f : Placed → ℕ) (qs : List Placed) (p : Placed) → ((q : Placed) → Listed q qs → is_beside q p ≡ true → q.depth ≡ f q) → next_by qs p ≡ next_by (map (λ q. at_depth (f q) q) qs) p
+next_stays : (f : Placed → ℕ) (qs : List Placed) (p : Placed)
+    → ((q : Placed) → Listed q qs → is_beside q p ≡ true → q.depth ≡ f q)
+    → next_by qs p ≡ next_by (map (λ q. at_depth (f q) q) qs) p
 next_stays f [] p h = refl
 next_stays f (q ∷ qs) p h =
     let rest = next_stays f qs p (λ r l. h r (inr l)) in
@@ -74,8 +86,9 @@ next_stays f (q ∷ qs) p h =
       | inr e ↦ rw e (omega (arith, rest))
     ]
 
-pub low_round : (n : ℕ) (ps : List Placed) → AllByRecursion (λ q. q.depth ≤ n) ps → AllByRecursion (λ q. q.depth ≤ suc n) (deepened ps)
-low_round n ps h = All-from_listed (λ q. q.depth ≤ suc n) (deepened ps) (λ q l.
+pub low_round : (n : ℕ) (ps : List Placed) → AllByRecursion (λ q. q.depth ≤ n) ps
+    → AllByRecursion (λ q. q.depth ≤ suc n) (with_next_depths ps)
+low_round n ps h = All-from_listed (λ q. q.depth ≤ suc n) (with_next_depths ps) (λ q l.
     let m = map_listed (λ p. at_depth (next_depth ps p) p) ps q l in
     let small = next_small n ps m.0 h in
     subst (λ (r : Placed). r.depth ≤ suc n) m.2 (omega (arith, small, next_is ps m.0)))
@@ -84,25 +97,33 @@ flat_round : (f : Placed → ℕ) (ps : List Placed) → map flat (map (λ p. at
 flat_round f [] = refl
 flat_round f (p ∷ ps) = ap (λ qs. flat p ∷ qs) (flat_round f ps)
 
-pub flat_deepened : (ps : List Placed) → map flat (deepened ps) ≡ map flat ps
+pub flat_deepened : (ps : List Placed) → map flat (with_next_depths ps) ≡ map flat ps
 flat_deepened ps = flat_round (next_depth ps) ps
 
-pub settled_round : (n : ℕ) (ps : List Placed) → SettledBelow n ps → SettledBelow (suc n) (deepened ps)
+pub settled_round : (n : ℕ) (ps : List Placed) → SettledBelow n ps → SettledBelow (suc n) (with_next_depths ps)
 settled_round n ps settled number rises p l lt =
     let m = map_listed (λ p. at_depth (next_depth ps p) p) ps p l in
-    subst (λ (r : Placed). r.depth ≡ next_depth (deepened ps) r) m.2 (whole m.0 m.1 (subst (λ (r : Placed). number (stamp_of r.line) < suc n) (sym m.2) lt))
+    subst (λ (r : Placed). r.depth ≡ next_depth (with_next_depths ps) r) m.2
+    (whole m.0 m.1 (subst (λ (r : Placed). number (stamp_of r.line) < suc n) (sym m.2) lt))
   where
     before : Rises number ps
-    before a b la lb beside = rises (at_depth (next_depth ps a) a) (at_depth (next_depth ps b) b) (listed_map (λ p. at_depth (next_depth ps p) p) ps a la) (listed_map (λ p. at_depth (next_depth ps p) p) ps b lb) beside
+    before a b la lb beside =
+        rises (at_depth (next_depth ps a) a) (at_depth (next_depth ps b) b)
+        (listed_map (λ p. at_depth (next_depth ps p) p) ps a la)
+        (listed_map (λ p. at_depth (next_depth ps p) p) ps b lb) beside
 
-    whole : (a : Placed) → Listed a ps → number (stamp_of a.line) < suc n → next_depth ps a ≡ next_depth (deepened ps) a
+    whole : (a : Placed) → Listed a ps → number (stamp_of a.line) < suc n
+        → next_depth ps a ≡ next_depth (with_next_depths ps) a
     whole a la low =
-        let stays = next_stays (next_depth ps) ps a (λ q lq beside. settled number before q lq (let lower = before q a lq la beside in omega (arith, lower, low))) in
-        next_is ps a ∙ stays ∙ sym (next_is (deepened ps) a)
+        let stays = next_stays (next_depth ps) ps a
+        (λ q lq beside. settled number before q lq (let lower = before q a lq la beside in
+        omega (arith, lower, low))) in
+        next_is ps a ∙ stays ∙ sym (next_is (with_next_depths ps) a)
 
 -- ---- all rounds
 
-fixed : (f : Placed → ℕ) (ps : List Placed) → ps ≡ map (λ p. at_depth (f p) p) ps → AllByRecursion (λ p. p.depth ≡ f p) ps
+fixed : (f : Placed → ℕ) (ps : List Placed) → ps ≡ map (λ p. at_depth (f p) p) ps
+    → AllByRecursion (λ p. p.depth ≡ f p) ps
 fixed f [] h = tt
 fixed f (p ∷ ps) h =
     let here : p ≡ at_depth (f p) p = cc in
@@ -110,35 +131,47 @@ fixed f (p ∷ ps) h =
     (ap (λ (q : Placed). q.depth) here, fixed f ps rest)
 
 -- a round that changes nothing ends it
-pub settled_fixed : (ps : List Placed) → ps ≡ deepened ps → AreSettled ps
+pub settled_fixed : (ps : List Placed) → ps ≡ with_next_depths ps → AreSettled ps
 settled_fixed ps h = fixed (next_depth ps) ps h
 
 -- commits that differ in depth alone stand so to each other
-same_flat : (ps qs : List Placed) → map flat qs ≡ map flat ps → (q : Placed) → Listed q qs → (p : Placed) × Listed p ps × (flat p ≡ flat q)
+same_flat : (ps qs : List Placed) → map flat qs ≡ map flat ps → (q : Placed) → Listed q qs → (p : Placed) × Listed p ps
+    × (flat p ≡ flat q)
 same_flat ps qs same q l = map_listed flat ps (flat q) (subst (Listed (flat q)) same (listed_map flat qs q l))
 
-pub rises_flat : (number : Stamp → ℕ) (ps qs : List Placed) → map flat qs ≡ map flat ps → Rises number ps → Rises number qs
+pub rises_flat : (number : Stamp → ℕ) (ps qs : List Placed) → map flat qs ≡ map flat ps → Rises number ps
+    → Rises number qs
 rises_flat number ps qs same rises a b la lb beside =
     let x = same_flat ps qs same a la in
     let y = same_flat ps qs same b lb in
-    let beside' : is_beside x.0 y.0 ≡ true = ap (λ (z : Placed). is_beside z (flat y.0)) x.2 ∙ ap (λ (z : Placed). is_beside (flat a) z) y.2 ∙ beside in
+    let beside' : is_beside x.0 y.0 ≡ true =
+    ap (λ (z : Placed). is_beside z (flat y.0)) x.2 ∙ ap (λ (z : Placed). is_beside (flat a) z) y.2 ∙ beside in
     let lt = rises x.0 y.0 x.1 y.1 beside' in
-    omega (arith, lt, ap (λ (z : Placed). number (stamp_of z.line)) x.2, ap (λ (z : Placed). number (stamp_of z.line)) y.2)
+    omega (
+      arith,
+      lt,
+      ap (λ (z : Placed). number (stamp_of z.line)) x.2,
+      ap (λ (z : Placed). number (stamp_of z.line)) y.2,
+    )
 
 -- after as many rounds as commits all are settled
-pub settled_all : (n : ℕ) (ps qs : List Placed) → map flat qs ≡ map flat ps → AreAcyclic n ps → SettledBelow n qs → AreSettled qs
+pub settled_all : (n : ℕ) (ps qs : List Placed) → map flat qs ≡ map flat ps → AreAcyclic n ps → SettledBelow n qs
+    → AreSettled qs
 settled_all n ps qs same acyclic settled =
     All-from_listed (λ q. q.depth ≡ next_depth qs q) qs (λ q l.
     let x = same_flat ps qs same q l in
     let low = acyclic.below x.0 x.1 in
-    settled acyclic.number (rises_flat acyclic.number ps qs same acyclic.rises) q l (omega (arith, low, ap (λ (z : Placed). acyclic.number (stamp_of z.line)) x.2)))
+    settled acyclic.number (rises_flat acyclic.number ps qs same acyclic.rises) q l
+    (omega (arith, low, ap (λ (z : Placed). acyclic.number (stamp_of z.line)) x.2)))
 
 -- ---- a map over the front, place by place
 
-pub front_more : {X : Type 0} (f : X → X) (xs : List X) (i : ℕ) (d : X) → i < length xs → set (mapped_front f i xs) i (f (get_or (mapped_front f i xs) i d)) ≡ mapped_front f (i + 1) xs
+pub front_more : {X : Type 0} (f : X → X) (xs : List X) (i : ℕ) (d : X) → i < length xs
+    → set (mapped_front f i xs) i (f (get_or (mapped_front f i xs) i d)) ≡ mapped_front f (i + 1) xs
 front_more f [] i d h = absurd (omega arith)
 front_more f (x ∷ xs) zero d h = refl
-front_more f (x ∷ xs) (suc i) d h = let e : suc i + 1 ≡ suc (i + 1) = omega arith in rw e (ap (λ ys. f x ∷ ys) (front_more f xs i d (omega arith)))
+front_more f (x ∷ xs) (suc i) d h = let e : suc i + 1 ≡ suc (i + 1) =
+    omega arith in rw e (ap (λ ys. f x ∷ ys) (front_more f xs i d (omega arith)))
 
 pub front_all : {X : Type 0} (f : X → X) (xs : List X) (n : ℕ) → length xs ≤ n → mapped_front f n xs ≡ map f xs
 front_all f [] zero h = refl

@@ -1,4 +1,5 @@
 pub mod FitsLemmas
+pub mod SpellingLemmas
 mod LevelLemmas
 mod DepthLemmas
 mod OrderLemmas

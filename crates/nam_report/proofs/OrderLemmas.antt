@@ -6,7 +6,8 @@ use Rattle.nam_report.specs.declared.arranging.placed.Placed.{Placed}
 use Rattle.nam_report.specs.Depths.{NotAfter}
 
 pub not_after_near : (a b : Placed)
-    → is_lt (ordering_then (ordering_then (ordering_then (nat_cmp b.level a.level) (nat_cmp b.depth a.depth)) (nat_cmp b.line.worker a.line.worker)) (nat_cmp b.line.number a.line.number)) ≡ false → NotAfter a b
+    → is_lt (ordering_then (ordering_then (ordering_then (nat_cmp b.level a.level) (nat_cmp b.depth a.depth))
+    (nat_cmp b.line.worker a.line.worker)) (nat_cmp b.line.number a.line.number)) ≡ false → NotAfter a b
 not_after_near a b h = grind (arith, nat_tests)
 
 pub not_after_trans : (a b c : Placed) → NotAfter a b → NotAfter b c → NotAfter a c

@@ -1,5 +1,6 @@
 -- Published commits: their workers, numbers and operations, and how many a snapshot has.
-use Rattle.std.proofs.Common.{◌≡◌, ℕ, suc, ◌+◌, ◌-◌, ◌<◌, ◌≤◌, Bool, false, inl, inr, List, [], ◌∷◌, ◌++◌, length, get_or, take, drop, map, refl, ap, arith, Option, Some, None}
+use Rattle.std.proofs.Common.{◌≡◌, ℕ, suc, ◌+◌, ◌-◌, ◌<◌, ◌≤◌, Bool, false, inl, inr, List, [], ◌∷◌, ◌++◌, length}
+use Rattle.std.proofs.Common.{get_or, take, drop, map, refl, ap, arith, Option, Some, None}
 use Rattle.std.specs.Prelude.{is_some, unwrap_or, IsTrue, slice_index_or}
 use Rattle.std.specs.List.{AllByRecursion, IsDistinct}
 use Rattle.std.proofs.lemmas.List.{length-append}
@@ -16,7 +17,8 @@ use Rattle.si_model.specs.declared.log.Event.TheVariants.{Tried}
 use Rattle.si_model.specs.declared.log.Log.{Log}
 use Rattle.si_model.specs.Lists.{Listed, Pairwise}
 use Rattle.si_model.specs.History.{stamp_of, same_stamp}
-use Rattle.si_model.specs.Tells.{Tell, tells_from, tells_of, ops_in, reads_in, locks_in, writes_in, snaps_in, prefix_in, number_in, commit_in, last_number}
+use Rattle.si_model.specs.Tells.{Tell, tells_from, tells_of, ops_in, reads_in, locks_in, writes_in, snaps_in, prefix_in}
+use Rattle.si_model.specs.Tells.{number_in, commit_in, last_number}
 use Rattle.si_model.specs.Commits.{Published, published_in, published_at, published_of, published_from}
 use Rattle.si_model.specs.Snapshots.{sum_above}
 use Rattle.si_model.specs.Consistency.{OwnsSnapshot, NumbersFollow, AreOwned, IsWithin}
@@ -24,7 +26,8 @@ use Rattle.si_model.proofs.ListLemmas.{All-listed, All-from_listed, All-append}
 
 -- ---- the worker
 
-worker_in : (j : ℕ) (t : Tell) (a : Attempt) (p : Option ℕ) (o : Outcome) → AllByRecursion (λ c. c.line.worker ≡ j) (published_in j t a p o)
+worker_in : (j : ℕ) (t : Tell) (a : Attempt) (p : Option ℕ) (o : Outcome)
+    → AllByRecursion (λ c. c.line.worker ≡ j) (published_in j t a p o)
 worker_in j t a (Some p) (Commit n) = (refl, tt)
 worker_in j t a p o = tt
 
@@ -34,14 +37,22 @@ worker_at j t e = tt
 
 pub worker_of : (j : ℕ) (ts : List Tell) → AllByRecursion (λ c. c.line.worker ≡ j) (published_of j ts)
 worker_of j [] = tt
-worker_of j (t ∷ ts) = All-append (λ c. c.line.worker ≡ j) (published_at j t t.event) (published_of j ts) (worker_at j t t.event) (worker_of j ts)
+worker_of j (t ∷ ts) =
+    All-append (λ c. c.line.worker ≡ j) (published_at j t t.event) (published_of j ts) (worker_at j t t.event)
+    (worker_of j ts)
 
 pub worker_from : (j : ℕ) (tss : List (List Tell)) → AllByRecursion (λ c. j ≤ c.line.worker) (published_from j tss)
 worker_from j [] = tt
 worker_from j (ts ∷ tss) =
     All-append (λ c. j ≤ c.line.worker) (published_of j ts) (published_from (suc j) tss)
-    (All-from_listed (λ c. j ≤ c.line.worker) (published_of j ts) (λ c l. omega (arith, All-listed (λ c. c.line.worker ≡ j) (published_of j ts) c (worker_of j ts) l)))
-    (All-from_listed (λ c. j ≤ c.line.worker) (published_from (suc j) tss) (λ c l. omega (arith, All-listed (λ c. suc j ≤ c.line.worker) (published_from (suc j) tss) c (worker_from (suc j) tss) l)))
+    (All-from_listed (λ c. j ≤ c.line.worker) (published_of j ts)
+    (λ c l. omega (arith, All-listed (λ c. c.line.worker ≡ j) (published_of j ts) c (worker_of j ts) l)))
+    (All-from_listed (λ c. j ≤ c.line.worker) (published_from (suc j) tss)
+    (λ c l. omega (
+      arith,
+      All-listed (λ c. suc j ≤ c.line.worker) (published_from (suc j) tss) c
+          (worker_from (suc j) tss) l,
+    )))
 
 -- ---- the operations
 
@@ -53,20 +64,33 @@ ops_in_attempt : (jobs : List (List Op)) (j : ℕ) (t : Tell) (a : Attempt) (p :
 ops_in_attempt jobs j t a (Some p) (Commit n) h = (h, tt)
 ops_in_attempt jobs j t a p o h = tt
 
-ops_at : (jobs : List (List Op)) (j : ℕ) (t : Tell) (e : Event) → t.ops ≡ ops_in jobs e → AllByRecursion (HasOps jobs) (published_at j t e)
+ops_at : (jobs : List (List Op)) (j : ℕ) (t : Tell) (e : Event) → t.ops ≡ ops_in jobs e
+    → AllByRecursion (HasOps jobs) (published_at j t e)
 ops_at jobs j t (Tried a) h = ops_in_attempt jobs j t a a.prefix a.outcome h
 ops_at jobs j t e h = tt
 
-ops_of : (jobs : List (List Op)) (j : ℕ) (es : List Event) (rs : List Item) (ls : List Lock) (ws : List Item) (ss : List (List ℕ))
+ops_of : (jobs : List (List Op)) (j : ℕ) (es : List Event) (rs : List Item) (ls : List Lock) (ws : List Item)
+    (ss : List (List ℕ))
     → AllByRecursion (HasOps jobs) (published_of j (tells_from jobs es rs ls ws ss))
 ops_of jobs j [] rs ls ws ss = tt
 ops_of jobs j (e ∷ es) rs ls ws ss =
-    let t : Tell = record { event = e; ops = ops_in jobs e; reads = take (reads_in e) rs; locks = take (locks_in e) ls; writes = take (writes_in e) ws; snap = get_or (take (snaps_in e) ss) 0 [] } in
-    All-append (HasOps jobs) (published_at j t e) (published_of j (tells_from jobs es (drop (reads_in e) rs) (drop (locks_in e) ls) (drop (writes_in e) ws) (drop (snaps_in e) ss)))
-    (ops_at jobs j t e refl) (ops_of jobs j es (drop (reads_in e) rs) (drop (locks_in e) ls) (drop (writes_in e) ws) (drop (snaps_in e) ss))
+    let t : Tell = record {
+      event = e;
+      ops = ops_in jobs e;
+      reads = take (reads_in e) rs;
+      locks = take (locks_in e) ls;
+      writes = take (writes_in e) ws;
+      snap = get_or (take (snaps_in e) ss) 0 [];
+    } in
+    All-append (HasOps jobs) (published_at j t e)
+    (published_of j (tells_from jobs es (drop (reads_in e) rs) (drop (locks_in e) ls) (drop (writes_in e) ws)
+    (drop (snaps_in e) ss)))
+    (ops_at jobs j t e refl) (ops_of jobs j es (drop (reads_in e) rs) (drop (locks_in e) ls) (drop (writes_in e) ws)
+    (drop (snaps_in e) ss))
 
 -- published commits have their transactions' operations
-pub ops_from : (jobs : List (List Op)) (j : ℕ) (logs : List Log) → AllByRecursion (HasOps jobs) (published_from j (map (tells_of jobs) logs))
+pub ops_from : (jobs : List (List Op)) (j : ℕ) (logs : List Log)
+    → AllByRecursion (HasOps jobs) (published_from j (map (tells_of jobs) logs))
 ops_from jobs j [] = tt
 ops_from jobs j (log ∷ logs) =
     All-append (HasOps jobs) (published_of j (tells_of jobs log)) (published_from (suc j) (map (tells_of jobs) logs))
@@ -76,25 +100,31 @@ ops_from jobs j (log ∷ logs) =
 
 last_in : (j n : ℕ) (t : Tell) (ts : List Tell) (cs : List Published) (a : Attempt) (p : Option ℕ) (o : Outcome)
     → (IsTrue (is_some (number_in o)) → IsTrue (is_some p)) → NumbersFollow n (published_in j t a p o ++ cs)
-    → ((m : ℕ) → NumbersFollow m cs → last_number m ts ≡ m + length cs) → last_number (unwrap_or (number_in o) n) ts ≡ n + length (published_in j t a p o ++ cs)
+    → ((m : ℕ) → NumbersFollow m cs → last_number m ts ≡ m + length cs)
+    → last_number (unwrap_or (number_in o) n) ts ≡ n + length (published_in j t a p o ++ cs)
 last_in j n t ts cs a (Some p) (Commit number) has follow rest =
     let at : last_number number ts ≡ last_number (suc n) ts = ap (λ m. last_number m ts) follow.0 in
     omega (arith, at, rest (suc n) follow.1)
 last_in j n t ts cs a None (Commit number) has follow rest = absurd (false≢true (has refl))
 last_in j n t ts cs a p o has follow rest = rest n follow
 
-last_at : (j n : ℕ) (t : Tell) (ts : List Tell) (cs : List Published) (e : Event) → (IsTrue (is_some (commit_in e)) → IsTrue (is_some (prefix_in e))) → NumbersFollow n (published_at j t e ++ cs)
-    → ((m : ℕ) → NumbersFollow m cs → last_number m ts ≡ m + length cs) → last_number (unwrap_or (commit_in e) n) ts ≡ n + length (published_at j t e ++ cs)
+last_at : (j n : ℕ) (t : Tell) (ts : List Tell) (cs : List Published) (e : Event)
+    → (IsTrue (is_some (commit_in e)) → IsTrue (is_some (prefix_in e))) → NumbersFollow n (published_at j t e ++ cs)
+    → ((m : ℕ) → NumbersFollow m cs → last_number m ts ≡ m + length cs)
+    → last_number (unwrap_or (commit_in e) n) ts ≡ n + length (published_at j t e ++ cs)
 last_at j n t ts cs (Tried a) has follow rest = last_in j n t ts cs a a.prefix a.outcome has follow rest
 last_at j n t ts cs e has follow rest = rest n follow
 
 -- a worker's last number counts its commits
-pub last_counts : (start j n : ℕ) (ts : List Tell) → AllByRecursion (OwnsSnapshot start) ts → NumbersFollow n (published_of j ts) → last_number n ts ≡ n + length (published_of j ts)
+pub last_counts : (start j n : ℕ) (ts : List Tell) → AllByRecursion (OwnsSnapshot start) ts
+    → NumbersFollow n (published_of j ts) → last_number n ts ≡ n + length (published_of j ts)
 last_counts start j n [] owned follow = omega arith
-last_counts start j n (t ∷ ts) owned follow = last_at j n t ts (published_of j ts) t.event owned.0.commit follow (λ m h. last_counts start j m ts owned.1 h)
+last_counts start j n (t ∷ ts) owned follow =
+    last_at j n t ts (published_of j ts) t.event owned.0.commit follow (λ m h. last_counts start j m ts owned.1 h)
 
 -- a snapshot has at most the published commits
-pub sum_within : (start j : ℕ) (snap : List ℕ) (tss : List (List Tell)) → AreOwned start j tss → IsWithin start snap tss → sum_above start snap ≤ length (published_from j tss)
+pub sum_within : (start j : ℕ) (snap : List ℕ) (tss : List (List Tell)) → AreOwned start j tss → IsWithin start snap tss
+    → sum_above start snap ≤ length (published_from j tss)
 sum_within start j [] [] owned within = omega arith
 sum_within start j [] (ts ∷ tss) owned within = elim within [ ]
 sum_within start j (n ∷ ns) [] owned within = elim within [ ]
@@ -110,7 +140,11 @@ Apart c d = same_stamp (stamp_of c.line) (stamp_of d.line) ≡ false
 
 pub numbers_above : (m : ℕ) (cs : List Published) → NumbersFollow m cs → AllByRecursion (λ c. m < c.line.number) cs
 numbers_above m [] h = tt
-numbers_above m (c ∷ cs) h = (omega (arith, h.0), All-from_listed (λ d. m < d.line.number) cs (λ d l. omega (arith, All-listed (λ d. suc m < d.line.number) cs d (numbers_above (suc m) cs h.1) l)))
+numbers_above m (c ∷ cs) h = (
+  omega (arith, h.0),
+  All-from_listed (λ d. m < d.line.number) cs
+      (λ d l. omega (arith, All-listed (λ d. suc m < d.line.number) cs d (numbers_above (suc m) cs h.1) l)),
+)
 
 apart_number : (c d : Published) → c.line.number < d.line.number → Apart c d
 apart_number c d h = grind (arith, nat_tests)
@@ -120,26 +154,39 @@ apart_worker c d h = grind (arith, nat_tests)
 
 apart_numbers : (m : ℕ) (cs : List Published) → NumbersFollow m cs → Pairwise Apart cs
 apart_numbers m [] h = tt
-apart_numbers m (c ∷ cs) h =
-    (All-from_listed (Apart c) cs (λ d l. apart_number c d (omega (arith, h.0, All-listed (λ d. suc m < d.line.number) cs d (numbers_above (suc m) cs h.1) l))), apart_numbers (suc m) cs h.1)
+apart_numbers m (c ∷ cs) h = (
+  All-from_listed (Apart c) cs (λ d l. apart_number c d
+      (omega (arith, h.0, All-listed (λ d. suc m < d.line.number) cs d (numbers_above (suc m) cs h.1) l))),
+  apart_numbers (suc m) cs h.1,
+)
 
-Pairwise-append : {X : Type 0} (R : X → X → Type 0) (xs ys : List X) → Pairwise R xs → Pairwise R ys → ((x y : X) → Listed x xs → Listed y ys → R x y) → Pairwise R (xs ++ ys)
+Pairwise-append : {X : Type 0} (R : X → X → Type 0) (xs ys : List X) → Pairwise R xs → Pairwise R ys
+    → ((x y : X) → Listed x xs → Listed y ys → R x y) → Pairwise R (xs ++ ys)
 Pairwise-append R [] ys h k cross = k
-Pairwise-append R (x ∷ xs) ys h k cross =
-    (All-append (R x) xs ys h.0 (All-from_listed (R x) ys (λ y l. cross x y (inl refl) l)), Pairwise-append R xs ys h.1 k (λ a b la lb. cross a b (inr la) lb))
+Pairwise-append R (x ∷ xs) ys h k cross = (
+  All-append (R x) xs ys h.0 (All-from_listed (R x) ys (λ y l. cross x y (inl refl) l)),
+  Pairwise-append R xs ys h.1 k (λ a b la lb. cross a b (inr la) lb),
+)
 
 pub apart_from : (start j : ℕ) (tss : List (List Tell)) → AreOwned start j tss → Pairwise Apart (published_from j tss)
 apart_from start j [] owned = tt
 apart_from start j (ts ∷ tss) owned =
-    Pairwise-append Apart (published_of j ts) (published_from (suc j) tss) (apart_numbers start (published_of j ts) owned.0.numbers) (apart_from start (suc j) tss owned.1)
-    (λ c d lc ld. apart_worker c d (omega (arith, All-listed (λ c. c.line.worker ≡ j) (published_of j ts) c (worker_of j ts) lc, All-listed (λ c. suc j ≤ c.line.worker) (published_from (suc j) tss) d (worker_from (suc j) tss) ld)))
+    Pairwise-append Apart (published_of j ts) (published_from (suc j) tss)
+    (apart_numbers start (published_of j ts) owned.0.numbers) (apart_from start (suc j) tss owned.1)
+    (λ c d lc ld. apart_worker c d (omega (
+      arith,
+      All-listed (λ c. c.line.worker ≡ j) (published_of j ts) c (worker_of j ts) lc,
+      All-listed (λ c. suc j ≤ c.line.worker) (published_from (suc j) tss) d (worker_from (suc j) tss) ld,
+    )))
 
-pub distinct_from_pairs : {X : Type 0} (e : X → X → Bool) (xs : List X) → Pairwise (λ x y. e x y ≡ false) xs → IsDistinct e xs
+pub distinct_from_pairs : {X : Type 0} (e : X → X → Bool) (xs : List X) → Pairwise (λ x y. e x y ≡ false) xs
+    → IsDistinct e xs
 unfolding IsDistinct
 distinct_from_pairs e [] h = tt
 distinct_from_pairs e (x ∷ xs) h = (h.0, distinct_from_pairs e xs h.1)
 
-pub pairs_from_distinct : {X : Type 0} (e : X → X → Bool) (xs : List X) → IsDistinct e xs → Pairwise (λ x y. e x y ≡ false) xs
+pub pairs_from_distinct : {X : Type 0} (e : X → X → Bool) (xs : List X) → IsDistinct e xs
+    → Pairwise (λ x y. e x y ≡ false) xs
 unfolding IsDistinct
 pairs_from_distinct e [] h = tt
 pairs_from_distinct e (x ∷ xs) h = (h.0, pairs_from_distinct e xs h.1)

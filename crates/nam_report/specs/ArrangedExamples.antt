@@ -1,5 +1,6 @@
 -- Logs of worked examples, without their reads and locks, for tests.
-use Rattle.std.specs.Prelude.{ℕ, zero, suc, ◌≡◌, ◌<◌, ◌^◌, true, false, List, [], ◌∷◌, length, map, replicate, Option, Some, None}
+use Rattle.std.specs.Prelude.{ℕ, zero, suc, ◌≡◌, ◌<◌, ◌^◌, true, false, List, [], ◌∷◌, length, map, replicate, Option}
+use Rattle.std.specs.Prelude.{Some, None}
 use Rattle.std.specs.List.{AllByRecursion}
 use Rattle.si_model.specs.declared.row.Item.{Item}
 use Rattle.si_model.specs.declared.op.Op.{Op}
@@ -20,7 +21,8 @@ pub record AreReady (jobs : List (List Op)) (logs : List Log) : Type 0 where
   pub can_be_arranged : CanBeArranged 0 jobs (map (tells_of jobs) logs)
 
 abbrev pub attempt : ℕ → ℕ → Option ℕ → ℕ → Outcome → Event
-attempt txn nth prefix writes outcome = Tried (record { txn = txn; nth = nth; prefix = prefix; reads = 0; locks = 0; writes = writes; outcome = outcome })
+attempt txn nth prefix writes outcome =
+    Tried (record { txn = txn; nth = nth; prefix = prefix; reads = 0; locks = 0; writes = writes; outcome = outcome })
 
 -- a commit that writes one key
 abbrev pub commit : ℕ → ℕ → ℕ → ℕ → Event
@@ -38,14 +40,17 @@ first_committer_jobs = (Add 0 0 1 true 5 ∷ []) ∷ (Add 0 0 1 true 7 ∷ []) �
 abbrev pub first_committer_logs : List Log
 first_committer_logs =
     log (commit 1 1 0 1 ∷ []) (item 0 105 ∷ []) ((0 ∷ 0 ∷ []) ∷ [])
-    ∷ log (attempt 2 1 (Some 0) 0 (Newer (record { table = 0; key = 0; stamp = stamp_at 1 1 })) ∷ commit 2 2 1 1 ∷ []) (item 0 112 ∷ []) ((0 ∷ 0 ∷ []) ∷ (1 ∷ 0 ∷ []) ∷ [])
+    ∷ log (attempt 2 1 (Some 0) 0 (Newer (record { table = 0; key = 0; stamp = stamp_at 1 1 })) ∷ commit 2 2 1 1 ∷ [])
+    (item 0 112 ∷ []) ((0 ∷ 0 ∷ []) ∷ (1 ∷ 0 ∷ []) ∷ [])
     ∷ []
 
 abbrev pub write_skew_jobs : List (List Op)
-write_skew_jobs = (Need 0 0 1 60 ∷ Need 0 1 1 60 ∷ Add 0 0 1 false 60 ∷ []) ∷ (Need 0 0 1 60 ∷ Need 0 1 1 60 ∷ Add 0 1 1 false 60 ∷ []) ∷ []
+write_skew_jobs = (Need 0 0 1 60 ∷ Need 0 1 1 60 ∷ Add 0 0 1 false 60 ∷ [])
+    ∷ (Need 0 0 1 60 ∷ Need 0 1 1 60 ∷ Add 0 1 1 false 60 ∷ []) ∷ []
 
 abbrev pub write_skew_logs : List Log
-write_skew_logs = log (commit 1 1 0 1 ∷ []) (item 0 0 ∷ []) ((0 ∷ 0 ∷ []) ∷ []) ∷ log (commit 2 1 0 1 ∷ []) (item 1 0 ∷ []) ((0 ∷ 0 ∷ []) ∷ []) ∷ []
+write_skew_logs = log (commit 1 1 0 1 ∷ []) (item 0 0 ∷ []) ((0 ∷ 0 ∷ []) ∷ [])
+    ∷ log (commit 2 1 0 1 ∷ []) (item 1 0 ∷ []) ((0 ∷ 0 ∷ []) ∷ []) ∷ []
 
 abbrev pub again_jobs : List (List Op)
 again_jobs = (Get 0 0 ∷ []) ∷ (Add 0 0 1 true 1 ∷ []) ∷ []
@@ -70,7 +75,8 @@ abbrev pub guard_jobs : List (List Op)
 guard_jobs = (Guard 0 0 ∷ Put 0 1 (1 ∷ []) ∷ []) ∷ (Put 0 0 (9 ∷ []) ∷ []) ∷ []
 
 abbrev pub guard_logs : List Log
-guard_logs = log (commit 2 1 0 1 ∷ []) (item 0 9 ∷ []) ((0 ∷ 0 ∷ []) ∷ []) ∷ log (commit 1 1 0 1 ∷ []) (item 1 1 ∷ []) ((0 ∷ 0 ∷ []) ∷ []) ∷ []
+guard_logs = log (commit 2 1 0 1 ∷ []) (item 0 9 ∷ []) ((0 ∷ 0 ∷ []) ∷ [])
+    ∷ log (commit 1 1 0 1 ∷ []) (item 1 1 ∷ []) ((0 ∷ 0 ∷ []) ∷ []) ∷ []
 
 -- the operations of the one transaction of logs of any size
 abbrev pub sized_jobs : List (List Op)

@@ -1,5 +1,6 @@
 -- The depths of placed commits, and how they settle.
-use Rattle.std.specs.Prelude.{ℕ, suc, ◌-◌, ◌<◌, ◌≤◌, ◌≡◌, ◌==◌, ◌&&◌, ◌⊎◌, max, Bool, IsTrue, if◌then◌else◌, List, [], ◌∷◌, map, slice_index_or, unwrap_or, IsPermutation}
+use Rattle.std.specs.Prelude.{ℕ, suc, ◌-◌, ◌<◌, ◌≤◌, ◌≡◌, ◌==◌, ◌&&◌, ◌⊎◌, max, Bool, IsTrue, if◌then◌else◌, List, []}
+use Rattle.std.specs.Prelude.{◌∷◌, map, slice_index_or, unwrap_or, IsPermutation}
 use Rattle.std.specs.List.{list_any, AllByRecursion}
 use Rattle.std.specs.declared.cmp.Ordering.{Ordering}
 use Rattle.std.specs.Ordering.{nat_cmp, ordering_then}
@@ -23,7 +24,8 @@ HasJob jobs e = (1 ≤ e.txn) × (e.txn ≤ jobs)
 
 -- a commit at its level, at depth 0
 abbrev pub placed_with : (Stamp → ℕ) → List (List Op) → CommitLine → Placed
-placed_with level jobs e = record { level = level (stamp_of e); depth = 0; guards = guard_keys (slice_index_or jobs (e.txn - 1) []); line = e }
+placed_with level jobs e =
+    record { level = level (stamp_of e); depth = 0; guards = guard_keys (slice_index_or jobs (e.txn - 1) []); line = e }
 
 abbrev pub at_depth : ℕ → Placed → Placed
 at_depth n p = record { level = p.level; depth = n; guards = p.guards; line = p.line }
@@ -64,8 +66,8 @@ abbrev pub next_depth : List Placed → Placed → ℕ
 next_depth ps p = deepest (reach ps) p.level p.line.writes
 
 -- the commits at their next depths
-abbrev pub deepened : List Placed → List Placed
-deepened ps = map (λ p. at_depth (next_depth ps p) p) ps
+abbrev pub with_next_depths : List Placed → List Placed
+with_next_depths ps = map (λ p. at_depth (next_depth ps p) p) ps
 
 -- all have their next depths
 abbrev pub AreSettled : List Placed → Type 0
@@ -77,11 +79,13 @@ is_beside p q = (p.level == q.level) && list_any (λ key. writes_key q.line.writ
 
 -- the numbers rise from a commit to those that it stands beside
 abbrev pub Rises : (Stamp → ℕ) → List Placed → Type 0
-Rises number ps = (p q : Placed) → Listed p ps → Listed q ps → IsTrue (is_beside p q) → number (stamp_of p.line) < number (stamp_of q.line)
+Rises number ps = (p q : Placed) → Listed p ps → Listed q ps → IsTrue (is_beside p q)
+    → number (stamp_of p.line) < number (stamp_of q.line)
 
 -- the commits whose number is below n have their next depths, however the numbers rise
 abbrev pub SettledBelow : ℕ → List Placed → Type 0
-SettledBelow n ps = (number : Stamp → ℕ) → Rises number ps → (p : Placed) → Listed p ps → number (stamp_of p.line) < n → p.depth ≡ next_depth ps p
+SettledBelow n ps = (number : Stamp → ℕ) → Rises number ps → (p : Placed) → Listed p ps → number (stamp_of p.line) < n
+    → p.depth ≡ next_depth ps p
 
 -- no circle of commits in which each stands beside the next: they have numbers below n that rise
 pub record AreAcyclic (n : ℕ) (ps : List Placed) : Type 0 where
@@ -100,7 +104,8 @@ NotAfter a b =
     (a.level < b.level)
     ⊎ ((a.level ≡ b.level)
     × ((a.depth < b.depth)
-    ⊎ ((a.depth ≡ b.depth) × ((a.line.worker < b.line.worker) ⊎ ((a.line.worker ≡ b.line.worker) × (a.line.number ≤ b.line.number))))))
+    ⊎ ((a.depth ≡ b.depth) × ((a.line.worker < b.line.worker)
+    ⊎ ((a.line.worker ≡ b.line.worker) × (a.line.number ≤ b.line.number))))))
 
 abbrev pub line_of : Placed → CommitLine
 line_of p = p.line

@@ -1,5 +1,5 @@
 -- Which reports fit a script.
-use Rattle.std.specs.Prelude.{ℕ, ◌+◌, ◌≡◌, ◌<◌, List, [], ◌∷◌, length, slice_index, Option, IfSome}
+use Rattle.std.specs.Prelude.{ℕ, ◌≡◌, ◌<◌, List, [], ◌∷◌, length, slice_index, Option, IfSome}
 use Rattle.std.specs.List.{AllByRecursion}
 use Rattle.si_model.specs.declared.row.Item.{Item}
 use Rattle.si_model.specs.declared.log.Lock.{Lock}
@@ -11,9 +11,9 @@ use Rattle.si_model.specs.declared.log.Log.{Log}
 use Rattle.si_model.specs.declared.report.CommitLine.{CommitLine}
 use Rattle.si_model.specs.declared.report.AuditRow.{AuditRow}
 use Rattle.si_model.specs.declared.report.Report.{Report}
+use Rattle.si_model.specs.Tells.{reads_in, locks_in, total}
 use Rattle.nam_catalog.specs.Tables.{widths_of}
 use Rattle.nam_script.specs.declared.script.Script.{Script}
-use Rattle.nam_report.specs.Text.{reads_of, locks_of}
 
 -- the number is one of the tables'
 abbrev pub NamesTable : List ℕ → ℕ → Type 0
@@ -55,21 +55,16 @@ EventFits workers widths (TidyCut t k) = NamesTable widths t
 EventFits workers widths TailCut = Unit {0}
 EventFits workers widths (Finished how) = Unit {0}
 
--- how many items the events own together
-abbrev pub total : (Event → ℕ) → List Event → ℕ
-total owned [] = 0
-total owned (e ∷ es) = owned e + total owned es
-
--- the events' counts are those of the reads and the locks
-pub record CountsFit (l : Log) : Type 0 where
-  pub reads : total reads_of l.events ≡ length l.reads
-  pub locks : total locks_of l.events ≡ length l.locks
+-- the events own all reads and locks of the log, and no more
+pub record ItemsFit (l : Log) : Type 0 where
+  pub reads : total reads_in l.events ≡ length l.reads
+  pub locks : total locks_in l.events ≡ length l.locks
 
 pub record LogFits (workers : ℕ) (widths : List ℕ) (l : Log) : Type 0 where
   pub events : AllByRecursion (EventFits workers widths) l.events
   pub reads : AllByRecursion (ItemFits widths) l.reads
   pub locks : AllByRecursion (LockFits widths) l.locks
-  pub counts : CountsFit l
+  pub counts : ItemsFit l
 
 abbrev pub EntryFits : List ℕ → CommitLine → Type 0
 EntryFits widths c = AllByRecursion (ItemFits widths) c.writes

@@ -17,7 +17,8 @@ use Rattle.si_model.specs.Knowledge.{AreAtMost}
 
 -- the entry of worker j's attempt, where it is a commit on a prefix
 abbrev pub line_in : ℕ → Attempt → Option ℕ → Outcome → List Item → List CommitLine
-line_in j a (Some p) (Commit number) ws = record { worker = j; number = number; prefix = p; txn = a.txn; writes = ws } ∷ []
+line_in j a (Some p) (Commit number) ws =
+    record { worker = j; number = number; prefix = p; txn = a.txn; writes = ws } ∷ []
 line_in j a prefix outcome ws = []
 
 abbrev pub line_at : ℕ → Event → List Item → List CommitLine
@@ -40,8 +41,8 @@ snaps_in_logs [] = []
 snaps_in_logs (log ∷ logs) = log.snaps ++ snaps_in_logs logs
 
 -- what references to snapshots show
-abbrev pub shown : List (Bor (List ℕ)) → List (List ℕ)
-shown ss = map (λ s. s.now) ss
+abbrev pub referents : List (Bor (List ℕ)) → List (List ℕ)
+referents ss = map (λ s. s.now) ss
 
 -- a chain of snapshots, each of at most so many commits
 pub record AreChained (start limit : ℕ) (ss : List (List ℕ)) : Type 0 where

@@ -7,7 +7,6 @@ ghost use Rattle.si_model.specs.Consistency.{CanBeArranged};
 ghost use Rattle.si_model.specs.Arranged.{IsArranged};
 
 mod depths;
-mod guards;
 mod levels;
 mod lines;
 mod order;
@@ -45,8 +44,10 @@ pub fn arrange(
 ) -> Result<Vec<CommitLine>, AllocError>
     requires few { length logs.now < 2 ^ 31 }
     requires counts { AllByRecursion CountsFit logs.now }
-    requires can_be_arranged { CanBeArranged start (map (λ job. job.items) jobs.now) (map (tells_of (map (λ job. job.items) jobs.now)) logs.now) }
-    ensures { IfOk result (λ history. IsArranged start (map (tells_of (map (λ job. job.items) jobs.now)) logs.now) history.items) }
+    requires can_be_arranged { let jobs = map (λ job. job.items) jobs.now in
+        CanBeArranged start jobs (map (tells_of jobs) logs.now) }
+    ensures { IfOk result (λ history.
+        IsArranged start (map (tells_of (map (λ job. job.items) jobs.now)) logs.now) history.items) }
 {
     let lines = lines_of(alloc, logs)?;
     let snapshots = snapshots_of(alloc, logs, start)?;

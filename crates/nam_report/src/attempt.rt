@@ -1,7 +1,9 @@
 //! The line of an attempt.
 
 ghost use Rattle.std.specs.Prelude.{◌≡◌, ◌++◌, OnOk, string_bytes};
-ghost use Rattle.nam_report.specs.Text.{lock_text, prefix_text, outcome_text, attempt_line};
+ghost use Rattle.std.specs.Fmt.{decimal};
+ghost use Rattle.nam_text.specs.Spelling.{dash_text};
+ghost use Rattle.nam_report.specs.Text.{lock_text, outcome_text, attempt_line};
 
 use crate::item::push_lock;
 use nam_catalog::{Table, name_at};
@@ -11,7 +13,7 @@ use std::fmt::Write;
 
 /// Appends the length of the prefix that was seen, or a dash where there was no snapshot.
 fn push_prefix(out: &mut String, prefix: Option<u64>) -> Result<(), AllocError>
-    ensures { OnOk result (string_bytes out.new ≡ string_bytes out.old ++ prefix_text prefix) }
+    ensures { OnOk result (string_bytes out.new ≡ string_bytes out.old ++ dash_text decimal prefix) }
 {
     match prefix {
         Some(length) => write!(out, "{length}"),
@@ -20,6 +22,7 @@ fn push_prefix(out: &mut String, prefix: Option<u64>) -> Result<(), AllocError>
 }
 
 /// Appends how an attempt ended.
+#[tactic(auto, unfolding(crate::specs::Spelling::spelt_outcome))]
 fn push_outcome(out: &mut String, tables: &[Table], outcome: Outcome) -> Result<(), AllocError>
     ensures { OnOk result (string_bytes out.new ≡ string_bytes out.old ++ outcome_text tables.now outcome) }
 {

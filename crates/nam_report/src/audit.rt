@@ -1,7 +1,9 @@
 //! The lines of an audit.
 
-ghost use Rattle.std.specs.Prelude.{◌≡◌, ◌++◌, OnOk, string_bytes};
-ghost use Rattle.nam_report.specs.Text.{mark_text, audit_line, audit_rows_text, audit_text};
+ghost use Rattle.std.specs.Prelude.{◌≡◌, ◌++◌, OnOk, codes, string_bytes};
+ghost use Rattle.nam_text.specs.Spelling.{mark};
+ghost use Rattle.nam_text.specs.Kinds.{behind_spaces};
+ghost use Rattle.nam_report.specs.Text.{audit_line, audit_rows_text, audit_text};
 
 use crate::item::push_key;
 use nam_catalog::Table;
@@ -12,7 +14,8 @@ use std::fmt::Write;
 
 /// Appends the mark of a row that was found locked.
 fn push_mark(out: &mut String, locked: bool) -> Result<(), AllocError>
-    ensures { OnOk result (string_bytes out.new ≡ string_bytes out.old ++ mark_text locked) }
+    ensures { OnOk result
+        (string_bytes out.new ≡ string_bytes out.old ++ behind_spaces (mark (codes "locked") locked)) }
 {
     if locked {
         out.push_str(" locked")?;

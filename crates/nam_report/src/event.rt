@@ -1,7 +1,8 @@
 //! The lines of an event.
 
 ghost use Rattle.std.specs.Prelude.{◌≡◌, ◌++◌, OnOk, string_bytes};
-ghost use Rattle.nam_report.specs.Text.{lock_text, move_end_text, move_line, collect_end_text, collect_line, tidy_cut_line, finish_text, event_line, event_text, reads_of, locks_of};
+ghost use Rattle.nam_report.specs.Spelling.{move_end_word, collect_end_word, finish_word};
+ghost use Rattle.nam_report.specs.Text.{lock_text, move_line, collect_line, tidy_cut_line, event_line, event_text};
 
 use crate::attempt::push_attempt;
 use crate::item::{push_items, push_key, push_lock, push_locks};
@@ -11,28 +12,8 @@ use si_model::{Event, Finish, Item, Lock, MoveEnd};
 use std::alloc::AllocError;
 use std::fmt::Write;
 
-/// How many of its log's reads an event owns.
-pub fn reads_of(event: &Event) -> u32
-    ensures { result ≡ reads_of event.now }
-{
-    match event {
-        Event::Tried(attempt) => attempt.reads,
-        _ => 0,
-    }
-}
-
-/// How many of its log's locks an event owns.
-pub fn locks_of(event: &Event) -> u32
-    ensures { result ≡ locks_of event.now }
-{
-    match event {
-        Event::Tried(attempt) => attempt.locks,
-        _ => 0,
-    }
-}
-
 fn move_end_word(how: MoveEnd) -> &'static str
-    ensures { result.now ≡ move_end_text how }
+    ensures { result.now ≡ move_end_word how }
 {
     match how {
         MoveEnd::Done => "done",
@@ -42,7 +23,7 @@ fn move_end_word(how: MoveEnd) -> &'static str
 }
 
 fn finish_word(how: Finish) -> &'static str
-    ensures { result.now ≡ finish_text how }
+    ensures { result.now ≡ finish_word how }
 {
     match how {
         Finish::Clean => "clean",
@@ -52,7 +33,7 @@ fn finish_word(how: Finish) -> &'static str
 }
 
 fn collect_end_word(cut: bool) -> &'static str
-    ensures { result.now ≡ collect_end_text cut }
+    ensures { result.now ≡ collect_end_word cut }
 {
     if cut { "cut" } else { "done" }
 }
@@ -96,6 +77,7 @@ fn push_tidy_cut(out: &mut String, tables: &[Table], table: u32, key: u64) -> Re
 }
 
 /// Appends an event's own line.
+#[tactic(auto, unfolding(crate::specs::Spelling::spelt_event))]
 fn push_line(out: &mut String, tables: &[Table], event: &Event) -> Result<(), AllocError>
     ensures { OnOk result (string_bytes out.new ≡ string_bytes out.old ++ event_line tables.now event.now) }
 {
@@ -143,7 +125,8 @@ pub fn push_event(
     reads: &[Item],
     locks: &[Lock],
 ) -> Result<(), AllocError>
-    ensures { OnOk result (string_bytes out.new ≡ string_bytes out.old ++ event_text tables.now event.now reads.now locks.now) }
+    ensures { OnOk result
+        (string_bytes out.new ≡ string_bytes out.old ++ event_text tables.now event.now reads.now locks.now) }
 {
     push_line(out, tables, event)?;
     push_items(out, tables, "r", reads)?;

@@ -2,7 +2,10 @@ ghost use Rattle.std.specs.Prelude.{◌≡◌, ◌+◌, ◌<◌, ◌≤◌, ◌^
 ghost use Rattle.std.specs.List.{AllByRecursion};
 ghost use Rattle.si_model.specs.declared.op.Op.TheVariants.{Get, Put, Add, Need};
 ghost use Rattle.si_model.specs.declared.log.Outcome.TheVariants.{Again, ReadOnly};
-ghost use Rattle.nam_report.specs.ArrangedExamples.{AreReady, attempt, commit, item, log, first_committer_jobs, first_committer_logs, write_skew_jobs, write_skew_logs, again_jobs, again_logs, cause_jobs, cause_logs, guard_jobs, guard_logs, sized_jobs, IsSized};
+ghost use Rattle.nam_report.specs.ArrangedExamples.{AreReady, IsSized, attempt, commit, item, log};
+ghost use Rattle.nam_report.specs.ArrangedExamples.{first_committer_jobs, first_committer_logs, write_skew_jobs};
+ghost use Rattle.nam_report.specs.ArrangedExamples.{write_skew_logs, again_jobs, again_logs, cause_jobs, cause_logs};
+ghost use Rattle.nam_report.specs.ArrangedExamples.{guard_jobs, guard_logs, sized_jobs};
 
 use crate::arrange;
 use lists::List;
@@ -135,7 +138,9 @@ fn read_again(
     prefix: u64,
     seen: Snapshot,
 ) -> Result<Log, AllocError>
-    ensures { IfOk result (λ l. l ≡ log (attempt txn 1 None 0 (Again found 0 1) ∷ attempt txn 2 (Some prefix) 0 ReadOnly ∷ []) [] (seen ∷ [])) }
+    ensures { IfOk result (λ l.
+        let again = attempt txn 1 None 0 (Again found 0 1) in
+        l ≡ log (again ∷ attempt txn 2 (Some prefix) 0 ReadOnly ∷ []) [] (seen ∷ [])) }
 {
     let again = Outcome::Again {
         worker: found,

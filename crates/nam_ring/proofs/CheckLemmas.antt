@@ -4,19 +4,21 @@ use Rattle.nam_verbs.specs.declared.now.Now.{Now}
 use Rattle.nam_verbs.specs.declared.now.Now.TheVariants.{At, Over}
 use Rattle.nam_verbs.specs.Steps.{Step, Ends, saw}
 use Rattle.nam_verbs.proofs.TestLemmas.{by_test}
+use Rattle.nam_verbs.proofs.ReadingLemmas.{step_of}
+use Rattle.nam_header.specs.Stamp.{is_moved}
 use Rattle.nam_layout.specs.declared.field.Place.{Place}
+use Rattle.nam_layout.specs.Place.{slot_of}
+use Rattle.nam_layout.specs.declared.field.Field.{Field}
+use Rattle.nam_layout.specs.declared.field.Field.TheVariants as field
 use Rattle.nam_calls.specs.declared.ring.SlotPlace.{SlotPlace}
 use Rattle.nam_calls.specs.declared.ring.SlotPlace.TheVariants.{CheckCount}
 use Rattle.nam_calls.specs.declared.ring.SlotEnd.{SlotEnd}
 use Rattle.nam_calls.specs.declared.ring.SlotEnd.TheVariants.{Free, NotMoved}
-use Rattle.nam_calls.specs.Stamps.{is_moved}
-use Rattle.nam_calls.specs.Words.{slot_at, slot_of}
 use Rattle.nam_calls.specs.Ring.{slot_verb, slot_after}
-use Rattle.nam_words.proofs.ReadingLemmas.{step_of}
 use Rattle.nam_ring.specs.CheckLaw.{checked}
 
 module _ (place : Place) where
-  abbrev EndsFrom : Now SlotPlace SlotEnd → List Step → SlotEnd → Type 0
+  abbrev EndsFrom : Now SlotPlace SlotEnd → List (Step Field) → SlotEnd → Type 0
   EndsFrom now steps end = Ends (slot_verb place) (slot_after place) now steps end
 
   -- what the number and the header say
@@ -25,7 +27,8 @@ module _ (place : Place) where
   Says count header (NotMoved slot found) = (slot ≡ slot_of place count) × (found ≡ header) ×
       (is_moved place.form header ≡ false)
 
-  over_says : (over end : SlotEnd) (steps : List Step) → EndsFrom (Over over) steps end → (steps ≡ []) × (over ≡ end)
+  over_says : (over end : SlotEnd) (steps : List (Step Field)) → EndsFrom (Over over) steps end
+      → (steps ≡ []) × (over ≡ end)
   over_says over end [] ends = (refl, ends)
   over_says over end (step ∷ steps) ends = absurd ends
 
@@ -39,14 +42,14 @@ module _ (place : Place) where
   not_moved_says count header (Free m) moved same = absurd (cc)
   not_moved_says count header (NotMoved slot found) moved same = (cc, cc, moved)
 
-  check_ends : (steps : List Step) (end : SlotEnd) → EndsFrom (At CheckCount) steps end
+  check_ends : (steps : List (Step Field)) (end : SlotEnd) → EndsFrom (At CheckCount) steps end
       → (count header : ℕ) × Says count header end × (steps ≡ checked place count header)
   check_ends [] end ends = absurd ends
   check_ends (step ∷ []) end ends = absurd ends.1
   check_ends (step ∷ next ∷ steps) end ends =
       let count = step.found in let header = next.found in
-      let is : step ≡ saw place.count_at count = step_of _ step ends.0 in
-      let is' : next ≡ saw (slot_at place (slot_of place count)) header = step_of _ next ends.1.0 in
+      let is : step ≡ saw (field.Count place.row) count = step_of _ step ends.0 in
+      let is' : next ≡ saw (field.SlotHeader place.row (slot_of place count)) header = step_of _ next ends.1.0 in
       by_test (λ now. EndsFrom now steps end → (count header : ℕ) × Says count header end
       × (step ∷ next ∷ steps ≡ checked place count header))
       (is_moved place.form header) (Over (Free count)) (Over (NotMoved (slot_of place count) header))
@@ -62,7 +65,7 @@ module _ (place : Place) where
   ends_check count header (NotMoved slot found) says =
       (refl, (refl, rw says.2 (ap (λ s. NotMoved s header) (sym says.0) ∙ ap (NotMoved slot) (sym says.1))))
 
-  pub free_by : (steps : List Step) (count : ℕ) → EndsFrom (At CheckCount) steps (Free count)
+  pub free_by : (steps : List (Step Field)) (count : ℕ) → EndsFrom (At CheckCount) steps (Free count)
       → (header : ℕ) × (is_moved place.form header ≡ true) × (steps ≡ checked place count header)
   free_by steps count ends =
       let is = check_ends steps (Free count) ends in (
@@ -72,13 +75,14 @@ module _ (place : Place) where
             (sym is.2.0) is.3,
       )
 
-  pub by_free : (steps : List Step) (count header : ℕ) → is_moved place.form header ≡ true
+  pub by_free : (steps : List (Step Field)) (count header : ℕ) → is_moved place.form header ≡ true
       → steps ≡ checked place count header
       → EndsFrom (At CheckCount) steps (Free count)
   by_free steps count header moved is = subst (λ steps. EndsFrom (At CheckCount) steps (Free count)) (sym is)
       (ends_check count header (Free count) (refl, moved))
 
-  pub not_moved_by : (steps : List Step) (slot header : ℕ) → EndsFrom (At CheckCount) steps (NotMoved slot header)
+  pub not_moved_by : (steps : List (Step Field)) (slot header : ℕ)
+      → EndsFrom (At CheckCount) steps (NotMoved slot header)
       → (count : ℕ) × (slot ≡ slot_of place count) × (is_moved place.form header ≡ false)
       × (steps ≡ checked place count header)
   not_moved_by steps slot header ends =
@@ -89,7 +93,7 @@ module _ (place : Place) where
         subst (λ h. steps ≡ checked place is.0 h) (sym is.2.1) is.3,
       )
 
-  pub by_not_moved : (steps : List Step) (count slot header : ℕ) → slot ≡ slot_of place count
+  pub by_not_moved : (steps : List (Step Field)) (count slot header : ℕ) → slot ≡ slot_of place count
       → is_moved place.form header ≡ false
       → steps ≡ checked place count header → EndsFrom (At CheckCount) steps (NotMoved slot header)
   by_not_moved steps count slot header here moved is =

@@ -1,4 +1,4 @@
 pub mod CheckLemmas
 pub mod CopyLemmas
 pub mod SearchLemmas
-pub mod ReachLemmas
+pub mod FieldLemmas

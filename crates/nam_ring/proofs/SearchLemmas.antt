@@ -1,39 +1,42 @@
 -- What a search of a ring makes of the words that it finds.
-use Rattle.std.proofs.Common.{◌≡◌, ◌≢◌, ◌⊎◌, inl, inr, ℕ, ◌+◌, ◌<◌, List, [], ◌∷◌, ◌++◌, length, refl, sym, subst, arith, Bool, true, false, not, ◌&&◌, ◌||◌, Option, Some, None}
+use Rattle.std.proofs.Common.{◌≡◌, ◌≢◌, ◌⊎◌, inl, inr, ℕ, ◌+◌, ◌<◌, List, [], ◌∷◌, ◌++◌, length, refl, sym, subst}
+use Rattle.std.proofs.Common.{arith, Bool, true, false, not, ◌&&◌, ◌||◌, Option, Some, None}
 use Rattle.std.specs.Prelude.{◌==◌, if◌then◌else◌}
 use Rattle.std.proofs.lemmas.Bool.Decides.{nat_tests}
 use Rattle.std.proofs.lemmas.List.{append_assoc}
 use Rattle.nam_verbs.specs.declared.now.Now.{Now}
 use Rattle.nam_verbs.specs.declared.now.Now.TheVariants.{At, Over}
-use Rattle.nam_verbs.specs.Steps.{Step, Ends, saw, saw_words, Stretches, StopsAt}
-use Rattle.nam_verbs.proofs.TestLemmas.{by_test}
+use Rattle.nam_verbs.specs.Steps.{Step, Ends, saw_words, Stretches, StopsAt}
+use Rattle.nam_verbs.proofs.TestLemmas.{by_test, if_in}
 use Rattle.nam_verbs.proofs.SearchLemmas.{search_ends, search_stops, search_misses}
+use Rattle.nam_verbs.proofs.ReadingLemmas.{step_of, words_read, reads_words}
+use Rattle.nam_header.specs.Stamp.{is_deleted, same_stamp, sees, mark}
 use Rattle.nam_layout.specs.declared.field.Place.{Place}
 use Rattle.nam_layout.specs.PlaceFits.{FitsPlace}
+use Rattle.nam_layout.specs.declared.field.Field.{Field}
+use Rattle.nam_layout.specs.declared.field.Field.TheVariants as field
 use Rattle.nam_calls.specs.declared.ring.RingPlace.{RingPlace}
 use Rattle.nam_calls.specs.declared.ring.RingPlace.TheVariants.{SlotHead, SlotEnding, SlotWords, SlotAgain}
 use Rattle.nam_calls.specs.declared.ring.SearchEnd.{SearchEnd}
 use Rattle.nam_calls.specs.declared.ring.SearchEnd.TheVariants.{Found, NotThere}
-use Rattle.nam_calls.specs.Stamps.{sees, is_deleted, same_stamp, mark}
-use Rattle.nam_calls.specs.Words.{slot_at, slot_end_at, slot_word_at}
 use Rattle.nam_calls.specs.Ring.{ring_verb, ring_after, next_slot}
-use Rattle.nam_calls.proofs.Programs.{if_in}
-use Rattle.nam_words.proofs.ReadingLemmas.{step_of, words_read, reads_words}
-use Rattle.nam_ring.specs.SearchLaw.{HasSeen, looked, SlotEnded, by_header, by_end, by_change, SlotGives}
+use Rattle.nam_ring.specs.SearchLaw.{saw_header, saw_end, HasSeen, looked, SlotEnded, SlotGives}
+use Rattle.nam_ring.specs.SearchLaw.{by_header, by_end, by_change}
 
 module _ (place : Place) (fits : FitsPlace place) (seen : List ℕ) where
-  abbrev EndsFrom : Now RingPlace SearchEnd → List Step → SearchEnd → Type 0
+  abbrev EndsFrom : Now RingPlace SearchEnd → List (Step Field) → SearchEnd → Type 0
   EndsFrom now steps end = Ends (ring_verb place) (ring_after place seen) now steps end
 
   -- the slot ends the search so
-  abbrev Stops : SearchEnd → ℕ → List Step → Type 0
+  abbrev Stops : SearchEnd → ℕ → List (Step Field) → Type 0
   Stops (Found value) slot steps = SlotGives place seen value slot steps
   Stops NotThere slot steps = ⊥
 
   -- the slot stops the search, or was ended by its first steps
-  abbrev Parts : ℕ → List Step → SearchEnd → Type 0
+  abbrev Parts : ℕ → List (Step Field) → SearchEnd → Type 0
   Parts slot steps end =
-      Stops end slot steps ⊎ ((first rest : List Step) × (steps ≡ first ++ rest) × SlotEnded place seen slot first
+      Stops end slot steps ⊎
+      ((first rest : List (Step Field)) × (steps ≡ first ++ rest) × SlotEnded place seen slot first
       × EndsFrom (next_slot place slot) rest end)
 
   abbrev value_of : ℕ → List ℕ → Option (List ℕ)
@@ -43,8 +46,8 @@ module _ (place : Place) (fits : FitsPlace place) (seen : List ℕ) where
   gives : (slot header ending : ℕ) (words : List ℕ) (again : ℕ) → HasSeen place seen header
       → sees place.form seen ending ≡ false → length words ≡ place.width
       → same_stamp place.form again header ≡ true → again ≢ mark
-      → (steps : List Step) (end : SearchEnd) → EndsFrom (Over (Found (value_of header words))) steps end
-      → Stops end slot (looked place seen slot header ending words ++ saw (slot_at place slot) again ∷ steps)
+      → (steps : List (Step Field)) (end : SearchEnd) → EndsFrom (Over (Found (value_of header words))) steps end
+      → Stops end slot (looked place seen slot header ending words ++ saw_header place slot again ∷ steps)
   gives slot header ending words again shows newest whole same still [] NotThere ends = absurd (cc)
   gives slot header ending words again shows newest whole same still [] (Found value) ends = record {
     header = header;
@@ -64,12 +67,12 @@ module _ (place : Place) (fits : FitsPlace place) (seen : List ℕ) where
   -- the header read again, after the words
   part_again : (slot header ending : ℕ) (words : List ℕ) → HasSeen place seen header
       → sees place.form seen ending ≡ false → length words ≡ place.width
-      → (steps : List Step) (end : SearchEnd) → EndsFrom (At (SlotAgain slot header words)) steps end
+      → (steps : List (Step Field)) (end : SearchEnd) → EndsFrom (At (SlotAgain slot header words)) steps end
       → Parts slot (looked place seen slot header ending words ++ steps) end
   part_again slot header ending words shows newest whole [] end ends = absurd ends
   part_again slot header ending words shows newest whole (step ∷ steps) end ends =
       let again = step.found in
-      let is : step ≡ saw (slot_at place slot) again = step_of _ step ends.0 in
+      let is : step ≡ saw_header place slot again = step_of _ step ends.0 in
       let before = looked place seen slot header ending words in
       let ended : (same_stamp place.form again header ≡ false) ⊎ (again ≡ mark)
       → EndsFrom (next_slot place slot) steps end → Parts slot (before ++ step ∷ steps) end =
@@ -92,25 +95,25 @@ module _ (place : Place) (fits : FitsPlace place) (seen : List ℕ) where
 
   -- the slot's words, after its end
   part_words : (slot header ending : ℕ) → HasSeen place seen header → sees place.form seen ending ≡ false
-      → (steps : List Step) (end : SearchEnd)
+      → (steps : List (Step Field)) (end : SearchEnd)
       → EndsFrom (At (SlotWords slot header [])) steps end
-      → Parts slot (saw (slot_at place slot) header ∷ saw (slot_end_at place slot) ending ∷ steps) end
+      → Parts slot (saw_header place slot header ∷ saw_end place slot ending ∷ steps) end
   part_words slot header ending shows newest steps end ends =
-      let all = words_read (ring_verb place) (ring_after place seen) (slot_word_at place slot) place.width
+      let all = words_read (ring_verb place) (ring_after place seen) (field.SlotWord place.row slot) place.width
       (SlotWords slot header)
       (λ words. At (SlotAgain slot header words)) (λ got. refl)
       (λ got word. if_in At _ _ _) fits.least_width steps end ends in
       rw all.2 (part_again slot header ending all.0 shows newest all.3 all.1 end all.4)
 
   -- the slot's end, after its header
-  part_end : (slot header : ℕ) → HasSeen place seen header → (steps : List Step) (end : SearchEnd)
+  part_end : (slot header : ℕ) → HasSeen place seen header → (steps : List (Step Field)) (end : SearchEnd)
       → EndsFrom (At (SlotEnding slot header)) steps end
-      → Parts slot (saw (slot_at place slot) header ∷ steps) end
+      → Parts slot (saw_header place slot header ∷ steps) end
   part_end slot header shows [] end ends = absurd ends
   part_end slot header shows (step ∷ steps) end ends =
       let ending = step.found in
-      let first = saw (slot_at place slot) header in
-      let is : step ≡ saw (slot_end_at place slot) ending = step_of _ step ends.0 in
+      let first = saw_header place slot header in
+      let is : step ≡ saw_end place slot ending = step_of _ step ends.0 in
       by_test (λ now. EndsFrom now steps end → Parts slot (first ∷ step ∷ steps) end) (sees place.form seen ending)
       (next_slot place slot) (At (SlotWords slot header []))
       (λ test goes. inr (first ∷ step ∷ [], steps, refl, by_end header ending shows test (rw (← is) refl), goes))
@@ -118,12 +121,12 @@ module _ (place : Place) (fits : FitsPlace place) (seen : List ℕ) where
       ends.1
 
   -- a slot stops the search, or is ended
-  part_slot : (slot : ℕ) (steps : List Step) (end : SearchEnd) → EndsFrom (At (SlotHead slot)) steps end
+  part_slot : (slot : ℕ) (steps : List (Step Field)) (end : SearchEnd) → EndsFrom (At (SlotHead slot)) steps end
       → Parts slot steps end
   part_slot slot [] end ends = absurd ends
   part_slot slot (step ∷ steps) end ends =
       let header = step.found in
-      let is : step ≡ saw (slot_at place slot) header = step_of _ step ends.0 in
+      let is : step ≡ saw_header place slot header = step_of _ step ends.0 in
       by_test (λ now. EndsFrom now steps end → Parts slot (step ∷ steps) end)
       ((header == mark) || not (sees place.form seen header))
       (next_slot place slot) (At (SlotEnding slot header))
@@ -134,14 +137,14 @@ module _ (place : Place) (fits : FitsPlace place) (seen : List ℕ) where
 
   -- The other way round: what each test says, put together.
 
-  chosen : (test : Bool) (is : Bool) (a b : Now RingPlace SearchEnd) (steps : List Step) (end : SearchEnd)
+  chosen : (test : Bool) (is : Bool) (a b : Now RingPlace SearchEnd) (steps : List (Step Field)) (end : SearchEnd)
       → test ≡ is → EndsFrom (if is then a else b) steps end
       → EndsFrom (if test then a else b) steps end
   chosen test is a b steps end same ends = rw same ends
 
-  from_head : (slot header : ℕ) (steps : List Step) (end : SearchEnd) → HasSeen place seen header
+  from_head : (slot header : ℕ) (steps : List (Step Field)) (end : SearchEnd) → HasSeen place seen header
       → EndsFrom (At (SlotEnding slot header)) steps end
-      → EndsFrom (At (SlotHead slot)) (saw (slot_at place slot) header ∷ steps) end
+      → EndsFrom (At (SlotHead slot)) (saw_header place slot header ∷ steps) end
   from_head slot header steps end shows ends =
       let version = shows.version in let visible = shows.visible in (
         refl,
@@ -149,23 +152,23 @@ module _ (place : Place) (fits : FitsPlace place) (seen : List ℕ) where
             (At (SlotEnding slot header)) steps end (grind (arith, nat_tests)) ends,
       )
 
-  from_words : (slot header ending : ℕ) (words : List ℕ) (steps : List Step) (end : SearchEnd)
+  from_words : (slot header ending : ℕ) (words : List ℕ) (steps : List (Step Field)) (end : SearchEnd)
       → HasSeen place seen header → sees place.form seen ending ≡ false
       → length words ≡ place.width → EndsFrom (At (SlotAgain slot header words)) steps end
       → EndsFrom (At (SlotHead slot)) (looked place seen slot header ending words ++ steps) end
   from_words slot header ending words steps end shows newest whole ends =
-      from_head slot header (saw (slot_end_at place slot) ending ∷ saw_words
-      (slot_word_at place slot) words ++ steps) end shows (
+      from_head slot header (saw_end place slot ending ∷ saw_words
+      (field.SlotWord place.row slot) words ++ steps) end shows (
         refl,
         chosen (sees place.form seen ending) false (next_slot place slot) (At (SlotWords slot header []))
-            (saw_words (slot_word_at place slot) words ++ steps) end newest
-            (reads_words (ring_verb place) (ring_after place seen) (slot_word_at place slot) place.width
+            (saw_words (field.SlotWord place.row slot) words ++ steps) end newest
+            (reads_words (ring_verb place) (ring_after place seen) (field.SlotWord place.row slot) place.width
             (SlotWords slot header)
             (λ words. At (SlotAgain slot header words)) (λ got. refl)
             (λ got word. if_in At _ _ _) words fits.least_width whole steps end ends),
       )
 
-  passed_slot : (slot : ℕ) (first rest : List Step) (end : SearchEnd) → SlotEnded place seen slot first
+  passed_slot : (slot : ℕ) (first rest : List (Step Field)) (end : SearchEnd) → SlotEnded place seen slot first
       → EndsFrom (next_slot place slot) rest end
       → EndsFrom (At (SlotHead slot)) (first ++ rest) end
   passed_slot slot first rest end (by_header header why is) ends =
@@ -175,26 +178,26 @@ module _ (place : Place) (fits : FitsPlace place) (seen : List ℕ) where
             (At (SlotEnding slot header)) rest end (grind (arith, nat_tests)) ends,
       )
   passed_slot slot first rest end (by_end header ending shows ended is) ends =
-      rw is (from_head slot header (saw (slot_end_at place slot) ending ∷ rest) end shows (
+      rw is (from_head slot header (saw_end place slot ending ∷ rest) end shows (
         refl,
         chosen (sees place.form seen ending) true (next_slot place slot)
             (At (SlotWords slot header [])) rest end ended ends,
       ))
   passed_slot slot first rest end (by_change header ending words again shows newest whole why is) ends =
       rw is (subst (λ steps. EndsFrom (At (SlotHead slot)) steps end)
-      (sym (append_assoc (looked place seen slot header ending words) (saw (slot_at place slot) again ∷ []) rest))
-      (from_words slot header ending words (saw (slot_at place slot) again ∷ rest) end shows newest whole (
+      (sym (append_assoc (looked place seen slot header ending words) (saw_header place slot again ∷ []) rest))
+      (from_words slot header ending words (saw_header place slot again ∷ rest) end shows newest whole (
         refl,
         chosen (same_stamp place.form again header && not (again == mark)) false
             (Over (Found (value_of header words))) (next_slot place slot) rest end (grind (arith, nat_tests)) ends,
       )))
 
-  stopped_slot : (slot : ℕ) (steps : List Step) (end : SearchEnd) → Stops end slot steps
+  stopped_slot : (slot : ℕ) (steps : List (Step Field)) (end : SearchEnd) → Stops end slot steps
       → EndsFrom (At (SlotHead slot)) steps end
   stopped_slot slot steps NotThere stops = absurd stops
   stopped_slot slot steps (Found value) g =
       let same = g.same in let still = g.still in
-      rw (g.steps_are, g.value_is) (from_words slot g.header g.ending g.words (saw (slot_at place slot) g.again ∷ [])
+      rw (g.steps_are, g.value_is) (from_words slot g.header g.ending g.words (saw_header place slot g.again ∷ [])
       (Found (value_of g.header g.words)) g.shows g.newest g.whole (
         refl,
         chosen (same_stamp place.form g.again g.header && not (g.again == mark)) true
@@ -209,7 +212,7 @@ module _ (place : Place) (fits : FitsPlace place) (seen : List ℕ) where
   misses : (slot : ℕ) → slot + 1 ≡ place.ring → next_slot place slot ≡ Over NotThere
   misses slot last = let test : (slot + 1 == place.ring) ≡ true = grind (arith, nat_tests) in rw test refl
 
-  pub found_by : (steps : List Step) (value : Option (List ℕ)) → EndsFrom (At (SlotHead 0)) steps (Found value)
+  pub found_by : (steps : List (Step Field)) (value : Option (List ℕ)) → EndsFrom (At (SlotHead 0)) steps (Found value)
       → StopsAt (SlotEnded place seen) (SlotGives place seen value) place.ring steps
   found_by steps value ends =
       elim (search_ends (ring_verb place) (ring_after place seen) SlotHead
@@ -219,7 +222,7 @@ module _ (place : Place) (fits : FitsPlace place) (seen : List ℕ) where
         | inr missed ↦ let none = missed.1 in absurd (cc)
       ]
 
-  pub finds_by : (steps : List Step) (value : Option (List ℕ))
+  pub finds_by : (steps : List (Step Field)) (value : Option (List ℕ))
       → StopsAt (SlotEnded place seen) (SlotGives place seen value) place.ring steps
       → EndsFrom (At (SlotHead 0)) steps (Found value)
   finds_by steps value stops =
@@ -227,7 +230,7 @@ module _ (place : Place) (fits : FitsPlace place) (seen : List ℕ) where
       (next_slot place) place.ring NotThere goes_on misses (SlotEnded place seen) Stops
       (λ slot within. passed_slot slot) (λ slot within. stopped_slot slot) steps (Found value) stops
 
-  pub missed_by : (steps : List Step) → EndsFrom (At (SlotHead 0)) steps NotThere
+  pub missed_by : (steps : List (Step Field)) → EndsFrom (At (SlotHead 0)) steps NotThere
       → Stretches (SlotEnded place seen) 0 place.ring steps
   missed_by steps ends =
       elim (search_ends (ring_verb place) (ring_after place seen) SlotHead
@@ -237,7 +240,7 @@ module _ (place : Place) (fits : FitsPlace place) (seen : List ℕ) where
         | inr missed ↦ missed.0
       ]
 
-  pub misses_by : (steps : List Step) → Stretches (SlotEnded place seen) 0 place.ring steps
+  pub misses_by : (steps : List (Step Field)) → Stretches (SlotEnded place seen) 0 place.ring steps
       → EndsFrom (At (SlotHead 0)) steps NotThere
   misses_by steps passed =
       search_misses (ring_verb place) (ring_after place seen) SlotHead

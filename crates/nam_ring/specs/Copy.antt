@@ -1,13 +1,14 @@
 -- The copy of a version into its slot as a machine.
 use Rattle.std.specs.Prelude.{ℕ, List}
+use Rattle.si_model.specs.declared.log.Stamp.{Stamp}
 use Rattle.nam_verbs.specs.declared.now.Now.{Now}
 use Rattle.nam_verbs.specs.declared.now.Now.TheVariants.{At}
 use Rattle.nam_verbs.specs.Running.{Running}
-use Rattle.si_model.specs.declared.log.Stamp.{Stamp}
 use Rattle.nam_layout.specs.declared.field.Place.{Place}
+use Rattle.nam_layout.specs.Place.{position_address, place_end}
+use Rattle.nam_layout.specs.declared.field.Field.{Field}
 use Rattle.nam_calls.specs.declared.ring.CopyPlace.{CopyPlace}
 use Rattle.nam_calls.specs.Ring.{copy_begin, copy_verb, copy_after, copy_left}
-use Rattle.nam_words.specs.Ends.{place_end}
 
 -- a copy of the version with this number, header, words and successor, and where it stands
 pub record Copying : Type 0 where
@@ -24,11 +25,12 @@ copying place count header old ending =
     record { place = place; count = count; header = header; old = old; ending = ending; state = At copy_begin }
 
 -- the same as a running call
-abbrev pub running : Copying → Running CopyPlace (Unit {0})
+abbrev pub running : Copying → Running Field CopyPlace (Unit {0})
 running a = record {
+  address = position_address a.place;
+  reach = place_end a.place;
   verb = copy_verb a.place a.count a.header a.old a.ending;
   after = λ at found. copy_after a.place at;
   left = copy_left a.place;
-  reach = place_end a.place;
   state = a.state;
 }

@@ -2,22 +2,23 @@
 
 ghost use Rattle.std.specs.Prelude.{◌≡◌, ◌<◌};
 ghost use Rattle.nam_verbs.specs.Verb.{address_of};
+ghost use Rattle.nam_verbs.specs.VerbAt.{verb_by};
 ghost use Rattle.nam_verbs.specs.Running.{verbs_left};
+ghost use Rattle.nam_layout.specs.Place.{position_address, place_end};
 ghost use Rattle.nam_layout.specs.PlaceFits.{FitsPlace};
-ghost use Rattle.nam_calls.specs.Ring.{slot_begin as begin, slot_verb as verb_at, slot_after as after_word, slot_left as left_at};
-ghost use Rattle.nam_words.specs.Ends.{place_end};
+ghost use Rattle.nam_calls.specs.Ring.{slot_begin, slot_verb, slot_after, slot_left};
 ghost use Rattle.nam_ring.specs.Check.{checking, running};
 
 use nam_calls::{SlotEnd, SlotPlace};
-use nam_layout::Place;
+use nam_header::is_moved;
+use nam_layout::{Field, Place};
 use nam_verbs::{Machine, Now, Verb};
-use nam_words::{is_moved, slot_at, slot_of};
 use std::marker::Model;
 use std::mem::replace;
 
 /// Where a look begins: at the number of the current version.
 pub fn slot_begin() -> SlotPlace
-    ensures { result ≡ begin }
+    ensures { result ≡ slot_begin }
 {
     SlotPlace::CheckCount
 }
@@ -25,12 +26,12 @@ pub fn slot_begin() -> SlotPlace
 /// The verb that stands at a place.
 pub fn slot_verb(place: &Place, at: &SlotPlace) -> Verb
     requires { FitsPlace place.now }
-    ensures value { result ≡ verb_at place.now at.now }
+    ensures value { result ≡ verb_by (position_address place.now) (slot_verb place.now at.now) }
     ensures within { address_of result < place_end place.now }
 {
     let at = match at {
         SlotPlace::CheckCount => place.count_at,
-        SlotPlace::CheckHead { count } => slot_at(place, slot_of(place, *count)),
+        SlotPlace::CheckHead { count } => place.slot_header(place.slot_of(*count)),
     };
     Verb::Read { at }
 }
@@ -38,16 +39,17 @@ pub fn slot_verb(place: &Place, at: &SlotPlace) -> Verb
 /// What follows the word that the verb of a place found.
 pub fn slot_after(place: &Place, at: SlotPlace, found: u64) -> Now<SlotPlace, SlotEnd>
     requires { FitsPlace place.now }
-    ensures { result ≡ after_word place.now at found }
+    ensures { result ≡ slot_after place.now at found }
 {
     match at {
         SlotPlace::CheckCount => Now::At(SlotPlace::CheckHead { count: found }),
         SlotPlace::CheckHead { count } => {
+            // A version that wasn't moved stands nowhere else.
             if is_moved(place.form, found) {
                 Now::Over(SlotEnd::Free { count })
             } else {
                 Now::Over(SlotEnd::NotMoved {
-                    slot: slot_of(place, count),
+                    slot: place.slot_of(count),
                     found,
                 })
             }
@@ -57,7 +59,7 @@ pub fn slot_after(place: &Place, at: SlotPlace, found: u64) -> Now<SlotPlace, Sl
 
 /// How many verbs are to come from a place.
 pub fn slot_left(at: &SlotPlace) -> u64
-    ensures { result ≡ left_at at.now }
+    ensures { result ≡ slot_left at.now }
 {
     match at {
         SlotPlace::CheckCount => 2,
@@ -98,48 +100,36 @@ impl CheckSlot {
 }
 
 impl Machine for CheckSlot {
-    ghost use Rattle.nam_verbs.specs.Running.{next_verb, after_found, end_of, verbs_left, stands_until_end};
     ghost use Rattle.nam_ring.specs.Check.{running};
+
+    type Word = Field;
+
+    type Place = SlotPlace;
 
     type End = SlotEnd;
 
-    ghost next = { λ a. next_verb (running a) };
+    ghost running = { running };
 
-    ghost after = { λ a found. record a { state = (after_found (running a) found).state } };
+    fn state(&self) -> &Now<SlotPlace, SlotEnd> {
+        &self.state
+    }
 
-    ghost ended = { λ a. end_of (running a) };
+    fn verb_from(&self, at: &SlotPlace) -> Verb {
+        slot_verb(&self.place, at)
+    }
 
-    ghost rest = { λ a. verbs_left (running a) };
-
-    ghost reach = { λ a. (running a).reach };
-
-    ghost stands_until_end = { λ a. stands_until_end (running a) };
-
-    fn verb(&self) -> Option<Verb> {
-        match &self.state {
-            Now::At(at) => Some(slot_verb(&self.place, at)),
-            Now::Over(_) => None,
-        }
+    fn left_from(&self, at: &SlotPlace) -> u64 {
+        slot_left(at)
     }
 
     fn take(&mut self, found: u64) {
-        match replace(&mut self.state, Now::At(slot_begin())) {
-            Now::At(at) => self.state = slot_after(&self.place, at, found),
-            Now::Over(end) => self.state = Now::Over(end),
-        }
-    }
-
-    fn left(&self) -> u64 {
-        match &self.state {
-            Now::At(at) => slot_left(at),
-            Now::Over(_) => 0,
-        }
+        self.state = match replace(&mut self.state, Now::At(slot_begin())) {
+            Now::At(at) => slot_after(&self.place, at, found),
+            Now::Over(end) => Now::Over(end),
+        };
     }
 
     fn end(&self) -> Option<SlotEnd> {
-        match &self.state {
-            Now::At(_) => None,
-            Now::Over(end) => Some(*end),
-        }
+        self.state.end()
     }
 }

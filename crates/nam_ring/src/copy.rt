@@ -2,31 +2,32 @@
 
 ghost use Rattle.std.specs.Prelude.{◌≡◌, ◌<◌, ◌+◌, length};
 ghost use Rattle.nam_verbs.specs.Verb.{address_of};
+ghost use Rattle.nam_verbs.specs.VerbAt.{verb_by};
 ghost use Rattle.nam_verbs.specs.Running.{verbs_left};
+ghost use Rattle.nam_layout.specs.Place.{position_address, place_end};
 ghost use Rattle.nam_layout.specs.PlaceFits.{FitsPlace};
+ghost use Rattle.nam_header.specs.Stamp.{FitsStamp};
 ghost use Rattle.nam_calls.specs.Fits.{CopyFits};
-ghost use Rattle.nam_calls.specs.Ring.{copy_begin as begin, copy_verb as verb_at, copy_after as after_word, copy_left as left_at};
-ghost use Rattle.nam_words.specs.Ends.{place_end};
-ghost use Rattle.nam_words.specs.StampFits.{FitsStamp};
+ghost use Rattle.nam_calls.specs.Ring.{copy_begin, copy_verb, copy_after, copy_left};
 ghost use Rattle.nam_ring.specs.Copy.{copying, running};
 
 use nam_calls::CopyPlace;
-use nam_layout::Place;
+use nam_header::{MARK, stamp_word};
+use nam_layout::{Field, Place};
 use nam_verbs::{Machine, Now, Verb};
-use nam_words::{MARK, slot_at, slot_end_at, slot_of, slot_word_at, stamp_word};
 use si_model::{Stamp, Value};
 use std::marker::Model;
 use std::mem::replace;
 
 /// Where a copy begins: at the mark.
 pub fn copy_begin() -> CopyPlace
-    ensures { result ≡ begin }
+    ensures { result ≡ copy_begin }
 {
     CopyPlace::CopyMark
 }
 
-/// The verb that stands at a place: `count` is the version's number, `header` its header without a lock, `old` its words,
-/// and `ending` its successor's stamp.
+/// The verb that stands at a place: `count` is the version's number, `header` its header without a lock, `old` its
+/// words, and `ending` its successor's stamp.
 pub fn copy_verb(
     place: &Place,
     count: u64,
@@ -39,25 +40,26 @@ pub fn copy_verb(
     requires old { length old.now ≡ place.now.width }
     requires ending { FitsStamp place.now.form ending }
     requires at { CopyFits place.now at.now }
-    ensures value { result ≡ verb_at place.now count header old.now ending at.now }
+    ensures value { result ≡ verb_by (position_address place.now)
+        (copy_verb place.now count header old.now ending at.now) }
     ensures within { address_of result < place_end place.now }
 {
-    let slot = slot_of(place, count);
+    let slot = place.slot_of(count);
     match at {
         CopyPlace::CopyMark => Verb::Write {
-            at: slot_at(place, slot),
+            at: place.slot_header(slot),
             word: MARK,
         },
         CopyPlace::CopyEnding => Verb::Write {
-            at: slot_end_at(place, slot),
+            at: place.slot_end(slot),
             word: stamp_word(place.form, ending),
         },
         CopyPlace::CopyWord { nth } => Verb::Write {
-            at: slot_word_at(place, slot, *nth),
+            at: place.slot_word(slot, *nth),
             word: *old.at(*nth as usize),
         },
         CopyPlace::CopyHead => Verb::Write {
-            at: slot_at(place, slot),
+            at: place.slot_header(slot),
             word: header,
         },
     }
@@ -67,8 +69,10 @@ pub fn copy_verb(
 pub fn copy_after(place: &Place, at: CopyPlace) -> Now<CopyPlace, ()>
     requires fits { FitsPlace place.now }
     requires at { CopyFits place.now at }
-    ensures { result ≡ after_word place.now at }
+    ensures { result ≡ copy_after place.now at }
 {
+    // The mark is first, so that no search takes a slot whose words change; the header is last, so that it stands over
+    // whole words alone.
     match at {
         CopyPlace::CopyMark => Now::At(CopyPlace::CopyEnding),
         CopyPlace::CopyEnding => Now::At(CopyPlace::CopyWord { nth: 0 }),
@@ -87,7 +91,7 @@ pub fn copy_after(place: &Place, at: CopyPlace) -> Now<CopyPlace, ()>
 pub fn copy_left(place: &Place, at: &CopyPlace) -> u64
     requires fits { FitsPlace place.now }
     requires at { CopyFits place.now at.now }
-    ensures { result ≡ left_at place.now at.now }
+    ensures { result ≡ copy_left place.now at.now }
 {
     let width = place.width as u64;
     match at {
@@ -113,20 +117,28 @@ impl Model for CopyOld {
     ghost use Rattle.std.specs.Prelude.{◌≡◌, length};
     ghost use Rattle.nam_verbs.specs.Now.{FitsNow};
     ghost use Rattle.nam_layout.specs.PlaceFits.{FitsPlace};
+    ghost use Rattle.nam_header.specs.Stamp.{FitsStamp};
     ghost use Rattle.nam_calls.specs.Fits.{CopyFits};
-    ghost use Rattle.nam_words.specs.StampFits.{FitsStamp};
     ghost use Rattle.nam_ring.specs.Copy.{Copying};
 
     ghost Value = { Copying };
 
-    ghost view = { λ a. record { place = a.place; count = a.count; header = a.header; old = a.old; ending = a.ending; state = a.state } };
+    ghost view = { λ a. record {
+      place = a.place;
+      count = a.count;
+      header = a.header;
+      old = a.old;
+      ending = a.ending;
+      state = a.state;
+    } };
 
-    ghost invariant = { λ a. FitsPlace a.place × (length a.old ≡ a.place.width) × FitsStamp a.place.form a.ending × FitsNow (CopyFits a.place) a.state };
+    ghost invariant = { λ a. FitsPlace a.place × (length a.old ≡ a.place.width) × FitsStamp a.place.form a.ending
+        × FitsNow (CopyFits a.place) a.state };
 }
 
 impl CopyOld {
-    /// The copy of a position's current version, which has this number, this header without a lock, and these words. Its
-    /// successor has the stamp `end`.
+    /// The copy of a position's current version, which has this number, this header without a lock, and these words.
+    /// Its successor has the stamp `end`.
     pub fn new(place: Place, count: u64, header: u64, old: Value, end: Stamp) -> CopyOld
         requires fits { FitsPlace place }
         requires old { length old ≡ place.width }
@@ -146,55 +158,43 @@ impl CopyOld {
 }
 
 impl Machine for CopyOld {
-    ghost use Rattle.nam_verbs.specs.Running.{next_verb, after_found, end_of, verbs_left, stands_until_end};
     ghost use Rattle.nam_ring.specs.Copy.{running};
+
+    type Word = Field;
+
+    type Place = CopyPlace;
 
     type End = ();
 
-    ghost next = { λ a. next_verb (running a) };
+    ghost running = { running };
 
-    ghost after = { λ a found. record a { state = (after_found (running a) found).state } };
+    fn state(&self) -> &Now<CopyPlace, ()> {
+        &self.state
+    }
 
-    ghost ended = { λ a. end_of (running a) };
+    fn verb_from(&self, at: &CopyPlace) -> Verb {
+        copy_verb(
+            &self.place,
+            self.count,
+            self.header,
+            &self.old,
+            self.ending,
+            at,
+        )
+    }
 
-    ghost rest = { λ a. verbs_left (running a) };
-
-    ghost reach = { λ a. (running a).reach };
-
-    ghost stands_until_end = { λ a. stands_until_end (running a) };
-
-    fn verb(&self) -> Option<Verb> {
-        match &self.state {
-            Now::At(at) => Some(copy_verb(
-                &self.place,
-                self.count,
-                self.header,
-                &self.old,
-                self.ending,
-                at,
-            )),
-            Now::Over(()) => None,
-        }
+    fn left_from(&self, at: &CopyPlace) -> u64 {
+        copy_left(&self.place, at)
     }
 
     fn take(&mut self, _found: u64) {
-        match replace(&mut self.state, Now::Over(())) {
-            Now::At(at) => self.state = copy_after(&self.place, at),
-            Now::Over(()) => self.state = Now::Over(()),
-        }
-    }
-
-    fn left(&self) -> u64 {
-        match &self.state {
-            Now::At(at) => copy_left(&self.place, at),
-            Now::Over(()) => 0,
-        }
+        self.state = match replace(&mut self.state, Now::Over(())) {
+            Now::At(at) => copy_after(&self.place, at),
+            Now::Over(()) => Now::Over(()),
+        };
     }
 
     fn end(&self) -> Option<()> {
-        match &self.state {
-            Now::At(_) => None,
-            Now::Over(()) => Some(()),
-        }
+        self.state.end()
     }
 }

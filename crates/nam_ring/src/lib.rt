@@ -1,9 +1,9 @@
 //! Old versions in a record's ring of slots.
 //!
 //! Three calls, each as functions on its places and as a machine: `CheckSlot` looks at the slot that the record's next
-//! version needs, `CopyOld` puts the current version there, and `SearchRing` looks for the version that a snapshot sees.
-//! Whatever words their verbs find, `check_law`, `copy_law` and `search_law` say exactly how they end and what they did,
-//! and `reach_law` that each verb is at a field of the row's count or ring. No call takes memory.
+//! version needs, `CopyOld` puts the current version there, and `SearchRing` looks for the version that a snapshot
+//! sees. Whatever words their verbs find, `check_law`, `copy_law` and `search_law` say exactly how they end and what
+//! they did, and `field_law` that each verb is at a field of the position that was given. No call takes memory.
 #![tactic(auto)]
 
 mod check;
@@ -15,6 +15,6 @@ mod tests;
 
 pub use check::{CheckSlot, slot_after, slot_begin, slot_left, slot_verb};
 pub use copy::{CopyOld, copy_after, copy_begin, copy_left, copy_verb};
-pub use laws::{check_law, copy_law, reach_law, search_law};
+pub use laws::{check_law, copy_law, field_law, search_law};
 pub use nam_calls::{SearchEnd, SlotEnd};
 pub use search::{SearchRing, ring_after, ring_begin, ring_left, ring_verb};

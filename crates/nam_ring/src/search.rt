@@ -1,28 +1,27 @@
 //! The search of a record's ring.
 
-ghost use Rattle.std.specs.Prelude.{◌≡◌, ◌<◌, ◌≤◌, ◌*◌, ◌+◌, [], ◌∷◌, ◌++◌, length};
+ghost use Rattle.std.specs.Prelude.{◌≡◌, ◌<◌, ◌*◌, ◌+◌};
 ghost use Rattle.nam_verbs.specs.Verb.{address_of};
+ghost use Rattle.nam_verbs.specs.VerbAt.{verb_by};
 ghost use Rattle.nam_verbs.specs.Running.{verbs_left};
+ghost use Rattle.nam_layout.specs.Place.{position_address, place_end};
 ghost use Rattle.nam_layout.specs.PlaceFits.{FitsPlace};
 ghost use Rattle.nam_calls.specs.Fits.{RingFits};
-ghost use Rattle.nam_calls.specs.Words.{until};
-ghost use Rattle.nam_calls.specs.declared.ring.RingPlace.TheVariants.{SlotWords, SlotAgain};
-ghost use Rattle.nam_calls.specs.Ring.{ring_begin as begin, ring_verb as verb_at, ring_after as after_word, ring_left as left_at};
-ghost use Rattle.nam_calls.specs.Ring.{next_slot as slot_after, slots_left as left_after};
-ghost use Rattle.nam_words.specs.Ends.{place_end};
+ghost use Rattle.nam_calls.specs.Ring.{ring_begin, ring_verb, ring_after, ring_left};
+ghost use Rattle.nam_calls.specs.Ring.{next_slot, slots_left};
 ghost use Rattle.nam_ring.specs.Search.{searching, running};
 
 use nam_calls::{RingPlace, SearchEnd};
-use nam_layout::Place;
+use nam_header::{MARK, is_deleted, same_stamp, sees};
+use nam_layout::{Field, Place};
 use nam_verbs::{Machine, Now, Verb};
-use nam_words::{MARK, is_deleted, same_stamp, sees, slot_at, slot_end_at, slot_word_at};
 use si_model::{Snapshot, Value};
 use std::marker::Model;
 use std::mem::replace;
 
 /// Where a search begins: at the first slot.
 pub fn ring_begin() -> RingPlace
-    ensures { result ≡ begin }
+    ensures { result ≡ ring_begin }
 {
     RingPlace::SlotHead { slot: 0 }
 }
@@ -31,13 +30,15 @@ pub fn ring_begin() -> RingPlace
 pub fn ring_verb(place: &Place, at: &RingPlace) -> Verb
     requires fits { FitsPlace place.now }
     requires at { RingFits place.now at.now }
-    ensures value { result ≡ verb_at place.now at.now }
+    ensures value { result ≡ verb_by (position_address place.now) (ring_verb place.now at.now) }
     ensures within { address_of result < place_end place.now }
 {
     let at = match at {
-        RingPlace::SlotHead { slot } | RingPlace::SlotAgain { slot, .. } => slot_at(place, *slot),
-        RingPlace::SlotEnding { slot, .. } => slot_end_at(place, *slot),
-        RingPlace::SlotWords { slot, got, .. } => slot_word_at(place, *slot, got.len() as u32),
+        RingPlace::SlotHead { slot } | RingPlace::SlotAgain { slot, .. } => place.slot_header(
+            *slot,
+        ),
+        RingPlace::SlotEnding { slot, .. } => place.slot_end(*slot),
+        RingPlace::SlotWords { slot, got, .. } => place.slot_word(*slot, got.len() as u32),
     };
     Verb::Read { at }
 }
@@ -45,31 +46,12 @@ pub fn ring_verb(place: &Place, at: &RingPlace) -> Verb
 fn next_slot(place: &Place, slot: u32) -> Now<RingPlace, SearchEnd>
     requires fits { FitsPlace place.now }
     requires slot { slot < place.now.ring }
-    ensures { result ≡ slot_after place.now slot }
+    ensures { result ≡ next_slot place.now slot }
 {
     if slot + 1 == place.ring {
         Now::Over(SearchEnd::NotThere)
     } else {
         Now::At(RingPlace::SlotHead { slot: slot + 1 })
-    }
-}
-
-// With one more of the slot's words, the next one follows, or the header again.
-fn one_more(width: u32, slot: u32, header: u64, got: Value, found: u64) -> RingPlace
-    requires most { width ≤ 8 }
-    requires got { length got < width }
-    ensures { result ≡ until width (got ++ found ∷ []) (SlotWords slot header) (SlotAgain slot header) }
-{
-    let mut got = got;
-    got.push(found);
-    if got.len() == width as usize {
-        RingPlace::SlotAgain {
-            slot,
-            header,
-            value: got,
-        }
-    } else {
-        RingPlace::SlotWords { slot, header, got }
     }
 }
 
@@ -82,7 +64,7 @@ pub fn ring_after(
 ) -> Now<RingPlace, SearchEnd>
     requires fits { FitsPlace place.now }
     requires at { RingFits place.now at }
-    ensures { result ≡ after_word place.now seen.now at found }
+    ensures { result ≡ ring_after place.now seen.now at found }
 {
     match at {
         RingPlace::SlotHead { slot } => {
@@ -96,6 +78,7 @@ pub fn ring_after(
             }
         }
         RingPlace::SlotEnding { slot, header } => {
+            // A visible end is the stamp of a later version that the snapshot sees.
             if sees(place.form, seen, found) {
                 next_slot(place, slot)
             } else {
@@ -106,14 +89,28 @@ pub fn ring_after(
                 })
             }
         }
-        RingPlace::SlotWords { slot, header, got } => {
-            Now::At(one_more(place.width, slot, header, got, found))
+        RingPlace::SlotWords {
+            slot,
+            header,
+            mut got,
+        } => {
+            got.push(found);
+            if got.len() == place.width as usize {
+                Now::At(RingPlace::SlotAgain {
+                    slot,
+                    header,
+                    value: got,
+                })
+            } else {
+                Now::At(RingPlace::SlotWords { slot, header, got })
+            }
         }
         RingPlace::SlotAgain {
             slot,
             header,
             value,
         } => {
+            // Under another header the words may be those of a version that was copied here since.
             if !same_stamp(place.form, found, header) || found == MARK {
                 next_slot(place, slot)
             } else if is_deleted(place.form, header) {
@@ -128,7 +125,7 @@ pub fn ring_after(
 fn slots_left(place: &Place, slot: u32) -> u64
     requires fits { FitsPlace place.now }
     requires slot { slot < place.now.ring }
-    ensures value { result ≡ left_after place.now slot }
+    ensures value { result ≡ slots_left place.now slot }
     ensures few { result < 1024 }
 {
     (place.ring - slot - 1) as u64 * (place.width as u64 + 3)
@@ -138,7 +135,7 @@ fn slots_left(place: &Place, slot: u32) -> u64
 pub fn ring_left(place: &Place, at: &RingPlace) -> u64
     requires fits { FitsPlace place.now }
     requires at { RingFits place.now at.now }
-    ensures { result ≡ left_at place.now at.now }
+    ensures { result ≡ ring_left place.now at.now }
 {
     let width = place.width as u64;
     match at {
@@ -148,6 +145,17 @@ pub fn ring_left(place: &Place, at: &RingPlace) -> u64
             slots_left(place, *slot) + (width - got.len() as u64 + 1)
         }
         RingPlace::SlotAgain { slot, .. } => slots_left(place, *slot) + 1,
+    }
+}
+
+/// An equal end, made without memory.
+fn copied(end: &SearchEnd) -> SearchEnd
+    ensures { result ≡ end.now }
+{
+    match end {
+        SearchEnd::Found(None) => SearchEnd::Found(None),
+        SearchEnd::Found(Some(value)) => SearchEnd::Found(Some(value.copy())),
+        SearchEnd::NotThere => SearchEnd::NotThere,
     }
 }
 
@@ -189,50 +197,39 @@ impl SearchRing {
 }
 
 impl Machine for SearchRing {
-    ghost use Rattle.nam_verbs.specs.Running.{next_verb, after_found, end_of, verbs_left, stands_until_end};
     ghost use Rattle.nam_ring.specs.Search.{running};
+
+    type Word = Field;
+
+    type Place = RingPlace;
 
     type End = SearchEnd;
 
-    ghost next = { λ a. next_verb (running a) };
+    ghost running = { running };
 
-    ghost after = { λ a found. record a { state = (after_found (running a) found).state } };
+    fn state(&self) -> &Now<RingPlace, SearchEnd> {
+        &self.state
+    }
 
-    ghost ended = { λ a. end_of (running a) };
+    fn verb_from(&self, at: &RingPlace) -> Verb {
+        ring_verb(&self.place, at)
+    }
 
-    ghost rest = { λ a. verbs_left (running a) };
-
-    ghost reach = { λ a. (running a).reach };
-
-    ghost stands_until_end = { λ a. stands_until_end (running a) };
-
-    fn verb(&self) -> Option<Verb> {
-        match &self.state {
-            Now::At(at) => Some(ring_verb(&self.place, at)),
-            Now::Over(_) => None,
-        }
+    fn left_from(&self, at: &RingPlace) -> u64 {
+        ring_left(&self.place, at)
     }
 
     fn take(&mut self, found: u64) {
-        match replace(&mut self.state, Now::At(ring_begin())) {
-            Now::At(at) => self.state = ring_after(&self.place, &self.seen, at, found),
-            Now::Over(end) => self.state = Now::Over(end),
-        }
-    }
-
-    fn left(&self) -> u64 {
-        match &self.state {
-            Now::At(at) => ring_left(&self.place, at),
-            Now::Over(_) => 0,
-        }
+        self.state = match replace(&mut self.state, Now::At(ring_begin())) {
+            Now::At(at) => ring_after(&self.place, &self.seen, at, found),
+            Now::Over(end) => Now::Over(end),
+        };
     }
 
     fn end(&self) -> Option<SearchEnd> {
         match &self.state {
             Now::At(_) => None,
-            Now::Over(SearchEnd::NotThere) => Some(SearchEnd::NotThere),
-            Now::Over(SearchEnd::Found(None)) => Some(SearchEnd::Found(None)),
-            Now::Over(SearchEnd::Found(Some(value))) => Some(SearchEnd::Found(Some(value.copy()))),
+            Now::Over(end) => Some(copied(end)),
         }
     }
 }

@@ -17,36 +17,40 @@ use Rattle.nam_script.specs.declared.draft.Draft.{Draft}
 use Rattle.nam_script.specs.declared.stage.Stage.{Stage}
 use Rattle.nam_script.specs.declared.stage.Stage.TheVariants as stage
 use Rattle.nam_script.specs.Stages.{is_at, takes_table, takes_row, is_loaded, takes_turns}
-use Rattle.nam_script.specs.Checks.{within, small, all_small, key_of, all_stints, place_of, is_given, rows_in, counted, steps_of}
+use Rattle.nam_script.specs.Checks.{within, small, all_small, key_of, all_stints, place_of, is_given, rows_in, total_within, steps_of}
 use Rattle.nam_script.specs.Admit.{is_held, with_table, admit}
 use Rattle.nam_script.specs.Limits.{RowsFit, RowFits, IsKey}
-use Rattle.nam_script.specs.Spelling.{somes, spelt}
-use Rattle.nam_script.proofs.Spells.{IsShort}
-use Rattle.nam_script.proofs.Chains.{ok_then, must_then, same_Ok, within_fits, counted_is, all_small_is, all_stints_are, found_is, at_is}
+use Rattle.nam_script.specs.Lines.{spelt_line}
+use Rattle.nam_script.specs.Spelling.{IsGood, LineIsSmall, somes, spelt}
+use Rattle.nam_script.proofs.Chains.{ok_then, must_then, same_Ok, within_fits, total_is, all_small_is, all_stints_are, found_is, at_is}
 use Rattle.nam_script.proofs.Kept.{InOrder, before_row, all_more, distinct_more, rows_in_more, loaded_at}
-use Rattle.nam_script.proofs.Steps.{Stands, Follows, setting_follows, not_true, none_some, table_follows, row_follows, txn_follows, all_somes, table_is, pushes, end_follows, turns_follow, seed_follows}
+use Rattle.nam_script.proofs.Steps.{Stands, Follows, setting_follows, not_true, none_some, table_follows, row_follows, txn_follows, all_somes, all_spelt, table_is, pushes, end_follows, turns_follow, seed_follows}
 
 version_line : (d e : Draft) → Stands d → admit d line.Version ≡ Ok e → Follows d line.Version e
-unfolding admit
+unfolding admit spelt_line
 version_line d e s given =
     must_then (is_at d.stage stage.Empty) kind.Word _ e given (λ t e1.
     let at = at_is d.stage stage.Empty t in
     let o = subst (λ (y : Stage). InOrder y d.shape d.body) at s.order in
     subst (Follows d line.Version) (same_Ok _ _ e1)
-    (setting_follows d (record d { stage = stage.Version }) line.Version [] stage.Empty at o.0 o.1 refl refl refl refl refl refl refl refl s.kept.form s.tries (λ ts b. (ts, b)) tt))
+    (setting_follows d (record d { stage = stage.Version }) line.Version [] stage.Empty at o.0 o.1 refl refl refl refl
+    refl refl refl refl s.kept.form s.tries (λ ts b. (ts, b)) tt))
 
 header_line : (d e : Draft) (form : _) → Stands d → admit d (line.Header form) ≡ Ok e → Follows d (line.Header form) e
-unfolding admit
+unfolding admit spelt_line
 header_line d e form s given =
     must_then (is_at d.stage stage.Version) kind.Word _ e given (λ t e1.
     must_then (not (is_held form)) kind.Word _ e e1 (λ free e2.
     let at = at_is d.stage stage.Version t in
     let o = subst (λ (y : Stage). InOrder y d.shape d.body) at s.order in
     subst (Follows d (line.Header form)) (same_Ok _ _ e2)
-    (setting_follows d (record d { stage = stage.Header; shape = record d.shape { form = form } }) (line.Header form) (line.Version ∷ []) stage.Version at o.0 o.1 refl refl refl refl refl refl refl refl (not_true _ free) s.tries (λ ts b. (ts, b)) tt)))
+    (setting_follows d (record d { stage = stage.Header; shape = record d.shape { form = form } }) (line.Header form)
+    (line.Version ∷ []) stage.Version at o.0 o.1 refl refl refl refl refl refl refl refl (not_true _ free) s.tries
+    (λ ts b. (ts, b)) tt)))
 
-workers_line : (d e : Draft) (number : Option ℕ) → Stands d → admit d (line.Workers number) ≡ Ok e → Follows d (line.Workers number) e
-unfolding admit
+workers_line : (d e : Draft) (number : Option ℕ) → Stands d → admit d (line.Workers number) ≡ Ok e
+    → Follows d (line.Workers number) e
+unfolding admit spelt_line
 workers_line d e number s given =
     must_then (is_at d.stage stage.Header) kind.Word _ e given (λ t e1.
     ok_then (within 1 16 number) _ e e1 (λ n en e2.
@@ -54,11 +58,14 @@ workers_line d e number s given =
     let o = subst (λ (y : Stage). InOrder y d.shape d.body) at s.order in
     let f = within_fits 1 16 number n en in
     let next : Draft = record d { stage = stage.Workers; shape = record d.shape { workers = n } } in
-    subst (Follows d (line.Workers number)) (same_Ok _ _ e2) (subst (λ (x : Option ℕ). Follows d (line.Workers x) next) (sym f.is)
-    (setting_follows d next (line.Workers (Some n)) (line.Version ∷ line.Header d.shape.form ∷ []) stage.Header at o.0 o.1 refl refl refl refl refl refl refl refl s.kept.form s.tries (λ ts b. (ts, b)) tt))))
+    subst (Follows d (line.Workers number)) (same_Ok _ _ e2)
+    (subst (λ (x : Option ℕ). Follows d (line.Workers x) next) (sym f.is)
+    (setting_follows d next (line.Workers (Some n)) (line.Version ∷ line.Header d.shape.form ∷ []) stage.Header at o.0
+    o.1 refl refl refl refl refl refl refl refl s.kept.form s.tries (λ ts b. (ts, b)) tt))))
 
-tries_line : (d e : Draft) (number : Option ℕ) → Stands d → admit d (line.Tries number) ≡ Ok e → Follows d (line.Tries number) e
-unfolding admit
+tries_line : (d e : Draft) (number : Option ℕ) → Stands d → admit d (line.Tries number) ≡ Ok e
+    → Follows d (line.Tries number) e
+unfolding admit spelt_line
 tries_line d e number s given =
     must_then (is_at d.stage stage.Workers) kind.Word _ e given (λ t e1.
     ok_then (within 1 16 number) _ e e1 (λ n en e2.
@@ -66,20 +73,27 @@ tries_line d e number s given =
     let o = subst (λ (y : Stage). InOrder y d.shape d.body) at s.order in
     let f = within_fits 1 16 number n en in
     let next : Draft = record d { stage = stage.Tries; policy = record d.policy { tries = n } } in
-    subst (Follows d (line.Tries number)) (same_Ok _ _ e2) (subst (λ (x : Option ℕ). Follows d (line.Tries x) next) (sym f.is)
-    (setting_follows d next (line.Tries (Some n)) (line.Version ∷ line.Header d.shape.form ∷ line.Workers (Some d.shape.workers) ∷ []) stage.Workers at o.0 o.1 refl refl refl refl refl refl refl refl s.kept.form (f.least, f.most) (λ ts b. (ts, b)) tt))))
+    subst (Follows d (line.Tries number)) (same_Ok _ _ e2)
+    (subst (λ (x : Option ℕ). Follows d (line.Tries x) next) (sym f.is)
+    (setting_follows d next (line.Tries (Some n))
+    (line.Version ∷ line.Header d.shape.form ∷ line.Workers (Some d.shape.workers) ∷ []) stage.Workers at o.0 o.1
+    refl refl refl refl refl refl refl refl s.kept.form (f.least, f.most) (λ ts b. (ts, b)) tt))))
 
 tidy_line : (d e : Draft) (on : Bool) → Stands d → admit d (line.Tidy on) ≡ Ok e → Follows d (line.Tidy on) e
-unfolding admit
+unfolding admit spelt_line
 tidy_line d e on s given =
     must_then (is_at d.stage stage.Tries) kind.Word _ e given (λ t e1.
     let at = at_is d.stage stage.Tries t in
     let o = subst (λ (y : Stage). InOrder y d.shape d.body) at s.order in
     subst (Follows d (line.Tidy on)) (same_Ok _ _ e1)
-    (setting_follows d (record d { stage = stage.Tidy; policy = record d.policy { tidy = on } }) (line.Tidy on) (line.Version ∷ line.Header d.shape.form ∷ line.Workers (Some d.shape.workers) ∷ line.Tries (Some d.policy.tries) ∷ []) stage.Tries at o.0 o.1 refl refl refl refl refl refl refl refl s.kept.form s.tries (λ ts b. (ts, b)) tt))
+    (setting_follows d (record d { stage = stage.Tidy; policy = record d.policy { tidy = on } }) (line.Tidy on)
+    (line.Version ∷ line.Header d.shape.form ∷ line.Workers (Some d.shape.workers) ∷ line.Tries
+    (Some d.policy.tries) ∷ []) stage.Tries at o.0 o.1 refl refl refl refl refl refl refl refl s.kept.form s.tries
+    (λ ts b. (ts, b)) tt))
 
-start_line : (d e : Draft) (number : Option ℕ) → Stands d → admit d (line.Start number) ≡ Ok e → Follows d (line.Start number) e
-unfolding admit
+start_line : (d e : Draft) (number : Option ℕ) → Stands d → admit d (line.Start number) ≡ Ok e
+    → Follows d (line.Start number) e
+unfolding admit spelt_line
 start_line d e number s given =
     must_then (is_at d.stage stage.Tidy) kind.Word _ e given (λ t e1.
     ok_then (within 0 (greatest_number d.shape.form) number) _ e e1 (λ n en e2.
@@ -87,11 +101,15 @@ start_line d e number s given =
     let o = subst (λ (y : Stage). InOrder y d.shape d.body) at s.order in
     let f = within_fits 0 (greatest_number d.shape.form) number n en in
     let next : Draft = record d { stage = stage.Start; shape = record d.shape { start = n } } in
-    subst (Follows d (line.Start number)) (same_Ok _ _ e2) (subst (λ (x : Option ℕ). Follows d (line.Start x) next) (sym f.is)
-    (setting_follows d next (line.Start (Some n)) (line.Version ∷ line.Header d.shape.form ∷ line.Workers (Some d.shape.workers) ∷ line.Tries (Some d.policy.tries) ∷ line.Tidy d.policy.tidy ∷ []) stage.Tidy at o.0 o.1 refl refl refl refl refl refl refl refl s.kept.form s.tries (λ ts b. (ts, b)) tt))))
+    subst (Follows d (line.Start number)) (same_Ok _ _ e2)
+    (subst (λ (x : Option ℕ). Follows d (line.Start x) next) (sym f.is)
+    (setting_follows d next (line.Start (Some n)) (line.Version ∷ line.Header d.shape.form ∷ line.Workers
+    (Some d.shape.workers) ∷ line.Tries (Some d.policy.tries) ∷ line.Tidy d.policy.tidy ∷ []) stage.Tidy at o.0 o.1
+    refl refl refl refl refl refl refl refl s.kept.form s.tries (λ ts b. (ts, b)) tt))))
 
-overflow_line : (d e : Draft) (buckets cells : Option ℕ) → Stands d → admit d (line.Overflow buckets cells) ≡ Ok e → Follows d (line.Overflow buckets cells) e
-unfolding admit
+overflow_line : (d e : Draft) (buckets cells : Option ℕ) → Stands d → admit d (line.Overflow buckets cells) ≡ Ok e
+    → Follows d (line.Overflow buckets cells) e
+unfolding admit spelt_line
 overflow_line d e buckets cells s given =
     must_then (is_at d.stage stage.Start) kind.Word _ e given (λ t e1.
     ok_then (within 1 256 buckets) _ e e1 (λ b eb e2.
@@ -101,11 +119,17 @@ overflow_line d e buckets cells s given =
     let fb = within_fits 1 256 buckets b eb in
     let fc = within_fits 1 64 cells c ec in
     let next : Draft = record d { stage = stage.Overflow; shape = record d.shape { buckets = b; cells = c } } in
-    subst (Follows d (line.Overflow buckets cells)) (same_Ok _ _ e3) (subst (λ (x : Option ℕ). Follows d (line.Overflow x cells) next) (sym fb.is) (subst (λ (x : Option ℕ). Follows d (line.Overflow (Some b) x) next) (sym fc.is)
-    (setting_follows d next (line.Overflow (Some b) (Some c)) (line.Version ∷ line.Header d.shape.form ∷ line.Workers (Some d.shape.workers) ∷ line.Tries (Some d.policy.tries) ∷ line.Tidy d.policy.tidy ∷ line.Start (Some d.shape.start) ∷ []) stage.Start at o.0 o.1 refl refl refl refl refl refl refl refl s.kept.form s.tries (λ ts b. (ts, b)) (tt, tt)))))))
+    subst (Follows d (line.Overflow buckets cells)) (same_Ok _ _ e3) (subst
+    (λ (x : Option ℕ). Follows d (line.Overflow x cells) next) (sym fb.is)
+    (subst (λ (x : Option ℕ). Follows d (line.Overflow (Some b) x) next) (sym fc.is)
+    (setting_follows d next (line.Overflow (Some b) (Some c)) (line.Version ∷ line.Header d.shape.form ∷ line.Workers
+    (Some d.shape.workers) ∷ line.Tries (Some d.policy.tries) ∷ line.Tidy d.policy.tidy ∷ line.Start
+    (Some d.shape.start) ∷ []) stage.Start at o.0 o.1 refl refl refl refl refl refl refl refl s.kept.form s.tries (λ
+    ts b. (ts, b)) (tt, tt)))))))
 
-table_line : (d e : Draft) (name : List ℕ) (width capacity ring : Option ℕ) → Stands d → admit d (line.Table name width capacity ring) ≡ Ok e → Follows d (line.Table name width capacity ring) e
-unfolding admit
+table_line : (d e : Draft) (name : List ℕ) (width capacity ring : Option ℕ) → Stands d
+    → admit d (line.Table name width capacity ring) ≡ Ok e → Follows d (line.Table name width capacity ring) e
+unfolding admit spelt_line
 table_line d e name width capacity ring s given =
     must_then (takes_table d.stage) kind.Word _ e given (λ t e1.
     must_then (not (is_ok (place_of d.shape.tables name))) kind.Name _ e e1 (λ _ e2.
@@ -113,17 +137,22 @@ table_line d e name width capacity ring s given =
     ok_then (within 1 4096 capacity) _ e e3 (λ k ek e4.
     ok_then (within 1 16 ring) _ e e4 (λ r er e5.
     must_then (ltb (length d.shape.tables) 8) kind.Size _ e e5 (λ few e6.
-    must_then (not (is_some (fault_of (with_table d.shape (record { name = name; width = w; capacity = k; ring = r }))))) kind.Size _ e e6 (λ good e7.
+    must_then
+    (not (is_some (fault_of (with_table d.shape (record { name = name; width = w; capacity = k; ring = r })))))
+    kind.Size _ e e6 (λ good e7.
     let fw = within_fits 1 8 width w ew in
     let fk = within_fits 1 4096 capacity k ek in
     let fr = within_fits 1 16 ring r er in
-    let made = table_follows d e (record { name = name; width = w; capacity = k; ring = r }) (line.Table name (Some w) (Some k) (Some r)) s t (ltb-true _ _ few) (none_some _ good) (sym (same_Ok _ _ e7)) refl (tt, tt, tt) in
+    let made = table_follows d e (record { name = name; width = w; capacity = k; ring = r })
+    (line.Table name (Some w) (Some k) (Some r)) s t (ltb-true _ _ few) (none_some _ good) (sym (same_Ok _ _ e7))
+    refl (tt, (tt, (tt, tt))) in
     subst (λ (x : Option ℕ). Follows d (line.Table name x capacity ring) e) (sym fw.is)
     (subst (λ (x : Option ℕ). Follows d (line.Table name (Some w) x ring) e) (sym fk.is)
     (subst (λ (x : Option ℕ). Follows d (line.Table name (Some w) (Some k) x) e) (sym fr.is) made)))))))))
 
-row_line : (d e : Draft) (table : List ℕ) (key : Option ℕ) (values : List (Option ℕ)) → Stands d → admit d (line.Row table key values) ≡ Ok e → Follows d (line.Row table key values) e
-unfolding admit
+row_line : (d e : Draft) (table : List ℕ) (key : Option ℕ) (values : List (Option ℕ)) → Stands d
+    → admit d (line.Row table key values) ≡ Ok e → Follows d (line.Row table key values) e
+unfolding admit spelt_line
 row_line d e table key values s given =
     must_then (takes_row d.stage) kind.Word _ e given (λ t e1.
     ok_then (place_of d.shape.tables table) _ e e1 (λ f ef e2.
@@ -139,35 +168,42 @@ row_line d e table key values s given =
     let r : Row = record { table = f.table; key = k; value = vs } in
     let old = s.kept.rows in
     let caps = capacities_of d.shape.tables in
-    let free : rows_in d.body.rows f.table < slice_index caps f.table = subst (λ (n : ℕ). rows_in d.body.rows f.table < n) (sym at.capacity) (ltb-true _ _ room) in
+    let free : rows_in d.body.rows f.table < slice_index caps f.table = subst
+    (λ (n : ℕ). rows_in d.body.rows f.table < n) (sym at.capacity) (ltb-true _ _ room) in
     let fit : RowsFit d.shape.tables (d.body.rows ++ r ∷ []) = record {
-      fit = all_more (RowFits (widths_of d.shape.tables)) d.body.rows r old.fit (table_is d.shape table f b.shape at, eqb-true _ _ wide ∙ sym at.width);
+      fit = all_more (RowFits (widths_of d.shape.tables)) d.body.rows r old.fit
+          (table_is d.shape table f b.shape at, eqb-true _ _ wide ∙ sym at.width);
       keys = all_more (λ q. IsKey q.key) d.body.rows r old.keys fk.most;
       distinct = distinct_more d.body.rows r old.distinct (not_true _ new);
       loaded = λ u lt. subst (λ (n : ℕ). n ≤ slice_index caps u) (sym (rows_in_more d.body.rows r u))
-          (loaded_at (eqb f.table u) (rows_in d.body.rows u) (slice_index caps u) (λ is. subst (λ (v : ℕ). rows_in d.body.rows v < slice_index caps v) (eqb-true _ _ is) free) (old.loaded u lt));
+          (loaded_at (eqb f.table u) (rows_in d.body.rows u) (slice_index caps u)
+          (λ is. subst (λ (v : ℕ). rows_in d.body.rows v < slice_index caps v) (eqb-true _ _ is) free)
+          (old.loaded u lt));
     } in
-    let made = row_follows d r s t fit (tt, all_somes vs) in
+    let made = row_follows d r s t fit (tt, (tt, all_somes vs)) in
     let next : Draft = record d { stage = stage.Rows; body = record d.body { rows = d.body.rows ++ r ∷ [] } } in
     subst (Follows d (line.Row table key values)) (same_Ok _ _ e7)
     (subst (λ (x : List (Option ℕ)). Follows d (line.Row table key x) next) (sym iv)
     (subst (λ (x : Option ℕ). Follows d (line.Row table x (somes vs)) next) (sym fk.is)
     (subst (λ (x : List ℕ). Follows d (line.Row x (Some k) (somes vs)) next) at.named made))))))))))
 
-txn_line : (d e : Draft) (worker : Option ℕ) → Stands d → admit d (line.Txn worker) ≡ Ok e → Follows d (line.Txn worker) e
+txn_line : (d e : Draft) (worker : Option ℕ) → Stands d → admit d (line.Txn worker) ≡ Ok e
+    → Follows d (line.Txn worker) e
 unfolding admit
 txn_line d e worker s given =
     must_then (is_loaded d.stage) kind.Word _ e given (λ t e1.
     ok_then (within 1 d.shape.workers worker) _ e e1 (λ w ew e2.
     must_then (ltb (length d.body.txns) 8192) kind.Size _ e e2 (λ few e3.
     let f = within_fits 1 d.shape.workers worker w ew in
-    subst (Follows d (line.Txn worker)) (same_Ok _ _ e3) (subst (λ (x : Option ℕ). Follows d (line.Txn x) (record d { stage = stage.Open; body = record d.body { worker = w } })) (sym f.is)
+    subst (Follows d (line.Txn worker)) (same_Ok _ _ e3) (subst (λ (x : Option ℕ). Follows d (line.Txn x)
+    (record d { stage = stage.Open; body = record d.body { worker = w } })) (sym f.is)
     (txn_follows d w s t (f.least, f.most) (ltb-true _ _ few))))))
 
 open_shape : (d : Draft) → Stands d → is_at d.stage stage.Open ≡ true → fault_of d.shape ≡ None
 open_shape d s t = (subst (λ (y : Stage). InOrder y d.shape d.body) (at_is d.stage stage.Open t) s.order).0
 
-get_line : (d e : Draft) (table : List ℕ) (key : Option ℕ) → Stands d → admit d (line.Get table key) ≡ Ok e → Follows d (line.Get table key) e
+get_line : (d e : Draft) (table : List ℕ) (key : Option ℕ) → Stands d → admit d (line.Get table key) ≡ Ok e
+    → Follows d (line.Get table key) e
 unfolding admit
 get_line d e table key s given =
     must_then (is_at d.stage stage.Open) kind.Word _ e given (λ t e1.
@@ -175,10 +211,12 @@ get_line d e table key s given =
     ok_then (key_of key) _ e e2 (λ k ek e3.
     let at = found_is d.shape.tables table f ef in
     let fk = within_fits 0 (2 ^ 64 - 2) key k ek in
-    pushes d (op.Get f.table k) 1 e (line.Get table key) s t e3 (table_is d.shape table f (open_shape d s t) at) fk.most refl
+    pushes d (op.Get f.table k) 1 e (line.Get table key) s t e3 (table_is d.shape table f (open_shape d s t) at) fk.most
+    refl
     (ap (λ (x : List ℕ). line.Get x (Some k)) at.named ∙ ap (λ (x : Option ℕ). line.Get table x) (sym fk.is)))))
 
-del_line : (d e : Draft) (table : List ℕ) (key : Option ℕ) → Stands d → admit d (line.Del table key) ≡ Ok e → Follows d (line.Del table key) e
+del_line : (d e : Draft) (table : List ℕ) (key : Option ℕ) → Stands d → admit d (line.Del table key) ≡ Ok e
+    → Follows d (line.Del table key) e
 unfolding admit
 del_line d e table key s given =
     must_then (is_at d.stage stage.Open) kind.Word _ e given (λ t e1.
@@ -186,10 +224,12 @@ del_line d e table key s given =
     ok_then (key_of key) _ e e2 (λ k ek e3.
     let at = found_is d.shape.tables table f ef in
     let fk = within_fits 0 (2 ^ 64 - 2) key k ek in
-    pushes d (op.Del f.table k) 1 e (line.Del table key) s t e3 (table_is d.shape table f (open_shape d s t) at) fk.most refl
+    pushes d (op.Del f.table k) 1 e (line.Del table key) s t e3 (table_is d.shape table f (open_shape d s t) at) fk.most
+    refl
     (ap (λ (x : List ℕ). line.Del x (Some k)) at.named ∙ ap (λ (x : Option ℕ). line.Del table x) (sym fk.is)))))
 
-guard_line : (d e : Draft) (table : List ℕ) (key : Option ℕ) → Stands d → admit d (line.Guard table key) ≡ Ok e → Follows d (line.Guard table key) e
+guard_line : (d e : Draft) (table : List ℕ) (key : Option ℕ) → Stands d → admit d (line.Guard table key) ≡ Ok e
+    → Follows d (line.Guard table key) e
 unfolding admit
 guard_line d e table key s given =
     must_then (is_at d.stage stage.Open) kind.Word _ e given (λ t e1.
@@ -197,10 +237,12 @@ guard_line d e table key s given =
     ok_then (key_of key) _ e e2 (λ k ek e3.
     let at = found_is d.shape.tables table f ef in
     let fk = within_fits 0 (2 ^ 64 - 2) key k ek in
-    pushes d (op.Guard f.table k) 1 e (line.Guard table key) s t e3 (table_is d.shape table f (open_shape d s t) at) fk.most refl
+    pushes d (op.Guard f.table k) 1 e (line.Guard table key) s t e3 (table_is d.shape table f (open_shape d s t) at)
+    fk.most refl
     (ap (λ (x : List ℕ). line.Guard x (Some k)) at.named ∙ ap (λ (x : Option ℕ). line.Guard table x) (sym fk.is)))))
 
-put_line : (d e : Draft) (table : List ℕ) (key : Option ℕ) (values : List (Option ℕ)) → Stands d → admit d (line.Put table key values) ≡ Ok e → Follows d (line.Put table key values) e
+put_line : (d e : Draft) (table : List ℕ) (key : Option ℕ) (values : List (Option ℕ)) → Stands d
+    → admit d (line.Put table key values) ≡ Ok e → Follows d (line.Put table key values) e
 unfolding admit
 put_line d e table key values s given =
     must_then (is_at d.stage stage.Open) kind.Word _ e given (λ t e1.
@@ -211,10 +253,13 @@ put_line d e table key values s given =
     let at = found_is d.shape.tables table f ef in
     let fk = within_fits 0 (2 ^ 64 - 2) key k ek in
     let iv = all_small_is values vs ev in
-    pushes d (op.Put f.table k vs) 1 e (line.Put table key values) s t e5 (table_is d.shape table f (open_shape d s t) at, eqb-true _ _ wide ∙ sym at.width) fk.most refl
-    (ap (λ (x : List ℕ). line.Put x (Some k) (somes vs)) at.named ∙ ap (λ (x : Option ℕ). line.Put table x (somes vs)) (sym fk.is) ∙ ap (λ (x : List (Option ℕ)). line.Put table key x) (sym iv)))))))
+    pushes d (op.Put f.table k vs) 1 e (line.Put table key values) s t e5
+    (table_is d.shape table f (open_shape d s t) at, eqb-true _ _ wide ∙ sym at.width) fk.most refl
+    (ap (λ (x : List ℕ). line.Put x (Some k) (somes vs)) at.named ∙ ap (λ (x : Option ℕ). line.Put table x (somes vs))
+    (sym fk.is) ∙ ap (λ (x : List (Option ℕ)). line.Put table key x) (sym iv)))))))
 
-add_line : (d e : Draft) (table : List ℕ) (key field : Option ℕ) (change : Change) → Stands d → admit d (line.Add table key field change) ≡ Ok e → Follows d (line.Add table key field change) e
+add_line : (d e : Draft) (table : List ℕ) (key field : Option ℕ) (change : Change) → Stands d
+    → admit d (line.Add table key field change) ≡ Ok e → Follows d (line.Add table key field change) e
 unfolding admit
 add_line d e table key field change s given =
     must_then (is_at d.stage stage.Open) kind.Word _ e given (λ t e1.
@@ -227,13 +272,15 @@ add_line d e table key field change s given =
     let fg = within_fits 1 f.width field g eg in
     let fn = within_fits 0 (2 ^ 64 - 1) change.by n en in
     pushes d (op.Add f.table k g change.up n) 1 e (line.Add table key field change) s t e5
-    (table_is d.shape table f (open_shape d s t) at, (fg.least, subst (λ (m : ℕ). g ≤ m) (sym at.width) fg.most)) fk.most refl
+    (table_is d.shape table f (open_shape d s t) at, (fg.least, subst (λ (m : ℕ). g ≤ m) (sym at.width) fg.most))
+    fk.most refl
     (ap (λ (x : List ℕ). line.Add x (Some k) (Some g) (record { up = change.up; by = Some n })) at.named
     ∙ ap (λ (x : Option ℕ). line.Add table x (Some g) (record { up = change.up; by = Some n })) (sym fk.is)
     ∙ ap (λ (x : Option ℕ). line.Add table key x (record { up = change.up; by = Some n })) (sym fg.is)
     ∙ ap (λ (x : Option ℕ). line.Add table key field (record { up = change.up; by = x })) (sym fn.is)))))))
 
-need_line : (d e : Draft) (table : List ℕ) (key field least : Option ℕ) → Stands d → admit d (line.Need table key field least) ≡ Ok e → Follows d (line.Need table key field least) e
+need_line : (d e : Draft) (table : List ℕ) (key field least : Option ℕ) → Stands d
+    → admit d (line.Need table key field least) ≡ Ok e → Follows d (line.Need table key field least) e
 unfolding admit
 need_line d e table key field least s given =
     must_then (is_at d.stage stage.Open) kind.Word _ e given (λ t e1.
@@ -246,13 +293,15 @@ need_line d e table key field least s given =
     let fg = within_fits 1 f.width field g eg in
     let fn = within_fits 0 (2 ^ 64 - 1) least n en in
     pushes d (op.Need f.table k g n) 1 e (line.Need table key field least) s t e5
-    (table_is d.shape table f (open_shape d s t) at, (fg.least, subst (λ (m : ℕ). g ≤ m) (sym at.width) fg.most)) fk.most refl
+    (table_is d.shape table f (open_shape d s t) at, (fg.least, subst (λ (m : ℕ). g ≤ m) (sym at.width) fg.most))
+    fk.most refl
     (ap (λ (x : List ℕ). line.Need x (Some k) (Some g) (Some n)) at.named
     ∙ ap (λ (x : Option ℕ). line.Need table x (Some g) (Some n)) (sym fk.is)
     ∙ ap (λ (x : Option ℕ). line.Need table key x (Some n)) (sym fg.is)
     ∙ ap (λ (x : Option ℕ). line.Need table key field x) (sym fn.is)))))))
 
-scan_line : (d e : Draft) (table : List ℕ) (low high : Option ℕ) → Stands d → admit d (line.Scan table low high) ≡ Ok e → Follows d (line.Scan table low high) e
+scan_line : (d e : Draft) (table : List ℕ) (low high : Option ℕ) → Stands d → admit d (line.Scan table low high) ≡ Ok e
+    → Follows d (line.Scan table low high) e
 unfolding admit
 scan_line d e table low high s given =
     must_then (is_at d.stage stage.Open) kind.Word _ e given (λ t e1.
@@ -276,20 +325,25 @@ end_line d e s given =
     must_then (ltb 0 (length d.body.ops)) kind.Word _ e e1 (λ some e2.
     subst (Follows d line.End) (same_Ok _ _ e2) (end_follows d s t (ltb-true _ _ some))))
 
-turns_line : (d e : Draft) (ss : List SpeltStint) → Stands d → IsShort (line.Turns ss) → admit d (line.Turns ss) ≡ Ok e → Follows d (line.Turns ss) e
-unfolding admit
-turns_line d e ss s short given =
+turns_line : (d e : Draft) (ss : List SpeltStint) → Stands d → (LineIsSmall (line.Turns ss) → IsGood (line.Turns ss))
+    → admit d (line.Turns ss) ≡ Ok e → Follows d (line.Turns ss) e
+unfolding admit spelt_line
+turns_line d e ss s good given =
     must_then (takes_turns d.stage) kind.Word _ e given (λ t e1.
     ok_then (all_stints d.shape.workers ss) _ e e1 (λ ms em e2.
-    ok_then (counted d.body.steps (steps_of ms) 10000000) _ e e2 (λ sum es e3.
+    ok_then (total_within d.body.steps (steps_of ms) 10000000) _ e e2 (λ sum es e3.
     let r = all_stints_are d.shape.workers ss ms em in
-    let c = counted_is d.body.steps (steps_of ms) 10000000 sum es in
+    let c = total_is d.body.steps (steps_of ms) 10000000 sum es in
     let len : length ss ≡ length ms = ap length r.0 ∙ length-map ms spelt in
+    let short = good (subst (λ (x : List SpeltStint). LineIsSmall (line.Turns x)) (sym r.0) (all_spelt ms)) in
     subst (Follows d (line.Turns ss)) (same_Ok _ _ e3)
-    (subst (λ (x : List SpeltStint). Follows d (line.Turns x) (record d { stage = stage.Turns; body = record d.body { stints = d.body.stints ++ ms; steps = sum } })) (sym r.0)
-    (turns_follow d ms sum s t r.1 (omega (arith, len, short.0), omega (arith, len, short.1)) c.0 c.1)))))
+    (subst (λ (x : List SpeltStint). Follows d (line.Turns x)
+    (record d { stage = stage.Turns; body = record d.body { stints = d.body.stints ++ ms; steps = sum } })) (sym
+    r.0)
+    (turns_follow d ms sum s t r.1 (omega (arith, len, short.1), omega (arith, len, short.2)) c.0 c.1)))))
 
-seed_line : (d e : Draft) (seed picks : Option ℕ) → Stands d → admit d (line.Seed seed picks) ≡ Ok e → Follows d (line.Seed seed picks) e
+seed_line : (d e : Draft) (seed picks : Option ℕ) → Stands d → admit d (line.Seed seed picks) ≡ Ok e
+    → Follows d (line.Seed seed picks) e
 unfolding admit
 seed_line d e seed picks s given =
     must_then (is_loaded d.stage) kind.Word _ e given (λ t e1.
@@ -303,24 +357,25 @@ seed_line d e seed picks s given =
     (subst (λ (x : Option ℕ). Follows d (line.Seed (Some n) x) next) (sym fp.is)
     (seed_follows d n p s t fp.most))))))
 
-pub admitted : (d : Draft) (l : Line) (e : Draft) → Stands d → IsShort l → admit d l ≡ Ok e → Follows d l e
-admitted d line.Version e s short given = version_line d e s given
-admitted d (line.Header form) e s short given = header_line d e form s given
-admitted d (line.Workers n) e s short given = workers_line d e n s given
-admitted d (line.Tries n) e s short given = tries_line d e n s given
-admitted d (line.Tidy on) e s short given = tidy_line d e on s given
-admitted d (line.Start n) e s short given = start_line d e n s given
-admitted d (line.Overflow buckets cells) e s short given = overflow_line d e buckets cells s given
-admitted d (line.Table name width capacity ring) e s short given = table_line d e name width capacity ring s given
-admitted d (line.Row table key values) e s short given = row_line d e table key values s given
-admitted d (line.Txn worker) e s short given = txn_line d e worker s given
-admitted d (line.Get table key) e s short given = get_line d e table key s given
-admitted d (line.Put table key values) e s short given = put_line d e table key values s given
-admitted d (line.Add table key field change) e s short given = add_line d e table key field change s given
-admitted d (line.Del table key) e s short given = del_line d e table key s given
-admitted d (line.Need table key field least) e s short given = need_line d e table key field least s given
-admitted d (line.Guard table key) e s short given = guard_line d e table key s given
-admitted d (line.Scan table low high) e s short given = scan_line d e table low high s given
-admitted d line.End e s short given = end_line d e s given
-admitted d (line.Turns stints) e s short given = turns_line d e stints s short given
-admitted d (line.Seed seed picks) e s short given = seed_line d e seed picks s given
+pub admitted : (d : Draft) (l : Line) (e : Draft) → Stands d → (LineIsSmall l → IsGood l) → admit d l ≡ Ok e
+    → Follows d l e
+admitted d line.Version e s good given = version_line d e s given
+admitted d (line.Header form) e s good given = header_line d e form s given
+admitted d (line.Workers n) e s good given = workers_line d e n s given
+admitted d (line.Tries n) e s good given = tries_line d e n s given
+admitted d (line.Tidy on) e s good given = tidy_line d e on s given
+admitted d (line.Start n) e s good given = start_line d e n s given
+admitted d (line.Overflow buckets cells) e s good given = overflow_line d e buckets cells s given
+admitted d (line.Table name width capacity ring) e s good given = table_line d e name width capacity ring s given
+admitted d (line.Row table key values) e s good given = row_line d e table key values s given
+admitted d (line.Txn worker) e s good given = txn_line d e worker s given
+admitted d (line.Get table key) e s good given = get_line d e table key s given
+admitted d (line.Put table key values) e s good given = put_line d e table key values s given
+admitted d (line.Add table key field change) e s good given = add_line d e table key field change s given
+admitted d (line.Del table key) e s good given = del_line d e table key s given
+admitted d (line.Need table key field least) e s good given = need_line d e table key field least s given
+admitted d (line.Guard table key) e s good given = guard_line d e table key s given
+admitted d (line.Scan table low high) e s good given = scan_line d e table low high s given
+admitted d line.End e s good given = end_line d e s given
+admitted d (line.Turns stints) e s good given = turns_line d e stints s good given
+admitted d (line.Seed seed picks) e s good given = seed_line d e seed picks s given

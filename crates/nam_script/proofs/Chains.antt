@@ -15,16 +15,18 @@ use Rattle.nam_script.specs.declared.line.SpeltStint.{SpeltStint}
 use Rattle.nam_script.specs.declared.stage.Stage.{Stage}
 use Rattle.nam_script.specs.declared.stage.Stage.TheVariants.{Empty, Version, Header, Workers, Tries, Tidy, Start, Overflow, Tables, Rows, Open, Between, Turns, Seed}
 use Rattle.nam_script.specs.Stages.{rank, is_at}
-use Rattle.nam_script.specs.Checks.{◌>>=◌, must, within, stint_within, all_small, all_stints, place_from, place_of, counted}
+use Rattle.nam_script.specs.Checks.{◌>>=◌, must, within, stint_within, all_small, all_stints, place_from, place_of, total_within}
 use Rattle.nam_script.specs.Limits.{StintFits}
 use Rattle.nam_script.specs.Spelling.{somes, spelt}
 
 -- what follows from a step and from what comes after it
-pub ok_then : {A B P : Type 0} (r : Result A Kind) (f : A → Result B Kind) (y : B) → (r >>= f) ≡ Ok y → ((x : A) → r ≡ Ok x → f x ≡ Ok y → P) → P
+pub ok_then : {A B P : Type 0} (r : Result A Kind) (f : A → Result B Kind) (y : B) → (r >>= f) ≡ Ok y
+    → ((x : A) → r ≡ Ok x → f x ≡ Ok y → P) → P
 ok_then (Ok x) f y e p = p x refl e
 ok_then (Err k) f y e p = absurd cc
 
-pub must_then : {B P : Type 0} (b : Bool) (k : Kind) (x : Result B Kind) (y : B) → (must b k >>= (λ _. x)) ≡ Ok y → (b ≡ true → x ≡ Ok y → P) → P
+pub must_then : {B P : Type 0} (b : Bool) (k : Kind) (x : Result B Kind) (y : B) → (must b k >>= (λ _. x)) ≡ Ok y
+    → (b ≡ true → x ≡ Ok y → P) → P
 must_then true k x y e p = p refl e
 must_then false k x y e p = absurd cc
 
@@ -46,10 +48,15 @@ within_fits low high None m e = absurd cc
 within_fits low high (Some n) m e =
     let h = chosen (leb low n && leb n high) n m kind.Range e in
     let p = and_parts _ _ h.0 in
-    record { is = ap (λ (k : ℕ). Some k) h.1; least = subst (λ (k : ℕ). low ≤ k) h.1 (leb-true _ _ p.0); most = subst (λ (k : ℕ). k ≤ high) h.1 (leb-true _ _ p.1) }
+    record {
+      is = ap (λ (k : ℕ). Some k) h.1;
+      least = subst (λ (k : ℕ). low ≤ k) h.1 (leb-true _ _ p.0);
+      most = subst
+          (λ (k : ℕ). k ≤ high) h.1 (leb-true _ _ p.1);
+    }
 
-pub counted_is : (a b most s : ℕ) → counted a b most ≡ Ok s → (s ≡ a + b) × (s ≤ most)
-counted_is a b most s e =
+pub total_is : (a b most s : ℕ) → total_within a b most ≡ Ok s → (s ≡ a + b) × (s ≤ most)
+total_is a b most s e =
     let h = chosen (leb (a + b) most) (a + b) s kind.Size e in
     (sym h.1, subst (λ (k : ℕ). k ≤ most) h.1 (leb-true _ _ h.0))
 
@@ -59,22 +66,30 @@ all_small_is [] ms e = ap somes (same_Ok _ _ e)
 all_small_is (None ∷ ns) ms e = absurd cc
 all_small_is (Some n ∷ ns) ms e =
     ok_then (all_small ns) _ ms e (λ ks ek e1.
-    subst (λ (js : List ℕ). Some n ∷ ns ≡ somes js) (same_Ok _ _ e1) (ap (λ (os : List (Option ℕ)). Some n ∷ os) (all_small_is ns ks ek)))
+    subst (λ (js : List ℕ). Some n ∷ ns ≡ somes js) (same_Ok _ _ e1)
+    (ap (λ (os : List (Option ℕ)). Some n ∷ os) (all_small_is ns ks ek)))
 
-spelt_is : (s : SpeltStint) (w n : ℕ) → s.worker ≡ Some w → s.steps ≡ Some n → s ≡ spelt (record { worker = w; steps = n })
-spelt_is s w n ew en = ap (λ (o : Option ℕ). record { worker = o; steps = s.steps }) ew ∙ ap (λ (o : Option ℕ). record { worker = Some w; steps = o }) en
+spelt_is : (s : SpeltStint) (w n : ℕ) → s.worker ≡ Some w → s.steps ≡ Some n
+    → s ≡ spelt (record { worker = w; steps = n })
+spelt_is s w n ew en =
+    ap (λ (o : Option ℕ). record { worker = o; steps = s.steps }) ew
+    ∙ ap (λ (o : Option ℕ). record { worker = Some w; steps = o }) en
 
-stint_is : (workers : ℕ) (s : SpeltStint) (m : Stint) → stint_within workers s ≡ Ok m → (s ≡ spelt m) × StintFits workers m
+stint_is : (workers : ℕ) (s : SpeltStint) (m : Stint) → stint_within workers s ≡ Ok m
+    → (s ≡ spelt m) × StintFits workers m
 stint_is workers s m e =
     ok_then (within 1 workers s.worker) _ m e (λ w ew e1.
     ok_then (within 1 1000000 s.steps) _ m e1 (λ n en e2.
     let fw = within_fits 1 workers s.worker w ew in
     let fn = within_fits 1 1000000 s.steps n en in
-    subst (λ (x : Stint). (s ≡ spelt x) × StintFits workers x) (same_Ok _ _ e2) (spelt_is s w n fw.is fn.is, (fw.least, fw.most, fn.least, fn.most))))
+    subst (λ (x : Stint). (s ≡ spelt x) × StintFits workers x) (same_Ok _ _ e2)
+    (spelt_is s w n fw.is fn.is, (fw.least, fw.most, fn.least, fn.most))))
 
-pub all_stints_are : (workers : ℕ) (ss : List SpeltStint) (ms : List Stint) → all_stints workers ss ≡ Ok ms → (ss ≡ map spelt ms) × AllByRecursion (StintFits workers) ms
+pub all_stints_are : (workers : ℕ) (ss : List SpeltStint) (ms : List Stint) → all_stints workers ss ≡ Ok ms
+    → (ss ≡ map spelt ms) × AllByRecursion (StintFits workers) ms
 unfolding all_stints
-all_stints_are workers [] ms e = subst (λ (js : List Stint). ([] ≡ map spelt js) × AllByRecursion (StintFits workers) js) (same_Ok _ _ e) (refl, tt)
+all_stints_are workers [] ms e =
+    subst (λ (js : List Stint). ([] ≡ map spelt js) × AllByRecursion (StintFits workers) js) (same_Ok _ _ e) (refl, tt)
 all_stints_are workers (s ∷ ss) ms e =
     ok_then (stint_within workers s) _ ms e (λ m em e1.
     ok_then (all_stints workers ss) _ ms e1 (λ rest er e2.
@@ -93,7 +108,9 @@ pub record IsPlace (from : ℕ) (ts : List Table) (name : List ℕ) (f : Found) 
   pub width : slice_index (widths_of ts) nth ≡ f.width
   pub capacity : slice_index (capacities_of ts) nth ≡ f.capacity
 
-name_here : (b : Bool) (t : Table) (i : ℕ) (after : Result Found Kind) (f : Found) (P : Type 0) → cond b (Ok (record { table = i; width = t.width; capacity = t.capacity })) after ≡ Ok f → (b ≡ true → (record { table = i; width = t.width; capacity = t.capacity }) ≡ f → P) → (after ≡ Ok f → P) → P
+name_here : (b : Bool) (t : Table) (i : ℕ) (after : Result Found Kind) (f : Found) (P : Type 0)
+    → cond b (Ok (record { table = i; width = t.width; capacity = t.capacity })) after ≡ Ok f
+    → (b ≡ true → (record { table = i; width = t.width; capacity = t.capacity }) ≡ f → P) → (after ≡ Ok f → P) → P
 name_here true t i after f P e p q = p refl (same_Ok _ _ e)
 name_here false t i after f P e p q = q e
 
@@ -102,10 +119,26 @@ unfolding place_from
 place_is i [] name f e = absurd cc
 place_is i (t ∷ ts) name f e =
     name_here (bytes_eq t.name name) t i _ f (IsPlace i (t ∷ ts) name f) e
-    (λ same is. subst (IsPlace i (t ∷ ts) name) is (record { nth = 0; at = sym (add-zero i); within = omega arith; named = (bytes_eq-Decides t.name name).0 same; width = refl; capacity = refl }))
+    (λ same is. subst (IsPlace i (t ∷ ts) name) is (record {
+      nth = 0;
+      at = sym (add-zero i);
+      within = omega arith;
+      named
+          = (bytes_eq-Decides t.name name).0 same;
+      width = refl;
+      capacity = refl;
+    }))
     (λ e1.
     let r = place_is (i + 1) ts name f e1 in
-    record { nth = suc r.nth; at = omega (arith, r.at); within = omega (arith, r.within); named = r.named; width = r.width; capacity = r.capacity })
+    record {
+      nth = suc r.nth;
+      at = omega (arith, r.at);
+      within = omega (arith, r.within);
+      named = r.named;
+      width =
+          r.width;
+      capacity = r.capacity;
+    })
 
 -- the table that a name finds
 pub record IsFound (ts : List Table) (name : List ℕ) (f : Found) : Type 0 where

@@ -2,6 +2,7 @@
 use Rattle.std.proofs.Common.{◌≡◌, ℕ, zero, suc, ◌+◌, ◌*◌, ◌<◌, ◌≤◌, Bool, true, false, cond, eqb, List, [], ◌∷◌, ◌++◌, map, length, take, refl, sym, ap, arith, inl, inr, length-append}
 use Rattle.std.specs.Prelude.{slice_index, Ok, Some}
 use Rattle.std.specs.List.{AllByRecursion, flat_map}
+use Rattle.std.proofs.lemmas.List.Sums.{sum_by-cons}
 use Rattle.std.proofs.lemmas.Bool.{cases_eq, eq-eqb, ne_eqb}
 use Rattle.std.proofs.lemmas.List.{length-map}
 use Rattle.si_model.specs.declared.row.Row.{Row}
@@ -44,7 +45,8 @@ bit_false x e = rw e refl
 
 sum_none : (n a : ℕ) → n ≤ a → sum_below n (λ t. cond (eqb a t) 1 0) ≡ 0
 sum_none zero a le = refl
-sum_none (suc n) a le = omega (arith, bit_false (eqb a n) (ne_eqb _ _ (λ e. absurd (omega (arith, e, le)))), sum_none n a (omega arith))
+sum_none (suc n) a le =
+    omega (arith, bit_false (eqb a n) (ne_eqb _ _ (λ e. absurd (omega (arith, e, le)))), sum_none n a (omega arith))
 
 sum_one : (n a : ℕ) → a < n → sum_below n (λ t. cond (eqb a t) 1 0) ≡ 1
 sum_one zero a lt = absurd (omega arith)
@@ -55,7 +57,8 @@ sum_one (suc n) a lt = elim (cases_eq a n) [
 
 rows_sum : (n : ℕ) (rs : List Row) → AllByRecursion (λ r. r.table < n) rs → length rs ≡ sum_below n (rows_in rs)
 rows_sum n [] h = sym (sum_zero n)
-rows_sum n (r ∷ rs) h = omega (arith, sum_both n (λ t. cond (eqb r.table t) 1 0) (rows_in rs), sum_one n r.table h.0, rows_sum n rs h.1)
+rows_sum n (r ∷ rs) h =
+    omega (arith, sum_both n (λ t. cond (eqb r.table t) 1 0) (rows_in rs), sum_one n r.table h.0, rows_sum n rs h.1)
 
 sum_most : (n m : ℕ) (f : ℕ → ℕ) → n ≤ m → ((t : ℕ) → t < m → f t ≤ 4096) → sum_below n f ≤ n * 4096
 sum_most zero m f le h = omega arith
@@ -66,7 +69,8 @@ capacity_most [] h i = omega arith
 capacity_most (t ∷ ts) h zero = h.0.most_capacity
 capacity_most (t ∷ ts) h (suc i) = capacity_most ts h.1 i
 
-rows_below : (ts : List Table) (rs : List Row) → AllByRecursion (RowFits (widths_of ts)) rs → AllByRecursion (λ r. r.table < length ts) rs
+rows_below : (ts : List Table) (rs : List Row) → AllByRecursion (RowFits (widths_of ts)) rs
+    → AllByRecursion (λ r. r.table < length ts) rs
 rows_below ts [] h = tt
 rows_below ts (r ∷ rs) h = (omega (arith, h.0.0.0, length-map ts (λ (t : Table). t.width)), rows_below ts rs h.1)
 
@@ -74,25 +78,36 @@ few_rows : (d : Draft) → Stands d → length d.body.rows ≤ 32768
 few_rows d s =
     let k = s.kept in
     let n = length d.shape.tables in
-    let most = sum_most n n (rows_in d.body.rows) (omega arith) (λ t lt. omega (arith, k.rows.loaded t lt, capacity_most d.shape.tables k.fit_tables t)) in
+    let most = sum_most n n (rows_in d.body.rows) (omega arith)
+    (λ t lt. omega (arith, k.rows.loaded t lt, capacity_most d.shape.tables k.fit_tables t)) in
     omega (arith, rows_sum n d.body.rows (rows_below d.shape.tables d.body.rows k.rows.fit), most, k.few_tables)
 
 -- ---- the other lines
 
 txn_most : (workers : ℕ) (ts : List Table) (x : ScriptTxn) → TxnFits workers ts x → length (txn_lines ts x) ≤ 34
-txn_most workers ts x h = omega (arith, length-append (map (op_line ts) x.ops) (line.End ∷ []), length-map x.ops (op_line ts), h.ops.few)
+txn_most workers ts x h =
+    omega (arith, length-append (map (op_line ts) x.ops) (line.End ∷ []), length-map x.ops (op_line ts), h.ops.few)
 
-txns_most : (workers : ℕ) (ts : List Table) (xs : List ScriptTxn) → AllByRecursion (TxnFits workers ts) xs → length (flat_map (txn_lines ts) xs) ≤ length xs * 34
+txns_most : (workers : ℕ) (ts : List Table) (xs : List ScriptTxn) → AllByRecursion (TxnFits workers ts) xs
+    → length (flat_map (txn_lines ts) xs) ≤ length xs * 34
 txns_most workers ts [] h = omega arith
-txns_most workers ts (x ∷ xs) h = omega (arith, length-append (txn_lines ts x) (flat_map (txn_lines ts) xs), txn_most workers ts x h.0, txns_most workers ts xs h.1)
+txns_most workers ts (x ∷ xs) h =
+    omega (
+      arith,
+      length-append (txn_lines ts x) (flat_map (txn_lines ts) xs),
+      txn_most workers ts x h.0,
+      txns_most
+          workers ts xs h.1,
+    )
 
-groups_most : (gs : List (List Stint)) → AllByRecursion (λ g. (1 ≤ length g) × (length g ≤ 64)) gs → length gs ≤ length (flat_map (λ g. g) gs)
+groups_most : (gs : List (List Stint)) → AllByRecursion (λ g. (1 ≤ length g) × (length g ≤ 64)) gs
+    → length gs ≤ length (flat_map (λ g. g) gs)
 groups_most [] h = omega arith
 groups_most (g ∷ gs) h = omega (arith, length-append g (flat_map (λ g. g) gs), h.0.0, groups_most gs h.1)
 
 stints_most : (workers : ℕ) (ss : List Stint) → AllByRecursion (StintFits workers) ss → length ss ≤ steps_of ss
 stints_most workers [] h = omega arith
-stints_most workers (s ∷ ss) h = omega (arith, h.0.2, stints_most workers ss h.1)
+stints_most workers (s ∷ ss) h = omega (arith, sum_by-cons (λ (x : Stint). x.steps) s ss, h.0.2, stints_most workers ss h.1)
 
 length_if : (b : Bool) (x : List Line) → length (cond b x []) ≤ length x
 length_if true x = omega arith
@@ -103,14 +118,23 @@ length_take zero x = omega arith
 length_take (suc n) [] = omega arith
 length_take (suc n) (l ∷ x) = omega (arith, length_take n x)
 
-lines_most : (d : Draft) (gs : List (List Stint)) → Stands d → AreGroups gs d.body.stints → length (lines_of_draft d gs) ≤ 10400000
+lines_most : (d : Draft) (gs : List (List Stint)) → Stands d → AreGroups gs d.body.stints
+    → length (lines_of_draft d gs) ≤ 10400000
 lines_most d gs s a =
     let k = s.kept in
     let ts = d.shape.tables in
     let h = take (rank d.stage) (setting_lines d.shape d.policy) in
     let opens = open_lines d.stage ts d.body.worker d.body.ops in
     let seeds = seed_lines d.stage d.body.seed d.body.picks in
-    let groups : length gs ≤ 10000000 = omega (arith, groups_most gs a.1, ap length a.0, stints_most d.shape.workers d.body.stints k.stints, k.steps, k.most_steps) in
+    let groups : length gs ≤ 10000000 = omega (
+      arith,
+      groups_most gs a.1,
+      ap length a.0,
+      stints_most d.shape.workers
+          d.body.stints k.stints,
+      k.steps,
+      k.most_steps,
+    ) in
     omega (
       arith,
       length_take (rank d.stage) (setting_lines d.shape d.policy),
@@ -123,10 +147,13 @@ lines_most d gs s a =
       k.ops.few,
       groups,
       length_if (is_at d.stage stage.Seed) (line.Seed (Some d.body.seed) (Some d.body.picks) ∷ []),
-      length-append h (map table_line ts ++ (map (row_line ts) d.body.rows ++ (flat_map (txn_lines ts) d.body.txns ++ (opens ++ (map turns_line gs ++ seeds))))),
-      length-append (map table_line ts) (map (row_line ts) d.body.rows ++ (flat_map (txn_lines ts) d.body.txns ++ (opens ++ (map turns_line gs ++ seeds)))),
+      length-append h (map table_line ts ++ (map (row_line ts) d.body.rows ++
+          (flat_map (txn_lines ts) d.body.txns ++ (opens ++ (map turns_line gs ++ seeds))))),
+      length-append (map table_line ts) (map (row_line ts) d.body.rows ++
+          (flat_map (txn_lines ts) d.body.txns ++ (opens ++ (map turns_line gs ++ seeds)))),
       length-map ts table_line,
-      length-append (map (row_line ts) d.body.rows) (flat_map (txn_lines ts) d.body.txns ++ (opens ++ (map turns_line gs ++ seeds))),
+      length-append (map (row_line ts) d.body.rows)
+          (flat_map (txn_lines ts) d.body.txns ++ (opens ++ (map turns_line gs ++ seeds))),
       length-map d.body.rows (row_line ts),
       length-append (flat_map (txn_lines ts) d.body.txns) (opens ++ (map turns_line gs ++ seeds)),
       length-append opens (map turns_line gs ++ seeds),

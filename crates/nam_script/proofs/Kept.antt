@@ -1,11 +1,13 @@
 -- What the lines so far keep to, at each stage.
 use Rattle.std.proofs.Common.{◌≡◌, ℕ, ◌+◌, ◌<◌, ◌≤◌, Bool, true, false, cond, ◌&&◌, ◌||◌, eqb, ltb, List, [], ◌∷◌, ◌++◌, length, Option, Some, None, Ok, Err, refl, sym, ap, subst, arith, inl, inr, length-append}
 use Rattle.std.specs.List.{AllByRecursion}
+use Rattle.std.proofs.lemmas.List.Sums.{sum_by-append}
 use Rattle.std.proofs.lemmas.Bool.{ltb-true}
 use Rattle.si_model.specs.declared.row.Row.{Row}
 use Rattle.si_model.specs.declared.row.Key.{Key}
 use Rattle.si_model.specs.declared.op.Op.{Op}
-use Rattle.si_model.specs.Rows.{same_key, row_key}
+use Rattle.si_model.specs.Rows.{same_key, row_key, has_key}
+use Rattle.si_model.proofs.WriteLemmas.{guarded_has, guarded_new}
 use Rattle.si_model.specs.Evaluation.{guarded, key_claimed, keys_from}
 use Rattle.nam_catalog.specs.declared.shape.Shape.{Shape}
 use Rattle.nam_catalog.specs.Tables.{capacities_of}
@@ -18,7 +20,7 @@ use Rattle.nam_script.specs.declared.draft.Body.{Body}
 use Rattle.nam_script.specs.declared.stage.Stage.{Stage}
 use Rattle.nam_script.specs.declared.stage.Stage.TheVariants.{Overflow, Tables, Rows, Open, Between, Turns, Seed}
 use Rattle.nam_script.specs.Stages.{rank, is_at, takes_table, takes_row, is_loaded, takes_turns}
-use Rattle.nam_script.specs.Checks.{is_given, rows_in, ops_cost, txns_cost, op_cost, has_key, claimed_key, steps_of}
+use Rattle.nam_script.specs.Checks.{is_given, rows_in, ops_cost, txns_cost, op_cost, keys_with, steps_of}
 use Rattle.nam_script.specs.Admit.{no_body, is_held}
 use Rattle.nam_script.specs.Limits.{RowsFit, AreDistinct, OpsFit, TxnFits, StintFits}
 use Rattle.nam_script.proofs.Chains.{at_is, either, same_Ok}
@@ -61,8 +63,10 @@ pub record BeforeTable (st : Stage) (s : Shape) (b : Body) : Type 0 where
 
 pub before_table : (st : Stage) (s : Shape) (b : Body) → takes_table st ≡ true → InOrder st s b → BeforeTable st s b
 before_table st s b t o = elim (either _ _ t) [
-  | inl x ↦ (let at = at_is st Overflow x in record { late = subst Late (sym at) late_overflow; body = (subst (λ (y : Stage). InOrder y s b) at o).1 })
-  | inr x ↦ (let at = at_is st Tables x in record { late = subst Late (sym at) late_tables; body = (subst (λ (y : Stage). InOrder y s b) at o).1 })
+  | inl x ↦ (let at = at_is st Overflow x in record
+      { late = subst Late (sym at) late_overflow; body = (subst (λ (y : Stage). InOrder y s b) at o).1 })
+  | inr x ↦ (let at = at_is st Tables x in record
+      { late = subst Late (sym at) late_tables; body = (subst (λ (y : Stage). InOrder y s b) at o).1 })
 ]
 
 pub record BeforeRow (st : Stage) (s : Shape) (b : Body) : Type 0 where
@@ -77,7 +81,14 @@ before_row st s b t o = elim (either _ _ t) [
   | inl x ↦ (
       let at = at_is st Tables x in
       let h = subst (λ (y : Stage). InOrder y s b) at o in
-      record { late = subst Late (sym at) late_tables; shape = h.0; txns = ap (λ (c : Body). c.txns) h.1; ops = ap (λ (c : Body). c.ops) h.1; stints = ap (λ (c : Body). c.stints) h.1 })
+      record {
+        late = subst Late (sym at) late_tables;
+        shape = h.0;
+        txns = ap (λ (c : Body). c.txns) h.1;
+        ops = ap
+            (λ (c : Body). c.ops) h.1;
+        stints = ap (λ (c : Body). c.stints) h.1;
+      })
   | inr x ↦ (
       let at = at_is st Rows x in
       let h = subst (λ (y : Stage). InOrder y s b) at o in
@@ -152,7 +163,8 @@ no_rows_fit s = record { fit = tt; keys = tt; distinct = tt; loaded = λ t lt. o
 pub no_ops_fit : (s : Shape) → OpsFit s.tables []
 no_ops_fit s = record { fit = tt; keys = tt; few = omega arith; claims = omega arith }
 
-pub bare_kept : (st : Stage) (s : Shape) → length s.tables ≤ 8 → AllByRecursion FitsTable s.tables → is_held s.form ≡ false → is_at st Open ≡ false → Kept st s no_body
+pub bare_kept : (st : Stage) (s : Shape) → length s.tables ≤ 8 → AllByRecursion FitsTable s.tables
+    → is_held s.form ≡ false → is_at st Open ≡ false → Kept st s no_body
 bare_kept st s few fit form closed = record {
   few_tables = few;
   fit_tables = fit;
@@ -173,11 +185,13 @@ bare_kept st s few fit form closed = record {
 
 -- ---- one more
 
-pub all_more : {X : Type 0} (P : X → Type 0) (xs : List X) (x : X) → AllByRecursion P xs → P x → AllByRecursion P (xs ++ x ∷ [])
+pub all_more : {X : Type 0} (P : X → Type 0) (xs : List X) (x : X) → AllByRecursion P xs → P x
+    → AllByRecursion P (xs ++ x ∷ [])
 all_more P [] x h p = (p, tt)
 all_more P (y ∷ xs) x h p = (h.0, all_more P xs x h.1 p)
 
-pub all_both : {X : Type 0} (P : X → Type 0) (xs ys : List X) → AllByRecursion P xs → AllByRecursion P ys → AllByRecursion P (xs ++ ys)
+pub all_both : {X : Type 0} (P : X → Type 0) (xs ys : List X) → AllByRecursion P xs → AllByRecursion P ys
+    → AllByRecursion P (xs ++ ys)
 all_both P [] ys h k = k
 all_both P (x ∷ xs) ys h k = (h.0, all_both P xs ys h.1 k)
 
@@ -188,13 +202,15 @@ neither false y e = (refl, e)
 and_flip : (x y x1 y1 : Bool) → x ≡ x1 → y ≡ y1 → (x && y) ≡ (x1 && y1)
 and_flip x y x1 y1 ex ey = rw (ex, ey) refl
 
-pub distinct_more : (rs : List Row) (r : Row) → AreDistinct rs → is_given rs r.table r.key ≡ false → AreDistinct (rs ++ r ∷ [])
+pub distinct_more : (rs : List Row) (r : Row) → AreDistinct rs → is_given rs r.table r.key ≡ false
+    → AreDistinct (rs ++ r ∷ [])
 distinct_more [] r h e = (tt, tt)
 distinct_more (q ∷ rs) r h e =
     let p = neither _ (is_given rs r.table r.key) e in
     (all_more (λ x. same_key (row_key q) (row_key x) ≡ false) rs r h.0 p.0, distinct_more rs r h.1 p.1)
 
-pub rows_in_more : (rs : List Row) (r : Row) (t : ℕ) → rows_in (rs ++ r ∷ []) t ≡ rows_in rs t + cond (eqb r.table t) 1 0
+pub rows_in_more : (rs : List Row) (r : Row) (t : ℕ)
+    → rows_in (rs ++ r ∷ []) t ≡ rows_in rs t + cond (eqb r.table t) 1 0
 rows_in_more [] r t = omega arith
 rows_in_more (q ∷ rs) r t = omega (arith, rows_in_more rs r t)
 
@@ -202,55 +218,43 @@ pub loaded_at : (x : Bool) (n m : ℕ) → (x ≡ true → n < m) → n ≤ m �
 loaded_at true n m h le = omega (arith, h refl)
 loaded_at false n m h le = omega arith
 
-pub keys_more : (f : Op → Option Key) (ks : List Key) (ops : List Op) (op : Op) → keys_from f ks (ops ++ op ∷ []) ≡ keys_from f (keys_from f ks ops) (op ∷ [])
+pub keys_more : (f : Op → Option Key) (ks : List Key) (ops : List Op) (op : Op)
+    → keys_from f ks (ops ++ op ∷ []) ≡ keys_from f (keys_from f ks ops) (op ∷ [])
 keys_more f ks [] op = refl
 keys_more f ks (o ∷ ops) op = keys_more f (elim (f o) [ None ↦ ks | Some key ↦ guarded ks key ]) ops op
-
-if_same : (c : Bool) (q : Key) (ks gs : List Key) → c ≡ true → cond c (q ∷ ks) (q ∷ gs) ≡ q ∷ ks
-if_same c q ks gs e = rw e refl
-
-guard_cases : (c : Bool) (q : Key) (ks gs hs : List Key) → (c ≡ false → gs ≡ hs) → (c ≡ true → ks ≡ hs) → cond c (q ∷ ks) (q ∷ gs) ≡ q ∷ hs
-guard_cases true q ks gs hs e f = ap (λ (x : List Key). q ∷ x) (f refl)
-guard_cases false q ks gs hs e f = ap (λ (x : List Key). q ∷ x) (e refl)
-
-or_rest : (x y : Bool) → (x || y) ≡ true → x ≡ false → y ≡ true
-or_rest true y e f = absurd cc
-or_rest false y e f = e
-
-pub guarded_has : (ks : List Key) (key : Key) → has_key ks key ≡ true → guarded ks key ≡ ks
-guarded_has [] key e = absurd cc
-guarded_has (q ∷ ks) key e = guard_cases (same_key q key) q ks (guarded ks key) ks (λ f. guarded_has ks key (or_rest _ (has_key ks key) e f)) (λ _. refl)
-
-pub guarded_new : (ks : List Key) (key : Key) → has_key ks key ≡ false → guarded ks key ≡ ks ++ key ∷ []
-guarded_new [] key e = refl
-guarded_new (q ∷ ks) key e =
-    let p = neither (same_key q key) (has_key ks key) e in
-    guard_cases (same_key q key) q ks (guarded ks key) (ks ++ key ∷ []) (λ _. guarded_new ks key p.1) (λ t. absurd (differ _ p.0 t))
 
 -- the keys with one more
 abbrev pub with_key : List Key → Option Key → List Key
 with_key ks o = elim o [ None ↦ ks | Some key ↦ guarded ks key ]
 
-room_for : (c : Bool) (ks : List Key) (key : Key) (qs : List Key) → has_key ks key ≡ false → ltb (length ks) 16 ≡ c → cond c (Ok (ks ++ key ∷ [])) (Err kind.Size) ≡ Ok qs → (qs ≡ guarded ks key) × (length qs ≤ 16)
-room_for true ks key qs has lt e1 = subst (λ (x : List Key). (x ≡ guarded ks key) × (length x ≤ 16)) (same_Ok _ _ e1) (sym (guarded_new ks key has), omega (arith, length-append ks (key ∷ []), ltb-true _ _ lt))
+room_for : (c : Bool) (ks : List Key) (key : Key) (qs : List Key) → has_key ks key ≡ false → ltb (length ks) 16 ≡ c
+    → cond c (Ok (ks ++ key ∷ [])) (Err kind.Size) ≡ Ok qs → (qs ≡ guarded ks key) × (length qs ≤ 16)
+room_for true ks key qs has lt e1 =
+    subst (λ (x : List Key). (x ≡ guarded ks key) × (length x ≤ 16)) (same_Ok _ _ e1)
+    (sym (guarded_new ks key has), omega (arith, length-append ks (key ∷ []), ltb-true _ _ lt))
 room_for false ks key qs has lt e1 = absurd cc
 
-new_key : (b : Bool) (ks : List Key) (key : Key) (qs : List Key) → has_key ks key ≡ b → cond b (Ok ks) (cond (ltb (length ks) 16) (Ok (ks ++ key ∷ [])) (Err kind.Size)) ≡ Ok qs → length ks ≤ 16 → (qs ≡ guarded ks key) × (length qs ≤ 16)
-new_key true ks key qs has e few = subst (λ (x : List Key). (x ≡ guarded ks key) × (length x ≤ 16)) (same_Ok _ _ e) (sym (guarded_has ks key has), few)
+new_key : (b : Bool) (ks : List Key) (key : Key) (qs : List Key) → has_key ks key ≡ b
+    → cond b (Ok ks) (cond (ltb (length ks) 16) (Ok (ks ++ key ∷ [])) (Err kind.Size)) ≡ Ok qs → length ks ≤ 16
+    → (qs ≡ guarded ks key) × (length qs ≤ 16)
+new_key true ks key qs has e few =
+    subst (λ (x : List Key). (x ≡ guarded ks key) × (length x ≤ 16)) (same_Ok _ _ e) (sym (guarded_has ks key has), few)
 new_key false ks key qs has e few = room_for (ltb (length ks) 16) ks key qs has refl e
 
-pub claimed_is : (ks : List Key) (o : Option Key) (qs : List Key) → claimed_key ks o ≡ Ok qs → length ks ≤ 16 → (qs ≡ with_key ks o) × (length qs ≤ 16)
-claimed_is ks None qs e few = subst (λ (x : List Key). (x ≡ ks) × (length x ≤ 16)) (same_Ok _ _ e) (refl, few)
-claimed_is ks (Some key) qs e few = new_key (has_key ks key) ks key qs refl e few
+pub keys_are : (ks : List Key) (o : Option Key) (qs : List Key) → keys_with ks o ≡ Ok qs → length ks ≤ 16
+    → (qs ≡ with_key ks o) × (length qs ≤ 16)
+keys_are ks None qs e few = subst (λ (x : List Key). (x ≡ ks) × (length x ≤ 16)) (same_Ok _ _ e) (refl, few)
+keys_are ks (Some key) qs e few = new_key (has_key ks key) ks key qs refl e few
 
-pub ops_cost_more : (caps : List ℕ) (ops : List Op) (op : Op) → ops_cost caps (ops ++ op ∷ []) ≡ ops_cost caps ops + op_cost caps op
+pub ops_cost_more : (caps : List ℕ) (ops : List Op) (op : Op)
+    → ops_cost caps (ops ++ op ∷ []) ≡ ops_cost caps ops + op_cost caps op
 ops_cost_more caps [] op = omega arith
 ops_cost_more caps (o ∷ ops) op = omega (arith, ops_cost_more caps ops op)
 
-pub txns_cost_more : (caps : List ℕ) (xs : List ScriptTxn) (x : ScriptTxn) → txns_cost caps (xs ++ x ∷ []) ≡ txns_cost caps xs + ops_cost caps x.ops
+pub txns_cost_more : (caps : List ℕ) (xs : List ScriptTxn) (x : ScriptTxn)
+    → txns_cost caps (xs ++ x ∷ []) ≡ txns_cost caps xs + ops_cost caps x.ops
 txns_cost_more caps [] x = omega arith
 txns_cost_more caps (y ∷ xs) x = omega (arith, txns_cost_more caps xs x)
 
 pub steps_both : (ss ts : List Stint) → steps_of (ss ++ ts) ≡ steps_of ss + steps_of ts
-steps_both [] ts = omega arith
-steps_both (s ∷ ss) ts = omega (arith, steps_both ss ts)
+steps_both ss ts = sum_by-append (λ (s : Stint). s.steps) ss ts

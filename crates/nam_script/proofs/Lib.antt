@@ -4,7 +4,7 @@ pub mod CheckedValues
 pub mod Places
 pub mod LineTurns
 pub mod LoadedRows
-pub mod Spells
+pub mod LineLaws
 pub mod Chains
 pub mod Concat
 pub mod Kept

@@ -10,7 +10,8 @@ use Rattle.nam_text.specs.Fields.{lines_of}
 use Rattle.nam_script.specs.Stages.{can_end}
 use Rattle.nam_script.specs.Parse.{draft_from, end_at, GivesDraft}
 
-some_from : (b : Bool) (x : ℕ) (parts : List (List ℕ)) → (y : List ℕ) × (ys : List (List ℕ)) × (cond b ([] ∷ parts) (onto_first x parts) ≡ y ∷ ys)
+some_from : (b : Bool) (x : ℕ) (parts : List (List ℕ))
+    → (y : List ℕ) × (ys : List (List ℕ)) × (cond b ([] ∷ parts) (onto_first x parts) ≡ y ∷ ys)
 some_from true x parts = ([], parts, refl)
 some_from false x [] = (x ∷ [], [], refl)
 some_from false x (part ∷ parts) = (x ∷ part, parts, refl)
@@ -20,16 +21,20 @@ pub some_line : (text : List ℕ) → (y : List ℕ) × (ys : List (List ℕ)) �
 some_line [] = ([], [], refl)
 some_line (b ∷ text) = some_from (eqb b 10) b (lines_of text)
 
-pub goes_on : (n : ℕ) (d e : Draft) (text rest : List ℕ) → admit_text d text ≡ Ok e → draft_from n d (text ∷ lines_of rest) ≡ draft_from (n + 1) e (lines_of rest)
+pub goes_on : (n : ℕ) (d e : Draft) (text rest : List ℕ) → admit_text d text ≡ Ok e
+    → draft_from n d (text ∷ lines_of rest) ≡ draft_from (n + 1) e (lines_of rest)
 unfolding draft_from
 goes_on n d e text rest given = let s = some_line rest in rw (s.2, given) refl
 
-pub stops : (n : ℕ) (d e : Draft) (text rest : List ℕ) (end : LineEnd) → Takes (Err end) e (admit_text d text) → GivesDraft (Err (end_at n end)) (draft_from n d (text ∷ lines_of rest))
+pub stops : (n : ℕ) (d e : Draft) (text rest : List ℕ) (end : LineEnd) → Takes (Err end) e (admit_text d text)
+    → GivesDraft (Err (end_at n end)) (draft_from n d (text ∷ lines_of rest))
 unfolding draft_from
 stops n d e text rest (line_ends.Bad k) given = let s = some_line rest in rw (s.2, given) refl
 stops n d e text rest line_ends.Memory given = tt
 
 -- no newline is left
-pub no_more : (n : ℕ) (d : Draft) (rest : List ℕ) → lines_of rest ≡ rest ∷ [] → draft_from n d (lines_of rest) ≡ cond (eqb (length rest) 0 && can_end d.stage) (Ok d) (Err (record { line = n; kind = kind.Cut }))
+pub no_more : (n : ℕ) (d : Draft) (rest : List ℕ) → lines_of rest ≡ rest ∷ []
+    → draft_from n d (lines_of rest)
+    ≡ cond (eqb (length rest) 0 && can_end d.stage) (Ok d) (Err (record { line = n; kind = kind.Cut }))
 unfolding draft_from
 no_more n d rest e = rw e refl

@@ -7,14 +7,18 @@ use Rattle.nam_script.specs.declared.refusal.Kind.TheVariants as kind
 use Rattle.std.proofs.lemmas.List.{drop_all}
 use Rattle.nam_script.specs.Checks.{place_from}
 
-pub another_name : (ts : List Table) (i : ℕ) (t : Table) (name : List ℕ) → i < length ts → t ≡ get_or ts i t → bytes_eq t.name name ≡ false → place_from (i + 1) (drop (i + 1) ts) name ≡ place_from i (drop i ts) name
+pub another_name : (ts : List Table) (i : ℕ) (t : Table) (name : List ℕ) → i < length ts → t ≡ get_or ts i t
+    → bytes_eq t.name name ≡ false → place_from (i + 1) (drop (i + 1) ts) name ≡ place_from i (drop i ts) name
 unfolding place_from
 another_name ts i t name lt is differs =
     let tail : drop (i + 1) ts ≡ drop (suc i) ts = ap (λ (n : ℕ). drop n ts) (add-one i) in
-    let here : place_from i (drop i ts) name ≡ place_from (i + 1) (drop (suc i) ts) name = rw (drop-cons ts i t, ← is, differs) refl in
+    let here : place_from i (drop i ts) name ≡ place_from (i + 1) (drop (suc i) ts) name = rw
+    (drop-cons ts i t, ← is, differs) refl in
     ap (λ (r : List Table). place_from (i + 1) r name) tail ∙ sym here
 
-pub that_name : (ts : List Table) (i : ℕ) (t : Table) (name : List ℕ) → i < length ts → t ≡ get_or ts i t → bytes_eq t.name name ≡ true → place_from i (drop i ts) name ≡ Ok (record { table = i; width = t.width; capacity = t.capacity })
+pub that_name : (ts : List Table) (i : ℕ) (t : Table) (name : List ℕ) → i < length ts → t ≡ get_or ts i t
+    → bytes_eq t.name name ≡ true
+    → place_from i (drop i ts) name ≡ Ok (record { table = i; width = t.width; capacity = t.capacity })
 unfolding place_from
 that_name ts i t name lt is same = rw (drop-cons ts i t, ← is, same) refl
 

@@ -22,11 +22,13 @@ use Rattle.nam_script.specs.declared.draft.Draft.{Draft}
 use Rattle.nam_script.specs.declared.stage.Stage.TheVariants as stage
 use Rattle.nam_script.specs.Lines.{line_of}
 use Rattle.nam_script.specs.Stages.{is_at, takes_table, takes_row, is_loaded, takes_turns}
-use Rattle.nam_script.specs.Checks.{◌>>=◌, must, within, small, all_small, key_of, all_stints, place_of, is_given, rows_in, counted, claimed, steps_of}
+use Rattle.nam_script.specs.Checks.{◌>>=◌, must, within, small, all_small, key_of, all_stints, place_of, is_given, rows_in, total_within, keys_after, steps_of}
 
 -- nothing is loaded or run
 abbrev pub no_body : Body
-no_body = record { rows = []; txns = []; worker = 0; ops = []; keys = []; cost = 0; stints = []; steps = 0; seed = 0; picks = 0 }
+no_body =
+    record
+    { rows = []; txns = []; worker = 0; ops = []; keys = []; cost = 0; stints = []; steps = 0; seed = 0; picks = 0 }
 
 -- before the first line
 abbrev pub start : Draft
@@ -97,8 +99,10 @@ admit_table d name width capacity ring = do
   k ← within 1 4096 capacity
   r ← within 1 16 ring
   _ ← must (nat_lt (length d.shape.tables) 8) kind.Size
-  _ ← must (not (is_some (fault_of (with_table d.shape (record { name = name; width = w; capacity = k; ring = r }))))) kind.Size
-  Ok (record d { stage = stage.Tables; shape = with_table d.shape (record { name = name; width = w; capacity = k; ring = r }) })
+  _ ← must (not (is_some (fault_of (with_table d.shape (record { name = name; width = w; capacity = k; ring = r })))))
+      kind.Size
+  Ok (record d
+      { stage = stage.Tables; shape = with_table d.shape (record { name = name; width = w; capacity = k; ring = r }) })
 
 abbrev pub admit_row : Draft → List ℕ → Option ℕ → List (Option ℕ) → Result Draft Kind
 admit_row d table key values = do
@@ -109,7 +113,11 @@ admit_row d table key values = do
   _ ← must (not (is_given d.body.rows found.table k)) kind.Twice
   _ ← must (nat_lt (rows_in d.body.rows found.table) found.capacity) kind.Size
   _ ← must (length vs == found.width) kind.Size
-  Ok (record d { stage = stage.Rows; body = record d.body { rows = d.body.rows ++ (record { table = found.table; key = k; value = vs }) ∷ [] } })
+  Ok (record d {
+    stage = stage.Rows;
+    body = record d.body
+        { rows = d.body.rows ++ (record { table = found.table; key = k; value = vs }) ∷ [] };
+  })
 
 abbrev pub admit_txn : Draft → Option ℕ → Result Draft Kind
 admit_txn d worker = do
@@ -122,8 +130,8 @@ admit_txn d worker = do
 abbrev pub push_op : Draft → Op → ℕ → Result Draft Kind
 push_op d o cost = do
   _ ← must (nat_lt (length d.body.ops) 32) kind.Size
-  sum ← counted d.body.cost cost 65536
-  keys ← claimed d.body.keys o
+  sum ← total_within d.body.cost cost 65536
+  keys ← keys_after d.body.keys o
   Ok (record d { body = record d.body { ops = d.body.ops ++ o ∷ []; keys = keys; cost = sum } })
 
 abbrev pub admit_get : Draft → List ℕ → Option ℕ → Result Draft Kind
@@ -188,13 +196,17 @@ abbrev pub admit_end : Draft → Result Draft Kind
 admit_end d = do
   _ ← must (is_at d.stage stage.Open) kind.Word
   _ ← must (nat_lt 0 (length d.body.ops)) kind.Word
-  Ok (record d { stage = stage.Between; body = record d.body { txns = d.body.txns ++ (record { worker = d.body.worker; ops = d.body.ops }) ∷ []; ops = []; keys = [] } })
+  Ok (record d {
+    stage = stage.Between;
+    body = record d.body
+        { txns = d.body.txns ++ (record { worker = d.body.worker; ops = d.body.ops }) ∷ []; ops = []; keys = [] };
+  })
 
 abbrev pub admit_turns : Draft → List SpeltStint → Result Draft Kind
 admit_turns d spelt = do
   _ ← must (takes_turns d.stage) kind.Word
   stints ← all_stints d.shape.workers spelt
-  sum ← counted d.body.steps (steps_of stints) 10000000
+  sum ← total_within d.body.steps (steps_of stints) 10000000
   Ok (record d { stage = stage.Turns; body = record d.body { stints = d.body.stints ++ stints; steps = sum } })
 
 abbrev pub admit_seed : Draft → Option ℕ → Option ℕ → Result Draft Kind

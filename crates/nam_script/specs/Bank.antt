@@ -1,20 +1,14 @@
 -- The script of a bank, by the generator's rule.
-use Rattle.std.specs.Prelude.{ℕ, zero, suc, ◌+◌, ◌*◌, ◌/◌, ◌%◌, ◌^◌, true, false, List, [], ◌∷◌, codes}
+use Rattle.std.specs.Prelude.{ℕ, zero, suc, ◌+◌, ◌%◌, true, false, List, [], ◌∷◌, codes}
 use Rattle.si_model.specs.declared.row.Row.{Row}
 use Rattle.si_model.specs.declared.op.Op.{Op}
 use Rattle.si_model.specs.declared.op.Op.TheVariants.{Need, Add}
+use Rattle.si_model.specs.Generator.{next_state, pick}
 use Rattle.nam_catalog.specs.declared.form.Form.TheVariants.{Narrow}
 use Rattle.nam_catalog.specs.declared.shape.Shape.{Shape}
 use Rattle.nam_script.specs.declared.script.ScriptTxn.{ScriptTxn}
 use Rattle.nam_script.specs.declared.script.Script.{Script}
 use Rattle.nam_script.specs.declared.script.Turns.TheVariants as turns
-
-abbrev pub next_state : ℕ → ℕ
-next_state x = (x * 6364136223846793005 % 2 ^ 64 + 1442695040888963407) % 2 ^ 64
-
--- a number below k, of the upper bits of a state
-abbrev pub pick_of : ℕ → ℕ → ℕ
-pick_of x k = x / 8589934592 % k
 
 -- an amount from one account to another, where there is as much
 abbrev pub bank_ops : ℕ → ℕ → ℕ → List Op
@@ -26,8 +20,8 @@ bank_txn place x =
     let first = next_state x in
     let second = next_state first in
     let third = next_state second in
-    let from = pick_of first 16 in
-    record { worker = 1 + place % 4; ops = bank_ops from ((from + 1 + pick_of second 15) % 16) (1 + pick_of third 100) }
+    let from = pick first 16 in
+    record { worker = 1 + place % 4; ops = bank_ops from ((from + 1 + pick second 15) % 16) (1 + pick third 100) }
 
 abbrev pub state_after : ℕ → ℕ
 state_after x = next_state (next_state (next_state x))

@@ -1,12 +1,12 @@
 -- The tests of numbers and names, in the order of kinds, and what is counted of the lines so far.
 use Rattle.std.specs.Prelude.{ℕ, ◌+◌, ◌-◌, ◌^◌, List, [], ◌∷◌, ◌++◌, length, Option, Some, None, Result, Ok, Err, Bool, ◌&&◌, nat_le, nat_lt, if◌then◌else◌, ◌==◌, slice_index}
-use Rattle.std.specs.List.{list_any}
+use Rattle.std.specs.List.{list_any, sum_by}
 use Rattle.std.specs.Str.{bytes_eq}
 use Rattle.si_model.specs.declared.row.Key.{Key}
 use Rattle.si_model.specs.declared.row.Row.{Row}
 use Rattle.si_model.specs.declared.op.Op.{Op}
 use Rattle.si_model.specs.declared.op.Op.TheVariants.{Scan}
-use Rattle.si_model.specs.Rows.{same_key}
+use Rattle.si_model.specs.Rows.{has_key}
 use Rattle.si_model.specs.Evaluation.{key_claimed}
 use Rattle.nam_catalog.specs.declared.shape.Table.{Table}
 use Rattle.nam_script.specs.declared.refusal.Kind.{Kind}
@@ -65,7 +65,8 @@ all_stints workers (s ∷ ss) = do
 unfoldable pub place_from : ℕ → List Table → List ℕ → Result Found Kind
 place_from i [] name = Err kind.Name
 place_from i (t ∷ ts) name =
-    if bytes_eq t.name name then Ok (record { table = i; width = t.width; capacity = t.capacity }) else place_from (i + 1) ts name
+    if bytes_eq t.name name then Ok (record { table = i; width = t.width; capacity = t.capacity }) else place_from
+    (i + 1) ts name
 
 abbrev pub place_of : List Table → List ℕ → Result Found Kind
 place_of tables name = place_from 0 tables name
@@ -93,21 +94,18 @@ txns_cost capacities [] = 0
 txns_cost capacities (x ∷ xs) = ops_cost capacities x.ops + txns_cost capacities xs
 
 -- so many more, where that is not more than the most
-abbrev pub counted : ℕ → ℕ → ℕ → Result ℕ Kind
-counted so_far more most = if nat_le (so_far + more) most then Ok (so_far + more) else Err kind.Size
-
-abbrev pub has_key : List Key → Key → Bool
-has_key keys key = list_any (λ q. same_key q key) keys
+abbrev pub total_within : ℕ → ℕ → ℕ → Result ℕ Kind
+total_within so_far more most = if nat_le (so_far + more) most then Ok (so_far + more) else Err kind.Size
 
 -- the keys with one more, each once and 16 at the most
-abbrev pub claimed_key : List Key → Option Key → Result (List Key) Kind
-claimed_key keys None = Ok keys
-claimed_key keys (Some key) = if has_key keys key then Ok keys else if nat_lt (length keys) 16 then Ok (keys ++ key ∷ []) else Err kind.Size
+abbrev pub keys_with : List Key → Option Key → Result (List Key) Kind
+keys_with keys None = Ok keys
+keys_with keys (Some key) =
+    if has_key keys key then Ok keys else if nat_lt (length keys) 16 then Ok (keys ++ key ∷ []) else Err kind.Size
 
 -- the keys with the one that an operation writes or guards
-abbrev pub claimed : List Key → Op → Result (List Key) Kind
-claimed keys op = claimed_key keys (key_claimed op)
+abbrev pub keys_after : List Key → Op → Result (List Key) Kind
+keys_after keys op = keys_with keys (key_claimed op)
 
 abbrev pub steps_of : List Stint → ℕ
-steps_of [] = 0
-steps_of (s ∷ ss) = s.steps + steps_of ss
+steps_of stints = sum_by (λ s. s.steps) stints

@@ -3,9 +3,9 @@ pub mod Limits
 pub mod Lines
 pub mod Stages
 pub mod Checks
-pub mod Keys
 pub mod Admit
 pub mod Parse
 pub mod Spelling
 pub mod Bank
 pub mod Grouping
+pub mod ScriptSetting

@@ -1,11 +1,12 @@
--- The lines of a script: which line a list of fields spells.
-use Rattle.std.specs.Prelude.{ℕ, ◌+◌, List, [], ◌∷◌, length, take, drop, Option, Some, None, Bool, true, false, nat_le, if◌then◌else◌, codes, ◌==◌}
+-- The lines of a script: how each kind of line is spelt, and which line a list of fields spells.
+use Rattle.std.specs.Prelude.{◌≡◌, ℕ, ◌+◌, List, [], ◌∷◌, ◌++◌, take, drop, Option, Some, None, Bool, true, false, if◌then◌else◌, codes, ◌==◌}
 use Rattle.std.specs.List.{position}
-use Rattle.std.specs.Str.{bytes_eq}
 use Rattle.nam_catalog.specs.declared.form.Form.{Form}
 use Rattle.nam_catalog.specs.declared.form.Form.TheVariants.{Narrow, Wide, Held}
-use Rattle.nam_text.specs.Token.{number}
-use Rattle.nam_text.specs.Read.{◌>>=◌, word_at, number_at, name_at}
+use Rattle.nam_text.specs.Token.{number_of, number_text}
+use Rattle.nam_text.specs.Read.{◌>>=◌}
+use Rattle.nam_text.specs.Spelling.{Field, FitsWord, IsWord, number, name, choice, nothing, word, last, next, some}
+use Rattle.nam_text.specs.Kinds.{LineKind, kind, Spelt, of, Reader, no_line, or}
 use Rattle.nam_script.specs.declared.line.Change.{Change}
 use Rattle.nam_script.specs.declared.line.SpeltStint.{SpeltStint}
 use Rattle.nam_script.specs.declared.line.Line.{Line}
@@ -13,230 +14,181 @@ use Rattle.nam_script.specs.declared.line.Line.TheVariants.{Version, Header, Wor
 
 -- ---- parts of lines
 
-unfoldable pub form_at : List (List ℕ) → Option (Form × List (List ℕ))
-form_at [] = None
-form_at (f ∷ fs) = if bytes_eq f (codes "narrow") then Some (Narrow, fs) else if bytes_eq f (codes "wide") then Some (Wide, fs) else if bytes_eq f (codes "held") then Some (Held, fs) else None
+abbrev pub form_word : Form → List ℕ
+form_word Narrow = codes "narrow"
+form_word Wide = codes "wide"
+form_word Held = codes "held"
 
-unfoldable pub switch_at : List (List ℕ) → Option (Bool × List (List ℕ))
-switch_at [] = None
-switch_at (f ∷ fs) = if bytes_eq f (codes "on") then Some (true, fs) else if bytes_eq f (codes "off") then Some (false, fs) else None
+abbrev pub form : Field Form
+form = choice form_word (Narrow ∷ Wide ∷ Held ∷ [])
+
+abbrev pub switch_word : Bool → List ℕ
+switch_word on = if on then codes "on" else codes "off"
+
+abbrev pub switch : Field Bool
+switch = choice switch_word (true ∷ false ∷ [])
+
+abbrev pub sign_text : Bool → List ℕ
+sign_text up = (if up then 43 else 45) ∷ []
+
+abbrev pub change_text : Change → List ℕ
+change_text c = sign_text c.up ++ number_text c.by
 
 abbrev pub is_zero : Option ℕ → Bool
 is_zero None = false
 is_zero (Some n) = n == 0
 
 -- a sign and a number; -0 isn't one
-abbrev pub signed : ℕ → Option ℕ → Option Change
-signed sign n =
+abbrev pub change_by : ℕ → Option ℕ → Option Change
+change_by sign n =
     if sign == 43 then Some (record { up = true; by = n })
     else if sign == 45 then (if is_zero n then None else Some (record { up = false; by = n }))
     else None
 
-unfoldable pub change : List ℕ → Option Change
-change [] = None
-change (sign ∷ digits) = do
-  n ← number digits
-  signed sign n
+unfoldable pub change_of : List ℕ → Option Change
+change_of [] = None
+change_of (sign ∷ digits) = do
+  n ← number_of digits
+  change_by sign n
 
-unfoldable pub change_at : List (List ℕ) → Option (Change × List (List ℕ))
-change_at [] = None
-change_at (f ∷ fs) = do
-  c ← change f
-  Some (c, fs)
+-- a change by 0 has the sign +
+abbrev pub FitsChange : Change → Type 0
+FitsChange c = FitsWord c.by × (c.up ≡ false → (c.by ≡ Some 0) → ⊥)
 
--- what all the fields spell
-unfoldable pub all_read : {A : Type 0} → (List ℕ → Option A) → List (List ℕ) → Option (List A)
-all_read read [] = Some []
-all_read read (f ∷ fs) = do
-  x ← read f
-  xs ← all_read read fs
-  Some (x ∷ xs)
+abbrev pub change : Field Change
+change = record { Fits = FitsChange; IsSmall = λ c. IsWord c.by; text = change_text; read = change_of }
 
--- what one field or more spell, and so many at the most
-unfoldable pub some_read : {A : Type 0} → ℕ → (List ℕ → Option A) → List (List ℕ) → Option (List A)
-some_read most read fs = if length fs == 0 then None else if nat_le (length fs) most then all_read read fs else None
-
--- one to eight numbers, and nothing after them
-abbrev pub values_at : List (List ℕ) → Option (List (Option ℕ))
-values_at fs = some_read 8 number fs
+abbrev pub spelt_stint_text : SpeltStint → List ℕ
+spelt_stint_text s = number_text s.worker ++ 42 ∷ number_text s.steps
 
 -- numbers before and after a star
 unfoldable pub parted_at : List ℕ → Option ℕ → Option SpeltStint
 parted_at field None = None
 parted_at field (Some star) = do
-  worker ← number (take star field)
-  steps ← number (drop (star + 1) field)
+  worker ← number_of (take star field)
+  steps ← number_of (drop (star + 1) field)
   Some (record { worker = worker; steps = steps })
 
 -- numbers parted by a star
-abbrev pub stint : List ℕ → Option SpeltStint
-stint field = parted_at field (position (λ b. b == 42) field)
+abbrev pub stint_of : List ℕ → Option SpeltStint
+stint_of field = parted_at field (position (λ b. b == 42) field)
 
--- 1 to 64 stints, and nothing after them
-abbrev pub stints_at : List (List ℕ) → Option (List SpeltStint)
-stints_at fs = some_read 64 stint fs
+abbrev pub FitsStint : SpeltStint → Type 0
+FitsStint s = FitsWord s.worker × FitsWord s.steps
 
--- no field is left
-abbrev pub last : {A : Type 0} → A → List (List ℕ) → Option A
-last x [] = Some x
-last x (f ∷ fs) = None
+abbrev pub stint : Field SpeltStint
+stint = record {
+  Fits = FitsStint;
+  IsSmall = λ s. IsWord s.worker × IsWord s.steps;
+  text = spelt_stint_text;
+  read = stint_of;
+}
 
--- ---- the lines, behind their first word
+-- ---- the kinds of lines
 
-unfoldable pub version_line : List (List ℕ) → Option Line
-version_line fs = do
-  rest ← word_at (codes "1") fs
-  last Version rest
+abbrev pub version_line : LineKind Line
+version_line = kind (codes "namdb") (word (codes "1") nothing) (λ _. Version)
 
-unfoldable pub header_line : List (List ℕ) → Option Line
-header_line fs = do
-  form ← form_at fs
-  last (Header form.0) form.1
+abbrev pub header_line : LineKind Line
+header_line = kind (codes "header") (last form) (λ x. Header x)
 
-unfoldable pub workers_line : List (List ℕ) → Option Line
-workers_line fs = do
-  n ← number_at fs
-  last (Workers n.0) n.1
+abbrev pub workers_line : LineKind Line
+workers_line = kind (codes "workers") (last number) (λ n. Workers n)
 
-unfoldable pub tries_line : List (List ℕ) → Option Line
-tries_line fs = do
-  n ← number_at fs
-  last (Tries n.0) n.1
+abbrev pub tries_line : LineKind Line
+tries_line = kind (codes "tries") (last number) (λ n. Tries n)
 
-unfoldable pub tidy_line : List (List ℕ) → Option Line
-tidy_line fs = do
-  on ← switch_at fs
-  last (Tidy on.0) on.1
+abbrev pub tidy_line : LineKind Line
+tidy_line = kind (codes "tidy") (last switch) (λ on. Tidy on)
 
-unfoldable pub start_line : List (List ℕ) → Option Line
-start_line fs = do
-  n ← number_at fs
-  last (Start n.0) n.1
+abbrev pub start_line : LineKind Line
+start_line = kind (codes "start") (last number) (λ n. Start n)
 
-unfoldable pub overflow_line : List (List ℕ) → Option Line
-overflow_line fs = do
-  buckets ← number_at fs
-  cells ← number_at buckets.1
-  last (Overflow buckets.0 cells.0) cells.1
+abbrev pub overflow_line : LineKind Line
+overflow_line = kind (codes "overflow") (next number (last number)) (λ (b, c). Overflow b c)
 
-unfoldable pub table_line : List (List ℕ) → Option Line
-table_line fs = do
-  name ← name_at fs
-  fs1 ← word_at (codes "width") name.1
-  width ← number_at fs1
-  fs2 ← word_at (codes "capacity") width.1
-  capacity ← number_at fs2
-  fs3 ← word_at (codes "ring") capacity.1
-  ring ← number_at fs3
-  last (Table name.0 width.0 capacity.0 ring.0) ring.1
+abbrev pub table_line : LineKind Line
+table_line =
+    kind (codes "table")
+    (next name (word (codes "width")
+    (next number (word (codes "capacity") (next number (word (codes "ring") (last number)))))))
+    (λ (t, (w, (k, r))). Table t w k r)
 
-unfoldable pub row_line : List (List ℕ) → Option Line
-row_line fs = do
-  table ← name_at fs
-  key ← number_at table.1
-  values ← values_at key.1
-  Some (Row table.0 key.0 values)
+abbrev pub row_line : LineKind Line
+row_line = kind (codes "row") (next name (next number (some 8 number))) (λ (t, (k, vs)). Row t k vs)
 
-unfoldable pub txn_line : List (List ℕ) → Option Line
-txn_line fs = do
-  n ← number_at fs
-  last (Txn n.0) n.1
+abbrev pub txn_line : LineKind Line
+txn_line = kind (codes "txn") (last number) (λ w. Txn w)
 
-unfoldable pub get_line : List (List ℕ) → Option Line
-get_line fs = do
-  table ← name_at fs
-  key ← number_at table.1
-  last (Get table.0 key.0) key.1
+abbrev pub get_line : LineKind Line
+get_line = kind (codes "get") (next name (last number)) (λ (t, k). Get t k)
 
-unfoldable pub put_line : List (List ℕ) → Option Line
-put_line fs = do
-  table ← name_at fs
-  key ← number_at table.1
-  values ← values_at key.1
-  Some (Put table.0 key.0 values)
+abbrev pub put_line : LineKind Line
+put_line = kind (codes "put") (next name (next number (some 8 number))) (λ (t, (k, vs)). Put t k vs)
 
-unfoldable pub add_line : List (List ℕ) → Option Line
-add_line fs = do
-  table ← name_at fs
-  key ← number_at table.1
-  field ← number_at key.1
-  c ← change_at field.1
-  last (Add table.0 key.0 field.0 c.0) c.1
+abbrev pub add_line : LineKind Line
+add_line = kind (codes "add") (next name (next number (next number (last change)))) (λ (t, (k, (f, c))). Add t k f c)
 
-unfoldable pub del_line : List (List ℕ) → Option Line
-del_line fs = do
-  table ← name_at fs
-  key ← number_at table.1
-  last (Del table.0 key.0) key.1
+abbrev pub del_line : LineKind Line
+del_line = kind (codes "del") (next name (last number)) (λ (t, k). Del t k)
 
-unfoldable pub need_line : List (List ℕ) → Option Line
-need_line fs = do
-  table ← name_at fs
-  key ← number_at table.1
-  field ← number_at key.1
-  least ← number_at field.1
-  last (Need table.0 key.0 field.0 least.0) least.1
+abbrev pub need_line : LineKind Line
+need_line = kind (codes "need") (next name (next number (next number (last number)))) (λ (t, (k, (f, n))). Need t k f n)
 
-unfoldable pub guard_line : List (List ℕ) → Option Line
-guard_line fs = do
-  table ← name_at fs
-  key ← number_at table.1
-  last (Guard table.0 key.0) key.1
+abbrev pub guard_line : LineKind Line
+guard_line = kind (codes "guard") (next name (last number)) (λ (t, k). Guard t k)
 
-unfoldable pub scan_line : List (List ℕ) → Option Line
-scan_line fs = do
-  table ← name_at fs
-  low ← number_at table.1
-  high ← number_at low.1
-  last (Scan table.0 low.0 high.0) high.1
+abbrev pub scan_line : LineKind Line
+scan_line = kind (codes "scan") (next name (next number (last number))) (λ (t, (l, h)). Scan t l h)
 
-unfoldable pub turns_line : List (List ℕ) → Option Line
-turns_line fs = do
-  stints ← stints_at fs
-  Some (Turns stints)
+abbrev pub end_line : LineKind Line
+end_line = kind (codes "end") nothing (λ _. End)
 
-unfoldable pub seed_line : List (List ℕ) → Option Line
-seed_line fs = do
-  seed ← number_at fs
-  picks ← number_at seed.1
-  last (Seed seed.0 picks.0) picks.1
+abbrev pub turns_line : LineKind Line
+turns_line = kind (codes "turns") (some 64 stint) (λ ss. Turns ss)
+
+abbrev pub seed_line : LineKind Line
+seed_line = kind (codes "seed") (next number (last number)) (λ (x, n). Seed x n)
+
+-- how a line is spelt
+unfoldable pub spelt_line : Line → Spelt
+spelt_line Version = of version_line tt
+spelt_line (Header form) = of header_line form
+spelt_line (Workers n) = of workers_line n
+spelt_line (Tries n) = of tries_line n
+spelt_line (Tidy on) = of tidy_line on
+spelt_line (Start n) = of start_line n
+spelt_line (Overflow buckets cells) = of overflow_line (buckets, cells)
+spelt_line (Table name width capacity ring) = of table_line (name, (width, (capacity, ring)))
+spelt_line (Row table key values) = of row_line (table, (key, values))
+spelt_line (Txn worker) = of txn_line worker
+spelt_line (Get table key) = of get_line (table, key)
+spelt_line (Put table key values) = of put_line (table, (key, values))
+spelt_line (Add table key field change) = of add_line (table, (key, (field, change)))
+spelt_line (Del table key) = of del_line (table, key)
+spelt_line (Need table key field least) = of need_line (table, (key, (field, least)))
+spelt_line (Guard table key) = of guard_line (table, key)
+spelt_line (Scan table low high) = of scan_line (table, (low, high))
+spelt_line End = of end_line tt
+spelt_line (Turns stints) = of turns_line stints
+spelt_line (Seed seed picks) = of seed_line (seed, picks)
 
 -- ---- any line
 
 -- an operation, by its first word
-unfoldable pub op_of : List ℕ → List (List ℕ) → Option Line
-op_of word fs =
-    if bytes_eq word (codes "get") then get_line fs
-    else if bytes_eq word (codes "put") then put_line fs
-    else if bytes_eq word (codes "add") then add_line fs
-    else if bytes_eq word (codes "del") then del_line fs
-    else if bytes_eq word (codes "need") then need_line fs
-    else if bytes_eq word (codes "guard") then guard_line fs
-    else if bytes_eq word (codes "scan") then scan_line fs
-    else None
+unfoldable pub op_of : Reader Line
+op_of =
+    or get_line (or put_line (or add_line (or del_line (or need_line (or guard_line (or scan_line no_line))))))
 
 -- a line behind the settings, by its first word
-unfoldable pub body_of : List ℕ → List (List ℕ) → Option Line
-body_of word fs =
-    if bytes_eq word (codes "table") then table_line fs
-    else if bytes_eq word (codes "row") then row_line fs
-    else if bytes_eq word (codes "txn") then txn_line fs
-    else if bytes_eq word (codes "end") then last End fs
-    else if bytes_eq word (codes "turns") then turns_line fs
-    else if bytes_eq word (codes "seed") then seed_line fs
-    else op_of word fs
+unfoldable pub body_of : Reader Line
+body_of = or table_line (or row_line (or txn_line (or end_line (or turns_line (or seed_line op_of)))))
 
 -- a line by its first word
-unfoldable pub word_of : List ℕ → List (List ℕ) → Option Line
-word_of word fs =
-    if bytes_eq word (codes "namdb") then version_line fs
-    else if bytes_eq word (codes "header") then header_line fs
-    else if bytes_eq word (codes "workers") then workers_line fs
-    else if bytes_eq word (codes "tries") then tries_line fs
-    else if bytes_eq word (codes "tidy") then tidy_line fs
-    else if bytes_eq word (codes "start") then start_line fs
-    else if bytes_eq word (codes "overflow") then overflow_line fs
-    else body_of word fs
+unfoldable pub word_of : Reader Line
+word_of =
+    or version_line (or header_line (or workers_line (or tries_line (or tidy_line (or start_line
+    (or overflow_line body_of))))))
 
 -- the line that the fields spell
 unfoldable pub line_of : List (List ℕ) → Option Line

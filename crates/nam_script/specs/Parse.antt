@@ -31,7 +31,8 @@ at_line n (Err k) go_on = Err (record { line = n; kind = k })
 -- script can end; else that line is cut.
 unfoldable pub draft_from : ℕ → Draft → List (List ℕ) → Result Draft Fault
 draft_from n d [] = Err (record { line = n; kind = kind.Cut })
-draft_from n d (text ∷ []) = if length text == 0 && can_end d.stage then Ok d else Err (record { line = n; kind = kind.Cut })
+draft_from n d (text ∷ []) =
+    if length text == 0 && can_end d.stage then Ok d else Err (record { line = n; kind = kind.Cut })
 draft_from n d (text ∷ next ∷ texts) = at_line n (admit_text d text) (λ e. draft_from (n + 1) e (next ∷ texts))
 
 unfoldable pub draft_of : List ℕ → Result Draft Fault
@@ -42,16 +43,24 @@ abbrev pub turns_of : Stage → List Stint → ℕ → ℕ → Turns
 turns_of st stints seed picks = if is_at st stage.Seed then turns.Seed seed picks else turns.List stints
 
 -- the script of the lines so far
-abbrev pub finished : Draft → Script
-finished d = record { shape = d.shape; policy = d.policy; rows = d.body.rows; txns = d.body.txns; turns = turns_of d.stage d.body.stints d.body.seed d.body.picks }
+abbrev pub whole_script : Draft → Script
+whole_script d =
+    record {
+      shape = d.shape;
+      policy = d.policy;
+      rows = d.body.rows;
+      txns = d.body.txns;
+      turns = turns_of d.stage
+          d.body.stints d.body.seed d.body.picks;
+    }
 
-abbrev pub finished_if : Result Draft Fault → Result Script Fault
-finished_if (Ok d) = Ok (finished d)
-finished_if (Err f) = Err f
+abbrev pub script_if : Result Draft Fault → Result Script Fault
+script_if (Ok d) = Ok (whole_script d)
+script_if (Err f) = Err f
 
 -- the script that a text spells, or its first bad line with the first of its kinds
 abbrev pub script_of : List ℕ → Result Script Fault
-script_of text = finished_if (draft_of text)
+script_of text = script_if (draft_of text)
 
 -- what was returned is what reading gives, unless memory ran out
 abbrev pub Gives : Result Script ParseEnd → Result Script Fault → Type 0

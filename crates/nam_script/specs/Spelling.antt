@@ -1,6 +1,6 @@
 -- How lines are spelt, and the lines of a script.
-use Rattle.std.specs.Prelude.{◌≡◌, ℕ, ◌^◌, ◌<◌, ◌≤◌, length, List, [], ◌∷◌, ◌++◌, map, take, Option, Some, None, Result, Ok, true, false, codes, if◌then◌else◌}
-use Rattle.std.specs.List.{flat_map, join_with_byte, AllByRecursion}
+use Rattle.std.specs.Prelude.{ℕ, List, [], ◌∷◌, ◌++◌, map, take, Option, Some, Result, Ok, if◌then◌else◌}
+use Rattle.std.specs.List.{flat_map, join_with_byte}
 use Rattle.si_model.specs.declared.row.Row.{Row}
 use Rattle.si_model.specs.declared.op.Op.{Op}
 use Rattle.si_model.specs.declared.op.Op.TheVariants as op
@@ -8,9 +8,8 @@ use Rattle.si_model.specs.declared.op.Policy.{Policy}
 use Rattle.nam_catalog.specs.declared.shape.Shape.{Shape}
 use Rattle.nam_catalog.specs.declared.shape.Table.{Table}
 use Rattle.nam_catalog.specs.Tables.{name_of}
-use Rattle.nam_text.specs.Token.{number_text, is_name}
+use Rattle.nam_text.specs.Kinds.{line_text as spelt_text}
 use Rattle.nam_script.specs.declared.refusal.Kind.{Kind}
-use Rattle.nam_script.specs.declared.line.Change.{Change}
 use Rattle.nam_script.specs.declared.line.SpeltStint.{SpeltStint}
 use Rattle.nam_script.specs.declared.line.Line.{Line}
 use Rattle.nam_script.specs.declared.line.Line.TheVariants as line
@@ -19,85 +18,27 @@ use Rattle.nam_script.specs.declared.script.Stint.{Stint}
 use Rattle.nam_script.specs.declared.draft.Draft.{Draft}
 use Rattle.nam_script.specs.declared.stage.Stage.{Stage}
 use Rattle.nam_script.specs.declared.stage.Stage.TheVariants as stage
-use Rattle.nam_script.specs.Text.{form_word, switch_word}
+use Rattle.nam_script.specs.Lines.{spelt_line}
 use Rattle.nam_script.specs.Stages.{rank, is_at}
 use Rattle.nam_script.specs.Checks.{◌>>=◌}
 use Rattle.nam_script.specs.Admit.{admit}
 
 -- ---- a line
 
-abbrev pub change_text : Change → List ℕ
-change_text c = (if c.up then 43 else 45) ∷ number_text c.by
-
-abbrev pub spelt_stint_text : SpeltStint → List ℕ
-spelt_stint_text s = number_text s.worker ++ 42 ∷ number_text s.steps
-
--- the fields of a line
-unfoldable pub fields : Line → List (List ℕ)
-fields line.Version = codes "namdb" ∷ codes "1" ∷ []
-fields (line.Header form) = codes "header" ∷ form_word form ∷ []
-fields (line.Workers n) = codes "workers" ∷ number_text n ∷ []
-fields (line.Tries n) = codes "tries" ∷ number_text n ∷ []
-fields (line.Tidy on) = codes "tidy" ∷ switch_word on ∷ []
-fields (line.Start n) = codes "start" ∷ number_text n ∷ []
-fields (line.Overflow buckets cells) = codes "overflow" ∷ number_text buckets ∷ number_text cells ∷ []
-fields (line.Table name width capacity ring) =
-    codes "table" ∷ name ∷ codes "width" ∷ number_text width ∷ codes "capacity" ∷ number_text capacity ∷ codes "ring" ∷ number_text ring ∷ []
-fields (line.Row table key values) = codes "row" ∷ table ∷ number_text key ∷ map number_text values
-fields (line.Txn worker) = codes "txn" ∷ number_text worker ∷ []
-fields (line.Get table key) = codes "get" ∷ table ∷ number_text key ∷ []
-fields (line.Put table key values) = codes "put" ∷ table ∷ number_text key ∷ map number_text values
-fields (line.Add table key field change) = codes "add" ∷ table ∷ number_text key ∷ number_text field ∷ change_text change ∷ []
-fields (line.Del table key) = codes "del" ∷ table ∷ number_text key ∷ []
-fields (line.Need table key field least) = codes "need" ∷ table ∷ number_text key ∷ number_text field ∷ number_text least ∷ []
-fields (line.Guard table key) = codes "guard" ∷ table ∷ number_text key ∷ []
-fields (line.Scan table low high) = codes "scan" ∷ table ∷ number_text low ∷ number_text high ∷ []
-fields line.End = codes "end" ∷ []
-fields (line.Turns stints) = codes "turns" ∷ map spelt_stint_text stints
-fields (line.Seed seed picks) = codes "seed" ∷ number_text seed ∷ number_text picks ∷ []
-
--- parted by spaces, and ended by a newline
+-- its fields, parted by spaces and ended by a newline
 abbrev pub line_text : Line → List ℕ
-line_text l = join_with_byte 32 (fields l) ++ 10 ∷ []
+line_text l = spelt_text (spelt_line l)
 
 abbrev pub text_of : List Line → List ℕ
 text_of ls = flat_map line_text ls
 
--- ---- a line that has a spelling
-
-abbrev pub FitsWord : Option ℕ → Type 0
-FitsWord None = ⊥
-FitsWord (Some n) = n < 2 ^ 64
-
-abbrev pub FitsStint : SpeltStint → Type 0
-FitsStint s = FitsWord s.worker × FitsWord s.steps
-
--- a change by 0 has the sign +
-abbrev pub FitsChange : Change → Type 0
-FitsChange c = FitsWord c.by × (c.up ≡ false → (c.by ≡ Some 0) → ⊥)
-
 -- the line can be read again: its names are names, its numbers words, and it has 1 to 8 values or 1 to 64 stints
 abbrev pub IsGood : Line → Type 0
-IsGood line.Version = Unit {0}
-IsGood (line.Header form) = Unit {0}
-IsGood (line.Workers n) = FitsWord n
-IsGood (line.Tries n) = FitsWord n
-IsGood (line.Tidy on) = Unit {0}
-IsGood (line.Start n) = FitsWord n
-IsGood (line.Overflow buckets cells) = FitsWord buckets × FitsWord cells
-IsGood (line.Table name width capacity ring) = (is_name name ≡ true) × FitsWord width × FitsWord capacity × FitsWord ring
-IsGood (line.Row table key values) = (is_name table ≡ true) × FitsWord key × AllByRecursion FitsWord values × (1 ≤ length values) × (length values ≤ 8)
-IsGood (line.Txn worker) = FitsWord worker
-IsGood (line.Get table key) = (is_name table ≡ true) × FitsWord key
-IsGood (line.Put table key values) = (is_name table ≡ true) × FitsWord key × AllByRecursion FitsWord values × (1 ≤ length values) × (length values ≤ 8)
-IsGood (line.Add table key field change) = (is_name table ≡ true) × FitsWord key × FitsWord field × FitsChange change
-IsGood (line.Del table key) = (is_name table ≡ true) × FitsWord key
-IsGood (line.Need table key field least) = (is_name table ≡ true) × FitsWord key × FitsWord field × FitsWord least
-IsGood (line.Guard table key) = (is_name table ≡ true) × FitsWord key
-IsGood (line.Scan table low high) = (is_name table ≡ true) × FitsWord low × FitsWord high
-IsGood line.End = Unit {0}
-IsGood (line.Turns stints) = AllByRecursion FitsStint stints × (1 ≤ length stints) × (length stints ≤ 64)
-IsGood (line.Seed seed picks) = FitsWord seed × FitsWord picks
+IsGood l = (spelt_line l).Fits
+
+-- none of its numbers is above 2^64 - 1
+abbrev pub LineIsSmall : Line → Type 0
+LineIsSmall l = (spelt_line l).IsSmall
 
 -- ---- the lines of a script
 
@@ -107,10 +48,18 @@ somes ns = map (λ n. Some n) ns
 abbrev pub spelt : Stint → SpeltStint
 spelt s = record { worker = Some s.worker; steps = Some s.steps }
 
+-- the lines before the tables, as far as the workers' retries
+abbrev pub opening_lines : Shape → Policy → List Line
+opening_lines shape policy =
+    line.Version ∷ line.Header shape.form ∷ line.Workers (Some shape.workers) ∷ line.Tries (Some policy.tries) ∷ []
+
+-- the rest of the lines before the tables
+abbrev pub store_lines : Shape → Policy → List Line
+store_lines shape policy =
+    line.Tidy policy.tidy ∷ line.Start (Some shape.start) ∷ line.Overflow (Some shape.buckets) (Some shape.cells) ∷ []
+
 abbrev pub setting_lines : Shape → Policy → List Line
-setting_lines shape policy =
-    line.Version ∷ line.Header shape.form ∷ line.Workers (Some shape.workers) ∷ line.Tries (Some policy.tries)
-    ∷ line.Tidy policy.tidy ∷ line.Start (Some shape.start) ∷ line.Overflow (Some shape.buckets) (Some shape.cells) ∷ []
+setting_lines shape policy = opening_lines shape policy ++ store_lines shape policy
 
 abbrev pub table_line : Table → Line
 table_line t = line.Table t.name (Some t.width) (Some t.capacity) (Some t.ring)

@@ -1,33 +1,15 @@
 //! The script of a bank, made from a number.
 
-ghost use Rattle.std.specs.Prelude.{◌≡◌, ◌<◌, ◌≤◌, ◌^◌, ◌/◌, ◌%◌, [], ◌∷◌, IfOk, OnOk};
-ghost use Rattle.nam_script.specs.Bank.{next_state, pick_of, bank_ops, bank_txn, state_after, bank_txns, rows_from, bank_shape, bank_of};
+ghost use Rattle.std.specs.Prelude.{◌≡◌, ◌≤◌, [], ◌∷◌, IfOk};
+ghost use Rattle.nam_script.specs.Bank.{bank_ops, bank_txn, state_after, bank_txns, rows_from, bank_shape, bank_of};
 
 use crate::script::{Script, ScriptTxn, Turns};
 use lists::{List, ShortList};
 use nam_catalog::{Form, Shape, Table, TableName};
-use si_model::{Op, Policy, Row, Value};
+use si_model::{Op, Policy, Row, Value, next_state, pick};
 use std::alloc::{AllocError, Global};
 
 const ACCOUNTS: u64 = 16;
-
-/// The generator's state after a state.
-fn next_state(state: u64) -> u64
-    ensures { result ≡ next_state state }
-{
-    state
-        .wrapping_mul(6_364_136_223_846_793_005)
-        .wrapping_add(1_442_695_040_888_963_407)
-}
-
-/// The next state, and a number below `k` that it gives.
-fn pick(state: u64, k: u64) -> (u64, u64)
-    requires { 0 < k }
-    ensures { result ≡ (next_state state, pick_of (next_state state) k) }
-{
-    let state = next_state(state);
-    (state, state / 8_589_934_592 % k)
-}
 
 fn bank_ops(alloc: Global, from: u64, to: u64, amount: u64) -> Result<List<Op>, AllocError>
     ensures { IfOk result (λ ops. ops ≡ bank_ops from to amount) }
@@ -60,13 +42,14 @@ fn bank_ops(alloc: Global, from: u64, to: u64, amount: u64) -> Result<List<Op>, 
 fn bank_txn(alloc: Global, place: u32, state: u64) -> Result<(ScriptTxn, u64), AllocError>
     ensures { IfOk result (λ x. x ≡ (bank_txn place state, state_after state)) }
 {
-    let (state, from) = pick(state, ACCOUNTS);
-    let (state, distance) = pick(state, ACCOUNTS - 1);
-    let (state, more) = pick(state, 100);
-    let to = (from + 1 + distance) % ACCOUNTS;
-    let ops = bank_ops(alloc, from, to, 1 + more)?;
+    let first = next_state(state);
+    let second = next_state(first);
+    let third = next_state(second);
+    let from = pick(first, ACCOUNTS);
+    let to = (from + 1 + pick(second, ACCOUNTS - 1)) % ACCOUNTS;
+    let ops = bank_ops(alloc, from, to, 1 + pick(third, 100))?;
     let worker = 1 + place % 4;
-    Ok((ScriptTxn { worker, ops }, state))
+    Ok((ScriptTxn { worker, ops }, third))
 }
 
 #[tactic(auto, using(crate::proofs::BankLemmas::txns_more))]
@@ -120,8 +103,8 @@ fn bank_shape() -> Shape
     }
 }
 
-/// A bank: 16 accounts of 1,000 each, and `size` transfers between accounts that a generator picks from a seed, for four
-/// workers in turn. A transfer declines where its account has too little.
+/// A bank: 16 accounts of 1,000 each, and `size` transfers between accounts that a generator picks from a seed, for
+/// four workers in turn. A transfer declines where its account has too little.
 ///
 /// The generator is linear congruential, modulo 2^64, and a pick takes the upper 31 bits of its state.
 pub fn bank(alloc: Global, seed: u64, size: u32) -> Result<Script, AllocError>

@@ -1,8 +1,7 @@
 //! The tests of numbers and names.
 
 ghost use Rattle.std.specs.Prelude.{◌≡◌, ◌≤◌, ◌<◌, length, IfOk};
-ghost use Rattle.si_model.specs.Evaluation.{key_claimed};
-ghost use Rattle.nam_script.specs.Checks.{within, small, all_small, key_of, stint_within, all_stints, place_of, counted, has_key, claimed, steps_of};
+ghost use Rattle.nam_script.specs.Checks.{within, small, all_small, key_of, stint_within, all_stints, place_of, total_within, keys_after, steps_of};
 ghost use Rattle.nam_script.specs.Admit.{Takes};
 
 use crate::line::{Numbers, SpeltStint, SpeltStints};
@@ -101,11 +100,7 @@ pub fn steps_of(stints: &[Stint]) -> u64
     requires { length stints.now ≤ 64 }
     ensures { result ≡ steps_of stints.now }
 {
-    let mut sum: u64 = 0;
-    for stint in stints {
-        sum += stint.steps as u64;
-    }
-    sum
+    stints.iter().map(|stint| stint.steps as u64).sum()
 }
 
 /// The first table of a name.
@@ -127,8 +122,8 @@ pub fn place_of(tables: &[Table], name: &str) -> Result<Found, Kind>
 }
 
 /// So many more, where that is not more than `most`.
-pub fn counted(so_far: u64, more: u64, most: u64) -> Result<u64, Kind>
-    ensures { result ≡ counted so_far more most }
+pub fn total_within(so_far: u64, more: u64, most: u64) -> Result<u64, Kind>
+    ensures { result ≡ total_within so_far more most }
 {
     match so_far.checked_add(more) {
         Some(sum) if sum <= most => Ok(sum),
@@ -136,37 +131,14 @@ pub fn counted(so_far: u64, more: u64, most: u64) -> Result<u64, Kind>
     }
 }
 
-/// The key that an operation writes or guards.
-fn key_claimed(op: &Op) -> Option<Key>
-    ensures { result ≡ key_claimed op.now }
-{
-    match op {
-        Op::Put { table, key, .. }
-        | Op::Add { table, key, .. }
-        | Op::Del { table, key }
-        | Op::Guard { table, key } => Some(Key {
-            table: *table,
-            key: *key,
-        }),
-        Op::Get { .. } | Op::Need { .. } | Op::Scan { .. } => None,
-    }
-}
-
-fn has_key(keys: &[Key], key: Key) -> bool
-    ensures { result ≡ has_key keys.now key }
-{
-    keys.iter()
-        .any(|other| other.table == key.table && other.key == key.key)
-}
-
 /// Notes the key that an operation writes or guards, each key once and 16 at the most.
 pub fn claim(keys: &mut List<Key>, op: &Op) -> Result<(), LineEnd>
-    ensures { Takes result keys.new (claimed keys.old op.now) }
+    ensures { Takes result keys.new (keys_after keys.old op.now) }
 {
-    let Some(key) = key_claimed(op) else {
+    let Some(key) = op.key_claimed() else {
         return Ok(());
     };
-    if has_key(keys.as_slice(), key) {
+    if keys.as_slice().contains(&key) {
         return Ok(());
     }
     if keys.len() >= MAX_KEYS {

@@ -3,7 +3,9 @@
 ghost use Rattle.std.specs.Prelude.{◌≡◌, ◌≤◌, ◌++◌, length, OnOk};
 ghost use Rattle.nam_script.specs.Admit.{Takes, admit_txn, push_op, admit_get, admit_put, admit_add, admit_del, admit_need, admit_guard, admit_scan, admit_end, admit_turns, admit_seed};
 
-use crate::checks::{all_small, all_stints, claim, counted, key_of, small, steps_of, within_u32};
+use crate::checks::{
+    all_small, all_stints, claim, key_of, small, steps_of, total_within, within_u32,
+};
 use crate::draft::Draft;
 use crate::line::{Change, Numbers, SpeltStints};
 use crate::refusal::{Kind, LineEnd};
@@ -57,7 +59,7 @@ impl Draft {
         if self.body.ops.len() >= MAX_TXN_OPS {
             return Err(LineEnd::Bad(Kind::Size));
         }
-        self.body.cost = counted(self.body.cost, cost as u64, MAX_OPS)?;
+        self.body.cost = total_within(self.body.cost, cost as u64, MAX_OPS)?;
         claim(&mut self.body.keys, &op)?;
         self.body.ops.push(op)?;
         Ok(())
@@ -226,7 +228,7 @@ impl Draft {
         }
         let stints = all_stints(self.shape.workers, &spelt)?;
         let steps = steps_of(stints.as_slice());
-        self.body.steps = counted(self.body.steps, steps, MAX_TURNS)?;
+        self.body.steps = total_within(self.body.steps, steps, MAX_TURNS)?;
         push_stints(&mut self.body.stints, stints.as_slice())?;
         self.stage = Stage::Turns;
         Ok(())

@@ -6,7 +6,7 @@ ghost use Rattle.nam_script.specs.Text.{IsSpelt};
 ghost use Rattle.nam_script.specs.Limits.{IsScript};
 ghost use Rattle.nam_script.specs.Stages.{can_end};
 ghost use Rattle.nam_script.specs.Admit.{start};
-ghost use Rattle.nam_script.specs.Parse.{Gives, GivesDraft, draft_of, finished, script_of, end_at};
+ghost use Rattle.nam_script.specs.Parse.{Gives, GivesDraft, draft_of, whole_script, script_of, end_at};
 ghost use Rattle.nam_script.specs.Spelling.{IsGood, admit_all, text_of};
 ghost use Rattle.nam_script.specs.declared.line.Line.{Line};
 ghost use Rattle.nam_script.specs.declared.draft.Draft.{Draft};
@@ -79,7 +79,7 @@ pub fn parse(alloc: Global, bytes: &[u8]) -> Result<Script, ParseEnd>
     ensures found { IfOk result (λ s. IsSpelt s bytes.now) }
     // What is spelt so is read: lines that may come in this order, where a script may end.
     ensures only { (ls : List Line) (e : Draft) → AllByRecursion IsGood ls → admit_all start ls ≡ Ok e
-        → can_end e.stage ≡ true → bytes.now ≡ text_of ls → Gives result (Ok (finished e)) }
+        → can_end e.stage ≡ true → bytes.now ≡ text_of ls → Gives result (Ok (whole_script e)) }
     // The script keeps to all limits.
     ensures limits { IfOk result IsScript }
 {

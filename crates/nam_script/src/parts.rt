@@ -2,16 +2,17 @@
 
 ghost use Rattle.std.specs.Prelude.{◌≡◌, Option};
 ghost use Rattle.std.specs.List.{position};
-ghost use Rattle.nam_text.specs.Read.{Reads};
-ghost use Rattle.nam_script.specs.Lines.{form_at, switch_at, change, change_at, values_at, stint, stints_at, last};
+ghost use Rattle.nam_text.specs.Token.{number_of};
+ghost use Rattle.nam_text.specs.Read.{Reads, field_at, some_read};
+ghost use Rattle.nam_script.specs.Lines.{form, switch, change, change_of, stint_of};
 
-use crate::line::{Change, Line, Numbers, SpeltStint, SpeltStints};
+use crate::line::{Change, Numbers, SpeltStint, SpeltStints};
 use nam_catalog::Form;
 use nam_text::{Fields, find_byte, is_word, number};
 
-#[tactic(auto, unfolding(crate::specs::Lines::form_at))]
+#[tactic(auto, unfolding(nam_text::specs::Read::field_at))]
 pub fn form_at(fields: &mut Fields) -> Option<Form>
-    ensures { Reads result fields.new (form_at fields.old) }
+    ensures { Reads result fields.new (field_at form.read fields.old) }
 {
     let field = fields.next()?;
     if is_word(field, b"narrow") {
@@ -25,9 +26,9 @@ pub fn form_at(fields: &mut Fields) -> Option<Form>
     }
 }
 
-#[tactic(auto, unfolding(crate::specs::Lines::switch_at))]
+#[tactic(auto, unfolding(nam_text::specs::Read::field_at))]
 pub fn switch_at(fields: &mut Fields) -> Option<bool>
-    ensures { Reads result fields.new (switch_at fields.old) }
+    ensures { Reads result fields.new (field_at switch.read fields.old) }
 {
     let field = fields.next()?;
     if is_word(field, b"on") {
@@ -39,9 +40,9 @@ pub fn switch_at(fields: &mut Fields) -> Option<bool>
     }
 }
 
-#[tactic(auto, unfolding(crate::specs::Lines::change))]
+#[tactic(auto, unfolding(crate::specs::Lines::change_of))]
 fn change(field: &[u8]) -> Option<Change>
-    ensures { result ≡ change field.now }
+    ensures { result ≡ change_of field.now }
 {
     match field {
         [b'+', digits @ ..] => Some(Change {
@@ -57,16 +58,16 @@ fn change(field: &[u8]) -> Option<Change>
 }
 
 /// A sign and a number. There is no -0.
-#[tactic(auto, unfolding(crate::specs::Lines::change_at))]
+#[tactic(auto, unfolding(nam_text::specs::Read::field_at))]
 pub fn change_at(fields: &mut Fields) -> Option<Change>
-    ensures { Reads result fields.new (change_at fields.old) }
+    ensures { Reads result fields.new (field_at change.read fields.old) }
 {
     change(fields.next()?)
 }
 
 /// One to eight numbers, and nothing after them.
 pub fn values_at(fields: &mut Fields) -> Option<Numbers>
-    ensures { result ≡ values_at fields.old }
+    ensures { result ≡ some_read 8 number_of fields.old }
 {
     let mut values = Numbers::new();
     while let Some(field) = fields.next() {
@@ -85,7 +86,7 @@ pub fn values_at(fields: &mut Fields) -> Option<Numbers>
 /// Numbers parted by a star.
 #[tactic(auto, unfolding(crate::specs::Lines::parted_at), using(crate::proofs::StintFields::whole_rest))]
 fn stint(field: &[u8]) -> Option<SpeltStint>
-    ensures { result ≡ stint field.now }
+    ensures { result ≡ stint_of field.now }
 {
     let star = find_byte(field, b'*')?;
     let worker = number(&field[..star])?;
@@ -95,7 +96,7 @@ fn stint(field: &[u8]) -> Option<SpeltStint>
 
 /// 1 to 64 stints, and nothing after them.
 pub fn stints_at(fields: &mut Fields) -> Option<SpeltStints>
-    ensures { result ≡ stints_at fields.old }
+    ensures { result ≡ some_read 64 stint_of fields.old }
 {
     let mut stints = SpeltStints::new();
     while let Some(field) = fields.next() {
@@ -108,15 +109,5 @@ pub fn stints_at(fields: &mut Fields) -> Option<SpeltStints>
         None
     } else {
         Some(stints)
-    }
-}
-
-/// The line, where no field is left.
-pub fn last(line: Line, fields: &mut Fields) -> Option<Line>
-    ensures { result ≡ last line fields.old }
-{
-    match fields.next() {
-        None => Some(line),
-        Some(_) => None,
     }
 }

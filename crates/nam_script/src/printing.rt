@@ -2,7 +2,9 @@
 
 ghost use Rattle.std.specs.Prelude.{◌≡◌, ◌++◌, ◌≤◌, codes, OnOk, IfOk, string_bytes};
 ghost use Rattle.std.specs.List.{flat_map};
-ghost use Rattle.nam_script.specs.Text.{form_word, switch_word, opening_text, store_text, table_text, row_text, sign_text, op_text, txn_text, stint_start, room_after, stint_text, stints_text, turns_text, script_text};
+ghost use Rattle.nam_script.specs.Lines.{form_word, switch_word, sign_text};
+ghost use Rattle.nam_script.specs.Spelling.{text_of, opening_lines, store_lines};
+ghost use Rattle.nam_script.specs.Text.{table_text, row_text, op_text, txn_text, stint_start, room_after, stint_text, stints_text, turns_text, script_text};
 
 use crate::script::{Script, ScriptTxn, Stint, Turns};
 use nam_catalog::{Form, Shape, Table, name_at};
@@ -33,16 +35,18 @@ fn sign(up: bool) -> &'static str
     if up { "+" } else { "-" }
 }
 
+#[tactic(auto, unfolding(crate::specs::Lines::spelt_line))]
 fn push_opening(out: &mut String, shape: &Shape, policy: Policy) -> Result<(), AllocError>
-    ensures { OnOk result (string_bytes out.new ≡ string_bytes out.old ++ opening_text shape.now policy) }
+    ensures { OnOk result (string_bytes out.new ≡ string_bytes out.old ++ text_of (opening_lines shape.now policy)) }
 {
     write!(out, "namdb 1\nheader {}\n", form_word(shape.form))?;
     write!(out, "workers {}\ntries {}\n", shape.workers, policy.tries)?;
     Ok(())
 }
 
+#[tactic(auto, unfolding(crate::specs::Lines::spelt_line))]
 fn push_store(out: &mut String, shape: &Shape, policy: Policy) -> Result<(), AllocError>
-    ensures { OnOk result (string_bytes out.new ≡ string_bytes out.old ++ store_text shape.now policy) }
+    ensures { OnOk result (string_bytes out.new ≡ string_bytes out.old ++ text_of (store_lines shape.now policy)) }
 {
     let tidy = switch_word(policy.tidy);
     let Shape {
@@ -58,6 +62,7 @@ fn push_store(out: &mut String, shape: &Shape, policy: Policy) -> Result<(), All
     Ok(())
 }
 
+#[tactic(auto, unfolding(crate::specs::Lines::spelt_line))]
 fn push_table(out: &mut String, table: &Table) -> Result<(), AllocError>
     ensures { OnOk result (string_bytes out.new ≡ string_bytes out.old ++ table_text table.now) }
 {
@@ -75,6 +80,7 @@ fn push_table(out: &mut String, table: &Table) -> Result<(), AllocError>
     Ok(())
 }
 
+#[tactic(auto, unfolding(crate::specs::Lines::spelt_line))]
 fn push_row(out: &mut String, tables: &[Table], row: &Row) -> Result<(), AllocError>
     ensures { OnOk result (string_bytes out.new ≡ string_bytes out.old ++ row_text tables.now row.now) }
 {
@@ -84,6 +90,7 @@ fn push_row(out: &mut String, tables: &[Table], row: &Row) -> Result<(), AllocEr
     Ok(())
 }
 
+#[tactic(auto, unfolding(crate::specs::Lines::spelt_line))]
 fn push_op(out: &mut String, tables: &[Table], op: &Op) -> Result<(), AllocError>
     ensures { OnOk result (string_bytes out.new ≡ string_bytes out.old ++ op_text tables.now op.now) }
 {
@@ -123,6 +130,7 @@ fn push_op(out: &mut String, tables: &[Table], op: &Op) -> Result<(), AllocError
     Ok(())
 }
 
+#[tactic(auto, unfolding(crate::specs::Lines::spelt_line))]
 fn push_txn(out: &mut String, tables: &[Table], txn: &ScriptTxn) -> Result<(), AllocError>
     ensures { OnOk result (string_bytes out.new ≡ string_bytes out.old ++ txn_text tables.now txn.now) }
 {
@@ -190,6 +198,7 @@ fn push_stints(out: &mut String, stints: &[Stint]) -> Result<(), AllocError>
     Ok(())
 }
 
+#[tactic(auto, unfolding(crate::specs::Lines::spelt_line))]
 fn push_turns(out: &mut String, turns: &Turns) -> Result<(), AllocError>
     ensures { OnOk result (string_bytes out.new ≡ string_bytes out.old ++ turns_text turns.now) }
 {

@@ -5,7 +5,7 @@ ghost use Rattle.std.specs.Prelude.{◌≡◌, ◌<◌, ◌^◌, ◌-◌, [], �
 ghost use Rattle.nam_script.specs.Checks.{is_given, rows_in};
 
 use lists::{List, ShortList};
-use si_model::Row;
+use si_model::{Key, Row};
 use std::alloc::{AllocError, Global};
 use std::collections::BTreeSet;
 use std::marker::Model;
@@ -14,7 +14,7 @@ use std::marker::Model;
 #[derive(Debug, Drop)]
 pub struct Rows {
     rows: Vec<Row>,
-    keys: BTreeSet<(u32, u64)>,
+    keys: BTreeSet<Key>,
     counts: ShortList<u32, 8>,
 }
 
@@ -23,13 +23,16 @@ impl Model for Rows {
     ghost use Rattle.std.specs.BTreeSet.{contains};
     ghost use Rattle.si_model.specs.declared.row.Row.{Row as TheRow};
     ghost use Rattle.nam_script.specs.Checks.{is_given as has_row, rows_in as count_in};
-    ghost use Rattle.nam_script.specs.Keys.{key_cmp};
+    ghost use Rattle.si_model.specs.Rows.{key_at};
+    ghost use Rattle.si_model.specs.Held.{key_cmp};
 
     ghost Value = { List TheRow };
 
     ghost view = { λ r. r.rows.items };
 
-    ghost invariant = { λ r. ((t k : ℕ) → contains key_cmp r.keys (t, k) ≡ has_row r.rows.items t k) × (length r.counts ≡ 8) × ((t : ℕ) → t < 8 → slice_index r.counts t ≡ count_in r.rows.items t) };
+    ghost invariant = { λ r. ((t k : ℕ) → contains key_cmp r.keys (key_at t k) ≡ has_row r.rows.items t k)
+        × (length r.counts ≡ 8)
+        × ((t : ℕ) → t < 8 → slice_index r.counts t ≡ count_in r.rows.items t) };
 }
 
 fn no_counts() -> ShortList<u32, 8>
@@ -61,7 +64,7 @@ impl Rows {
     pub fn is_given(&self, table: u32, key: u64) -> bool
         ensures { result ≡ is_given self.now table key }
     {
-        self.keys.contains(&(table, key))
+        self.keys.contains(&Key { table, key })
     }
 
     /// How many rows a table has.
@@ -78,7 +81,7 @@ impl Rows {
         ensures { OnOk result (self.new ≡ self.old ++ row ∷ []) }
     {
         let table = row.table as usize;
-        let key = (row.table, row.key);
+        let key = row.key();
         self.rows.push(row)?;
         if let Err(failed) = self.keys.insert(key) {
             self.rows.pop();

@@ -28,22 +28,7 @@ impl Stage {
     fn rank(self) -> u32
         ensures { result ≡ rank self }
     {
-        match self {
-            Stage::Empty => 0,
-            Stage::Version => 1,
-            Stage::Header => 2,
-            Stage::Workers => 3,
-            Stage::Tries => 4,
-            Stage::Tidy => 5,
-            Stage::Start => 6,
-            Stage::Overflow => 7,
-            Stage::Tables => 8,
-            Stage::Rows => 9,
-            Stage::Open => 10,
-            Stage::Between => 11,
-            Stage::Turns => 12,
-            Stage::Seed => 13,
-        }
+        self as u32
     }
 
     pub fn is_at(self, other: Stage) -> bool

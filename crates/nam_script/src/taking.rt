@@ -2,7 +2,7 @@
 
 ghost use Rattle.std.specs.Prelude.{◌≡◌};
 ghost use Rattle.nam_script.specs.Admit.{Takes, admit, admit_text};
-ghost use Rattle.nam_script.specs.Parse.{turns_of, finished};
+ghost use Rattle.nam_script.specs.Parse.{turns_of, whole_script};
 
 use crate::draft::{Body, Draft};
 use crate::line::Line;
@@ -80,7 +80,7 @@ impl Draft {
 
     /// The script of the lines so far.
     pub fn finish(self) -> Script
-        ensures { result ≡ finished self }
+        ensures { result ≡ whole_script self }
     {
         let Draft {
             stage,

@@ -2,3 +2,5 @@ pub mod Splits
 pub mod Tokens
 pub mod Takes
 pub mod Again
+pub mod Spellings
+pub mod KindLemmas

@@ -1,5 +1,5 @@
 -- What a field spells.
-use Rattle.std.proofs.Common.{◌≡◌, ℕ, zero, suc, lit<, ◌^◌, ◌<◌, ◌≤◌, Bool, true, false, cond, ltb, leb, List, [], ◌∷◌, length, get_or, Option, Some, None, Result, Ok, Err, refl, sym, ap, subst, ◌∙◌, arith, rules, inl, inr, ◌&&◌, ◌||◌}
+use Rattle.std.proofs.Common.{◌≡◌, ℕ, zero, suc, lit<, ◌^◌, ◌<◌, ◌≤◌, true, List, [], ◌∷◌, length, get_or, Result, Ok, Err, refl, arith, rules, inl, inr}
 use Rattle.std.specs.List.{list_all, AllByRecursion}
 use Rattle.std.specs.Char.{is_ascii_digit}
 use Rattle.std.specs.Str.{IsUtf8}
@@ -21,13 +21,16 @@ tells_digits = search rules
 pub numerals : IsNumeralModel AreDigits (digits_value 10)
 numerals = numerals_by_value AreDigits tells_digits
 
-value_by_cases : {E : Type 0} (ds : List ℕ) (r : Result ℕ E) → 0 < length ds → OkIff r ((0 < length ds) × (digits_value 10 ds < 2 ^ 64)) (digits_value 10 ds) → result_ok r ≡ number_value ds
+value_by_cases : {E : Type 0} (ds : List ℕ) (r : Result ℕ E) → 0 < length ds
+    → OkIff r ((0 < length ds) × (digits_value 10 ds < 2 ^ 64)) (digits_value 10 ds) → result_ok r ≡ number_value ds
 value_by_cases ds (Ok x) some h = rw (lt-ltb _ _ h.0.1, h.1) refl
 value_by_cases ds (Err e) some h =
-    let le : 2 ^ 64 ≤ digits_value 10 ds = elim (cases_lt (digits_value 10 ds) (2 ^ 64)) [ inl lt ↦ absurd (h (some, lt)) | inr le ↦ le ] in
+    let le : 2 ^ 64 ≤ digits_value 10 ds = elim (cases_lt (digits_value 10 ds) (2 ^ 64))
+    [ inl lt ↦ absurd (h (some, lt)) | inr le ↦ le ] in
     rw (le-ltb _ _ le) refl
 
-pub value_gives : {E : Type 0} (ds : List ℕ) (r : Result ℕ E) → AreDigits ds → 0 < length ds → ParsesUnsigned 64 10 ds r → result_ok r ≡ number_value ds
+pub value_gives : {E : Type 0} (ds : List ℕ) (r : Result ℕ E) → AreDigits ds → 0 < length ds → ParsesUnsigned 64 10 ds r
+    → result_ok r ≡ number_value ds
 value_gives ds r p some h = value_by_cases ds r some (parse_digits numerals 64 ds r h p)
 
 pub utf8_from_digits : (ds : List ℕ) → AreDigits ds → IsUtf8 ds

@@ -16,7 +16,8 @@ pub fn find_byte(text: &[u8], byte: u8) -> Option<usize>
 /// The first line, without its newline, and what follows it. None where no newline stands in the text.
 #[tactic(auto, using(crate::proofs::Splits::split_at_position, crate::proofs::Splits::split_no_position))]
 pub fn first_line(text: &[u8]) -> Option<(&[u8], &[u8])>
-    ensures lines { MatchOption result (lines_of text.now ≡ text.now ∷ []) (λ x. lines_of text.now ≡ x.0.now ∷ lines_of x.1.now) }
+    ensures lines { MatchOption result (lines_of text.now ≡ text.now ∷ [])
+        (λ x. lines_of text.now ≡ x.0.now ∷ lines_of x.1.now) }
     ensures shorter { IfSome result (λ x. length x.1.now < length text.now) }
 {
     let at = find_byte(text, b'\n')?;

@@ -3,7 +3,8 @@
 ghost use Rattle.std.specs.Prelude.{◌≡◌, ◌≤◌, length, true, IsTrue};
 ghost use Rattle.std.specs.Str.{bytes_eq, IsUtf8};
 ghost use Rattle.nam_text.specs.Token.{is_name};
-ghost use Rattle.nam_text.specs.Read.{word_at, number_at, name_at, Reads, ReadsWord};
+ghost use Rattle.nam_text.specs.Read.{word_at, field_at, done, Reads, ReadsWord};
+ghost use Rattle.nam_text.specs.Spelling.{number, name};
 
 use crate::fields::Fields;
 use crate::token::{Number, is_name, number};
@@ -29,9 +30,9 @@ pub fn word_at(fields: &mut Fields, word: &[u8]) -> Option<()>
 }
 
 /// Reads a number.
-#[tactic(auto, unfolding(crate::specs::Read::number_at))]
+#[tactic(auto, unfolding(crate::specs::Read::field_at))]
 pub fn number_at(fields: &mut Fields) -> Option<Number>
-    ensures { Reads result fields.new (number_at fields.old) }
+    ensures { Reads result fields.new (field_at number.read fields.old) }
 {
     number(fields.next()?)
 }
@@ -49,14 +50,24 @@ fn name_of(text: &[u8]) -> TableName
 }
 
 /// Reads the name of a table.
-#[tactic(auto, unfolding(crate::specs::Read::name_at))]
+#[tactic(auto, unfolding(crate::specs::Read::field_at))]
 pub fn name_at(fields: &mut Fields) -> Option<TableName>
-    ensures { Reads result fields.new (name_at fields.old) }
+    ensures { Reads result fields.new (field_at name.read fields.old) }
 {
     let field = fields.next()?;
     if is_name(field) {
         Some(name_of(field))
     } else {
         None
+    }
+}
+
+/// Is no field left?
+pub fn done(fields: &mut Fields) -> Option<()>
+    ensures { result ≡ done fields.old }
+{
+    match fields.next() {
+        None => Some(()),
+        Some(_) => None,
     }
 }

@@ -3,7 +3,7 @@
 ghost use Rattle.std.specs.Prelude.{◌≡◌, ◌<◌, length, true};
 ghost use Rattle.std.specs.List.{list_all};
 ghost use Rattle.std.specs.Char.{is_ascii_digit};
-ghost use Rattle.nam_text.specs.Token.{is_number, number, number_value, is_name, is_name_byte};
+ghost use Rattle.nam_text.specs.Token.{is_number, number_of, number_value, is_name, is_name_byte};
 
 use std::str;
 
@@ -40,9 +40,9 @@ fn number_value(digits: &[u8]) -> Number
 }
 
 /// The number that a field spells in decimal digits, without a leading zero. None where it spells no number.
-#[tactic(auto, unfolding(crate::specs::Token::number))]
+#[tactic(auto, unfolding(crate::specs::Token::number_of))]
 pub fn number(field: &[u8]) -> Option<Number>
-    ensures { result ≡ number field.now }
+    ensures { result ≡ number_of field.now }
 {
     if !is_number(field) {
         return None;

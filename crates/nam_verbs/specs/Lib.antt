@@ -6,3 +6,4 @@ pub mod Machine
 pub mod Until
 pub mod Falls
 pub mod Steps
+pub mod SoFar

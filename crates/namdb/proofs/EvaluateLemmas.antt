@@ -1,5 +1,6 @@
 -- An evaluation looks at the rows of the keys that its operations may look at.
-use Rattle.std.proofs.Common.{◌≡◌, ℕ, zero, suc, ◌+◌, ◌-◌, ◌<◌, Bool, true, false, cond, List, [], ◌∷◌, ◌++◌, length, refl, ap, sym, ◌∙◌, subst, arith, Option, Some, None, inl, inr}
+use Rattle.std.proofs.Common.{◌≡◌, ℕ, zero, suc, ◌+◌, ◌-◌, ◌<◌, Bool, true, false, cond, List, [], ◌∷◌, ◌++◌, length}
+use Rattle.std.proofs.Common.{refl, ap, sym, ◌∙◌, subst, arith, Option, Some, None, inl, inr}
 use Rattle.std.specs.Prelude.{◌⊎◌, ◌≤◌, ◌||◌, not, filter, is_some, slice_index, Result, Ok, Err, IfOk}
 use Rattle.std.specs.List.{AllByRecursion, flat_map, list_any}
 use Rattle.std.specs.BTreeMap.{is_at}
@@ -17,14 +18,19 @@ use Rattle.si_model.specs.declared.op.Op.TheVariants.{Get, Put, Add, Del, Need, 
 use Rattle.si_model.specs.declared.evaluated.Evaluated.{Evaluated}
 use Rattle.si_model.specs.declared.evaluated.Evaluated.TheVariants.{Done, Declined}
 use Rattle.si_model.specs.Held.{key_cmp}
-use Rattle.si_model.specs.Rows.{Rows, key_at, same_key, item_key, item_at, rows_of, overlay, writes_key, present, items_from}
-use Rattle.si_model.specs.Evaluation.{evaluation_from, evaluation_of, AreWide, passes, found, writes_after, guards_after, with_reads, wrote, guarded, with_field, changed, field_of}
+use Rattle.si_model.specs.Rows.{Rows, key_at, same_key, item_key, item_at, rows_of, overlay, writes_key, present}
+use Rattle.si_model.specs.Rows.{items_from}
+use Rattle.si_model.specs.Evaluation.{evaluation_from, evaluation_of, AreWide, passes, found, writes_after}
+use Rattle.si_model.specs.Evaluation.{guards_after, with_reads, wrote, guarded, with_field, changed, field_of}
 use Rattle.si_model.proofs.EvaluationLemmas.{same_key-refl, same_key_says}
-use Rattle.namdb.specs.NamedRows.{has_key, is_between, keys_for, row_at, rows_at, rows_named}
+use Rattle.si_model.specs.Rows.{has_key}
+use Rattle.namdb.specs.NamedRows.{is_between, keys_for, row_at, rows_at, rows_named}
 use Rattle.namdb.specs.Serial.{claims_of}
 
 -- the first rows count, and then the others
-rows_of-row_at : (key : Key) (value : Option (List ℕ)) (rest : List Row) (k : Key) → rows_of (row_at key value ++ rest) k ≡ rows_of rest k ⊎ ((same_key key k ≡ true) × (rows_of (row_at key value ++ rest) k ≡ value))
+rows_of-row_at : (key : Key) (value : Option (List ℕ)) (rest : List Row) (k : Key)
+    → rows_of (row_at key value ++ rest) k ≡ rows_of rest k
+    ⊎ ((same_key key k ≡ true) × (rows_of (row_at key value ++ rest) k ≡ value))
 rows_of-row_at key None rest k = inl refl
 rows_of-row_at key (Some v) rest k =
     elim (cases_Bool (same_key key k)) [
@@ -33,7 +39,8 @@ rows_of-row_at key (Some v) rest k =
     ]
 
 -- a key holds nothing among the rows of some keys, or what it holds
-at_sound : (rows : Rows) (keys : List Key) (key : Key) → (rows_of (rows_at rows keys) key ≡ None) ⊎ (rows_of (rows_at rows keys) key ≡ rows key)
+at_sound : (rows : Rows) (keys : List Key) (key : Key) → (rows_of (rows_at rows keys) key ≡ None)
+    ⊎ (rows_of (rows_at rows keys) key ≡ rows key)
 at_sound rows [] key = inl refl
 at_sound rows (k ∷ ks) key =
     elim (rows_of-row_at k (rows k) (rows_at rows ks) key) [
@@ -41,16 +48,19 @@ at_sound rows (k ∷ ks) key =
       | inr here ↦ inr (here.1 ∙ ap rows (same_key_says k key here.0))
     ]
 
-row_first : (key : Key) (value : Option (List ℕ)) (rest : List Row) → (rows_of rest key ≡ None) ⊎ (rows_of rest key ≡ value) → rows_of (row_at key value ++ rest) key ≡ value
+row_first : (key : Key) (value : Option (List ℕ)) (rest : List Row) → (rows_of rest key ≡ None)
+    ⊎ (rows_of rest key ≡ value) → rows_of (row_at key value ++ rest) key ≡ value
 row_first key None rest sound = elim sound [ inl none ↦ none | inr held ↦ held ]
 row_first key (Some v) rest sound = rw (same_key-refl key) refl
 
 -- one of the keys holds there what it holds
-at_whole : (rows : Rows) (keys : List Key) (key : Key) → has_key keys key ≡ true → rows_of (rows_at rows keys) key ≡ rows key
+at_whole : (rows : Rows) (keys : List Key) (key : Key) → has_key keys key ≡ true
+    → rows_of (rows_at rows keys) key ≡ rows key
 at_whole rows [] key has = absurd (false≢true has)
 at_whole rows (k ∷ ks) key has =
     elim (cases_Bool (same_key k key)) [
-      | inl same ↦ subst (λ q. rows_of (row_at k (rows k) ++ rows_at rows ks) q ≡ rows q) (same_key_says k key same) (row_first k (rows k) (rows_at rows ks) (at_sound rows ks k))
+      | inl same ↦ subst (λ q. rows_of (row_at k (rows k) ++ rows_at rows ks) q ≡ rows q) (same_key_says k key same)
+          (row_first k (rows k) (rows_at rows ks) (at_sound rows ks k))
       | inr other ↦
           let rest : has_key ks key ≡ true = rw other at has in
           elim (rows_of-row_at k (rows k) (rows_at rows ks) key) [
@@ -64,11 +74,15 @@ none_is None none = refl
 none_is (Some v) none = absurd (false≢true (sym none))
 
 -- and so does one that is among the keys if it holds a row
-at_present : (rows : Rows) (keys : List Key) (key : Key) → (is_some (rows key) ≡ true → has_key keys key ≡ true) → rows_of (rows_at rows keys) key ≡ rows key
+at_present : (rows : Rows) (keys : List Key) (key : Key) → (is_some (rows key) ≡ true → has_key keys key ≡ true)
+    → rows_of (rows_at rows keys) key ≡ rows key
 at_present rows keys key has =
     elim (cases_Bool (is_some (rows key))) [
       | inl some ↦ at_whole rows keys key (has some)
-      | inr none ↦ elim (at_sound rows keys key) [ inl absent ↦ absent ∙ sym (none_is (rows key) none) | inr held ↦ held ]
+      | inr none ↦ elim (at_sound rows keys key) [
+        | inl absent ↦ absent ∙ sym (none_is (rows key) none)
+        | inr held ↦ held
+      ]
     ]
 
 -- ---- the keys of a list
@@ -92,7 +106,8 @@ contains_key [] key = refl
 contains_key (k ∷ ks) key = let rest = contains_key ks key in grind (arith, nat_tests)
 
 -- a key that is kept stays
-has_filter : (keeps : Key → Bool) (keys : List Key) (key : Key) → keeps key ≡ true → has_key keys key ≡ true → has_key (filter keeps keys) key ≡ true
+has_filter : (keeps : Key → Bool) (keys : List Key) (key : Key) → keeps key ≡ true → has_key keys key ≡ true
+    → has_key (filter keeps keys) key ≡ true
 has_filter keeps [] key kept has = absurd (false≢true has)
 has_filter keeps (k ∷ ks) key kept has =
     elim (cases_Bool (same_key k key)) [
@@ -101,15 +116,19 @@ has_filter keeps (k ∷ ks) key kept has =
           rw keeps_it (rw same refl)
       | inr other ↦
           let rest = has_filter keeps ks key kept (rw other at has) in
-          cond_both (keeps k) (k ∷ filter keeps ks) (filter keeps ks) (λ qs. has_key qs key ≡ true) (λ yes. rw other rest) (λ no. rest)
+          cond_both (keeps k) (k ∷ filter keeps ks) (filter keeps ks) (λ qs. has_key qs key ≡ true)
+          (λ yes. rw other rest) (λ no. rest)
     ]
 
 -- a range of keys has those of the table between its ends
-pub range_is : (keys : List Key) (first : Key) (high : ℕ) → filter (range_contains key_cmp (Included first) (Included (key_at first.table high))) keys ≡ filter (is_between first.table first.key high) keys
+pub range_is : (keys : List Key) (first : Key) (high : ℕ)
+    → filter (range_contains key_cmp (Included first) (Included (key_at first.table high))) keys
+    ≡ filter (is_between first.table first.key high) keys
 range_is [] first high = refl
 range_is (k ∷ ks) first high = rw (one k, range_is ks first high) refl
   where
-    one : (key : Key) → range_contains key_cmp (Included first) (Included (key_at first.table high)) key ≡ is_between first.table first.key high key
+    one : (key : Key) → range_contains key_cmp (Included first) (Included (key_at first.table high)) key
+        ≡ is_between first.table first.key high key
     one key = grind (arith, nat_tests)
 
 -- none is in a range whose end comes before its start
@@ -126,9 +145,11 @@ between t low high k above below = grind (arith, nat_tests)
 -- ---- rows that agree on what operations look at
 
 -- rows that agree at a key agree there under a write set
-pub overlay_agrees : (ws : List Item) (rows rows' : Rows) (key : Key) → rows key ≡ rows' key → overlay ws rows key ≡ overlay ws rows' key
+pub overlay_agrees : (ws : List Item) (rows rows' : Rows) (key : Key) → rows key ≡ rows' key
+    → overlay ws rows key ≡ overlay ws rows' key
 overlay_agrees [] rows rows' key same = same
-overlay_agrees (w ∷ ws) rows rows' key same = ap (λ v. cond (same_key (item_key w) key) w.value v) (overlay_agrees ws rows rows' key same)
+overlay_agrees (w ∷ ws) rows rows' key same =
+    ap (λ v. cond (same_key (item_key w) key) w.value v) (overlay_agrees ws rows rows' key same)
 
 -- the rows agree on what the operation looks at
 abbrev Agree : Rows → Rows → Op → Type 0
@@ -140,22 +161,28 @@ Agree rows rows' (Need t k f least) = rows (key_at t k) ≡ rows' (key_at t k)
 Agree rows rows' (Guard t k) = rows (key_at t k) ≡ rows' (key_at t k)
 Agree rows rows' (Scan t low high) = (k : ℕ) → low ≤ k → k ≤ high → rows (key_at t k) ≡ rows' (key_at t k)
 
-overlay_agree : (ws : List Item) (rows rows' : Rows) (op : Op) → Agree rows rows' op → Agree (overlay ws rows) (overlay ws rows') op
+overlay_agree : (ws : List Item) (rows rows' : Rows) (op : Op) → Agree rows rows' op
+    → Agree (overlay ws rows) (overlay ws rows') op
 overlay_agree ws rows rows' (Get t k) same = overlay_agrees ws rows rows' (key_at t k) same
 overlay_agree ws rows rows' (Put t k v) same = overlay_agrees ws rows rows' (key_at t k) same
 overlay_agree ws rows rows' (Add t k f up by) same = overlay_agrees ws rows rows' (key_at t k) same
 overlay_agree ws rows rows' (Del t k) same = overlay_agrees ws rows rows' (key_at t k) same
 overlay_agree ws rows rows' (Need t k f least) same = overlay_agrees ws rows rows' (key_at t k) same
 overlay_agree ws rows rows' (Guard t k) same = overlay_agrees ws rows rows' (key_at t k) same
-overlay_agree ws rows rows' (Scan t low high) same = λ k above below. overlay_agrees ws rows rows' (key_at t k) (same k above below)
+overlay_agree ws rows rows' (Scan t low high) same =
+    λ k above below. overlay_agrees ws rows rows' (key_at t k) (same k above below)
 
-items_agree : (copy copy' : Rows) (t low n : ℕ) → ((k : ℕ) → low ≤ k → k < low + n → copy (key_at t k) ≡ copy' (key_at t k)) → items_from copy t low n ≡ items_from copy' t low n
+items_agree : (copy copy' : Rows) (t low n : ℕ)
+    → ((k : ℕ) → low ≤ k → k < low + n → copy (key_at t k) ≡ copy' (key_at t k))
+    → items_from copy t low n ≡ items_from copy' t low n
 unfolding items_from
 items_agree copy copy' t low zero same = refl
 items_agree copy copy' t low (suc n) same =
     let first = same low (omega arith) (omega arith) in
-    let rest = items_agree copy copy' t (low + 1) n (λ k above below. same k (omega (arith, above)) (omega (arith, below))) in
-    ap (λ v. present (key_at t low) v ++ items_from copy t (low + 1) n) first ∙ ap (λ is. present (key_at t low) (copy' (key_at t low)) ++ is) rest
+    let rest = items_agree copy copy' t (low + 1) n
+    (λ k above below. same k (omega (arith, above)) (omega (arith, below))) in
+    ap (λ v. present (key_at t low) v ++ items_from copy t (low + 1) n) first
+    ∙ ap (λ is. present (key_at t low) (copy' (key_at t low)) ++ is) rest
 
 -- what an operation does depends on what it looks at alone
 module _ (widths : List ℕ) (copy copy' : Rows) where
@@ -175,9 +202,11 @@ module _ (widths : List ℕ) (copy copy' : Rows) where
   found_agrees (Del t k) same = refl
   found_agrees (Need t k f least) same = rw same refl
   found_agrees (Guard t k) same = rw same refl
-  found_agrees (Scan t low high) same = items_agree copy copy' t low (high + 1 - low) (λ k above below. same k above (omega (arith, above, below)))
+  found_agrees (Scan t low high) same =
+      items_agree copy copy' t low (high + 1 - low) (λ k above below. same k above (omega (arith, above, below)))
 
-  writes_agree : (op : Op) (ws : List Item) → Agree copy copy' op → writes_after widths op copy ws ≡ writes_after widths op copy' ws
+  writes_agree : (op : Op) (ws : List Item) → Agree copy copy' op
+      → writes_after widths op copy ws ≡ writes_after widths op copy' ws
   writes_agree (Get t k) ws same = refl
   writes_agree (Put t k v) ws same = refl
   writes_agree (Add t k f up by) ws same = rw same refl
@@ -186,7 +215,9 @@ module _ (widths : List ℕ) (copy copy' : Rows) where
   writes_agree (Guard t k) ws same = refl
   writes_agree (Scan t low high) ws same = refl
 
-evaluation_agrees : (widths : List ℕ) (rows rows' : Rows) (n : ℕ) (ws : List Item) (gs : List Key) (ops : List Op) → AllByRecursion (Agree rows rows') ops → evaluation_from widths rows n ws gs ops ≡ evaluation_from widths rows' n ws gs ops
+evaluation_agrees : (widths : List ℕ) (rows rows' : Rows) (n : ℕ) (ws : List Item) (gs : List Key) (ops : List Op)
+    → AllByRecursion (Agree rows rows') ops
+    → evaluation_from widths rows n ws gs ops ≡ evaluation_from widths rows' n ws gs ops
 evaluation_agrees widths rows rows' n ws gs [] agree = refl
 evaluation_agrees widths rows rows' n ws gs (op ∷ ops) agree =
     let same = overlay_agree ws rows rows' op agree.0 in
@@ -194,7 +225,8 @@ evaluation_agrees widths rows rows' n ws gs (op ∷ ops) agree =
       passes_agrees widths (overlay ws rows) (overlay ws rows') op same,
       found_agrees widths (overlay ws rows) (overlay ws rows') op same,
       writes_agree widths (overlay ws rows) (overlay ws rows') op ws same,
-      evaluation_agrees widths rows rows' (n + 1) (writes_after widths op (overlay ws rows') ws) (guards_after op gs) ops agree.1,
+      evaluation_agrees widths rows rows' (n + 1) (writes_after widths op (overlay ws rows') ws) (guards_after op gs)
+          ops agree.1,
     ) refl
 
 -- ---- the rows of the keys that operations may look at
@@ -203,24 +235,32 @@ evaluation_agrees widths rows rows' n ws gs (op ∷ ops) agree =
 abbrev pub AreAmong : List Key → Rows → Type 0
 AreAmong keys rows = (key : Key) → is_some (rows key) ≡ true → has_key keys key ≡ true
 
-named_at : (keys : List Key) (rows : Rows) (ops : List Op) → rows_named keys rows ops ≡ rows_at rows (flat_map (keys_for keys) ops)
+named_at : (keys : List Key) (rows : Rows) (ops : List Op)
+    → rows_named keys rows ops ≡ rows_at rows (flat_map (keys_for keys) ops)
 named_at keys rows [] = refl
 named_at keys rows (op ∷ ops) =
     ap (λ rs. rows_at rows (keys_for keys op) ++ rs) (named_at keys rows ops)
     ∙ sym (flat_map-append (λ key. row_at key (rows key)) (keys_for keys op) (flat_map (keys_for keys) ops))
 
 module _ (keys : List Key) (rows : Rows) (among : AreAmong keys rows) where
-  op_agrees : (all : List Key) (op : Op) → ((key : Key) → has_key (keys_for keys op) key ≡ true → has_key all key ≡ true) → Agree (rows_of (rows_at rows all)) rows op
+  op_agrees : (all : List Key) (op : Op) → ((key : Key) → has_key (keys_for keys op) key ≡ true
+      → has_key all key ≡ true) → Agree (rows_of (rows_at rows all)) rows op
   op_agrees all (Get t k) within = at_whole rows all (key_at t k) (within (key_at t k) (has_first (key_at t k) []))
   op_agrees all (Put t k v) within = at_whole rows all (key_at t k) (within (key_at t k) (has_first (key_at t k) []))
-  op_agrees all (Add t k f up by) within = at_whole rows all (key_at t k) (within (key_at t k) (has_first (key_at t k) []))
+  op_agrees all (Add t k f up by) within =
+      at_whole rows all (key_at t k) (within (key_at t k) (has_first (key_at t k) []))
   op_agrees all (Del t k) within = at_whole rows all (key_at t k) (within (key_at t k) (has_first (key_at t k) []))
-  op_agrees all (Need t k f least) within = at_whole rows all (key_at t k) (within (key_at t k) (has_first (key_at t k) []))
+  op_agrees all (Need t k f least) within =
+      at_whole rows all (key_at t k) (within (key_at t k) (has_first (key_at t k) []))
   op_agrees all (Guard t k) within = at_whole rows all (key_at t k) (within (key_at t k) (has_first (key_at t k) []))
   op_agrees all (Scan t low high) within = λ k above below.
-      at_present rows all (key_at t k) (λ some. within (key_at t k) (has_filter (is_between t low high) keys (key_at t k) (between t low high k above below) (among (key_at t k) some)))
+      at_present rows all (key_at t k) (λ some.
+      within (key_at t k) (has_filter (is_between t low high) keys (key_at t k) (between t low high k above below)
+      (among (key_at t k) some)))
 
-  ops_agree : (all : List Key) (ops : List Op) → ((key : Key) → has_key (flat_map (keys_for keys) ops) key ≡ true → has_key all key ≡ true) → AllByRecursion (Agree (rows_of (rows_at rows all)) rows) ops
+  ops_agree : (all : List Key) (ops : List Op)
+      → ((key : Key) → has_key (flat_map (keys_for keys) ops) key ≡ true → has_key all key ≡ true)
+      → AllByRecursion (Agree (rows_of (rows_at rows all)) rows) ops
   ops_agree all [] within = tt
   ops_agree all (op ∷ ops) within =
       let rest = flat_map (keys_for keys) ops in (
@@ -229,14 +269,16 @@ module _ (keys : List Key) (rows : Rows) (among : AreAmong keys rows) where
       )
 
   -- they serve as well as all
-  pub evaluation_named : (widths : List ℕ) (ops : List Op) → evaluation_of widths (rows_of (rows_named keys rows ops)) ops ≡ evaluation_of widths rows ops
+  pub evaluation_named : (widths : List ℕ) (ops : List Op)
+      → evaluation_of widths (rows_of (rows_named keys rows ops)) ops ≡ evaluation_of widths rows ops
   evaluation_named widths ops =
       let all = flat_map (keys_for keys) ops in
       ap (λ rs. evaluation_of widths (rows_of rs) ops) (named_at keys rows ops)
       ∙ evaluation_agrees widths (rows_of (rows_at rows all)) rows 1 [] [] ops (ops_agree all ops (λ key has. has))
 
 -- and have the tables' widths
-pub wide_named : (widths : List ℕ) (keys : List Key) (rows : Rows) (ops : List Op) → AreWide widths rows → AreWide widths (rows_of (rows_named keys rows ops))
+pub wide_named : (widths : List ℕ) (keys : List Key) (rows : Rows) (ops : List Op) → AreWide widths rows
+    → AreWide widths (rows_of (rows_named keys rows ops))
 wide_named widths keys rows ops wide =
     subst (λ rs. AreWide widths (rows_of rs)) (sym (named_at keys rows ops)) (λ key.
     elim (at_sound rows (flat_map (keys_for keys) ops) key) [
@@ -253,7 +295,8 @@ length-wrote : (ws : List Item) (i : Item) → length (wrote ws i) ≤ length ws
 length-wrote [] i = omega arith
 length-wrote (w ∷ ws) i = by_test (same_key (item_key w) (item_key i)) (length-wrote ws i)
   where
-    by_test : (b : Bool) → length (wrote ws i) ≤ length ws + 1 → length (cond b (i ∷ ws) (w ∷ wrote ws i)) ≤ length (w ∷ ws) + 1
+    by_test : (b : Bool) → length (wrote ws i) ≤ length ws + 1
+        → length (cond b (i ∷ ws) (w ∷ wrote ws i)) ≤ length (w ∷ ws) + 1
     by_test true rest = omega arith
     by_test false rest = omega (arith, rest)
 
@@ -261,32 +304,50 @@ length-guarded : (gs : List Key) (key : Key) → length (guarded gs key) ≤ len
 length-guarded [] key = omega arith
 length-guarded (g ∷ gs) key = by_test (same_key g key) (length-guarded gs key)
   where
-    by_test : (b : Bool) → length (guarded gs key) ≤ length gs + 1 → length (cond b (g ∷ gs) (g ∷ guarded gs key)) ≤ length (g ∷ gs) + 1
+    by_test : (b : Bool) → length (guarded gs key) ≤ length gs + 1
+        → length (cond b (g ∷ gs) (g ∷ guarded gs key)) ≤ length (g ∷ gs) + 1
     by_test true rest = omega arith
     by_test false rest = omega (arith, rest)
 
-length-claims : (widths : List ℕ) (op : Op) (copy : Rows) (ws : List Item) (gs : List Key) → length (writes_after widths op copy ws) + length (guards_after op gs) ≤ length ws + length gs + 1
+length-claims : (widths : List ℕ) (op : Op) (copy : Rows) (ws : List Item) (gs : List Key)
+    → length (writes_after widths op copy ws) + length (guards_after op gs) ≤ length ws + length gs + 1
 length-claims widths (Get t k) copy ws gs = omega arith
 length-claims widths (Put t k v) copy ws gs = omega (arith, length-wrote ws (item_at (key_at t k) (Some v)))
-length-claims widths (Add t k f up by) copy ws gs = omega (arith, length-wrote ws (item_at (key_at t k) (Some (with_field (slice_index widths t) (copy (key_at t k)) f (changed up (field_of (copy (key_at t k)) f) by)))))
+length-claims widths (Add t k f up by) copy ws gs =
+    omega (
+      arith,
+      length-wrote ws
+          (item_at (key_at t k)
+          (Some (with_field (slice_index widths t) (copy (key_at t k)) f
+          (changed up (field_of (copy (key_at t k)) f) by)))),
+    )
 length-claims widths (Del t k) copy ws gs = omega (arith, length-wrote ws (item_at (key_at t k) None))
 length-claims widths (Need t k f least) copy ws gs = omega arith
 length-claims widths (Guard t k) copy ws gs = omega (arith, length-guarded gs (key_at t k))
 length-claims widths (Scan t low high) copy ws gs = omega arith
 
-claims_test : (n : ℕ) (b : Bool) (is : List Item) (e : Evaluated) (k : ℕ) → claims_of e ≤ k → claims_of (cond b (with_reads is e) (Declined n is)) ≤ k
+claims_test : (n : ℕ) (b : Bool) (is : List Item) (e : Evaluated) (k : ℕ) → claims_of e ≤ k
+    → claims_of (cond b (with_reads is e) (Declined n is)) ≤ k
 claims_test n true is e k few = omega (arith, few, claims-with_reads is e)
 claims_test n false is e k few = omega arith
 
-claims_from : (widths : List ℕ) (rows : Rows) (n : ℕ) (ws : List Item) (gs : List Key) (ops : List Op) → claims_of (evaluation_from widths rows n ws gs ops) ≤ length ws + length gs + length ops
-claims_from widths rows n ws gs [] = omega (arith, length-filter (λ key. not (writes_key ws key)) gs, count_by-le-length (λ key. not (writes_key ws key)) gs)
+claims_from : (widths : List ℕ) (rows : Rows) (n : ℕ) (ws : List Item) (gs : List Key) (ops : List Op)
+    → claims_of (evaluation_from widths rows n ws gs ops) ≤ length ws + length gs + length ops
+claims_from widths rows n ws gs [] =
+    omega (
+      arith,
+      length-filter (λ key. not (writes_key ws key)) gs,
+      count_by-le-length (λ key. not (writes_key ws key)) gs,
+    )
 claims_from widths rows n ws gs (op ∷ ops) =
     let copy = overlay ws rows in
     let rest = evaluation_from widths rows (n + 1) (writes_after widths op copy ws) (guards_after op gs) ops in
     let more = claims_from widths rows (n + 1) (writes_after widths op copy ws) (guards_after op gs) ops in
-    claims_test n (passes op copy) (found op copy) rest (length ws + length gs + length (op ∷ ops)) (omega (arith, more, length-claims widths op copy ws gs))
+    claims_test n (passes op copy) (found op copy) rest (length ws + length gs + length (op ∷ ops))
+    (omega (arith, more, length-claims widths op copy ws gs))
 
-pub claims_few : (widths : List ℕ) (rows : Rows) (ops : List Op) → claims_of (evaluation_of widths rows ops) ≤ length ops
+pub claims_few : (widths : List ℕ) (rows : Rows) (ops : List Op)
+    → claims_of (evaluation_of widths rows ops) ≤ length ops
 claims_few widths rows ops = omega (arith, claims_from widths rows 1 [] [] ops)
 
 -- what holds of a value holds of an Ok that is it

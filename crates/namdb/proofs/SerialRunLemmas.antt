@@ -1,5 +1,7 @@
 -- A worker's transactions one after another, and all workers: the serial run is a run.
-use Rattle.std.proofs.Common.{◌≡◌, ℕ, zero, suc, ◌+◌, ◌<◌, ◌≤◌, Bool, true, false, cond, List, [], ◌∷◌, ◌++◌, length, map, refl, ap, sym, ◌∙◌, subst, arith, append_assoc, append-nil, zero-add, inl, inr, length-append}
+use Rattle.std.proofs.Common.{◌≡◌, ℕ, zero, suc, ◌+◌, ◌<◌, ◌≤◌, Bool, true, false, cond, List, [], ◌∷◌, ◌++◌, length}
+use Rattle.std.proofs.Common.{map, refl, ap, sym, ◌∙◌, subst, arith, append_assoc, append-nil, zero-add, inl, inr}
+use Rattle.std.proofs.Common.{length-append}
 use Rattle.std.specs.Prelude.{filter, ◌==◌, ◌&&◌}
 use Rattle.std.specs.List.{AllByRecursion}
 use Rattle.std.proofs.Math.Seq.{take-append_seam, drop-append_seam}
@@ -19,13 +21,16 @@ use Rattle.si_model.specs.Knowledge.{AreAtMost, SeesForward}
 use Rattle.si_model.specs.Answers.{AnswersMatch}
 use Rattle.si_model.specs.Causes.{HaveCausesAfter}
 use Rattle.si_model.specs.Run.{times_listed, is_listed_as}
-use Rattle.namdb.specs.Serial.{writes_by, entry_by, evaluated_after, tell_after, entry_after, tells_after, history_after, log_of, logs_after, end_after}
+use Rattle.namdb.specs.Serial.{writes_by, entry_by, evaluated_after, tell_after, entry_after, tells_after}
+use Rattle.namdb.specs.Serial.{history_after, log_of, logs_after, end_after}
 use Rattle.namdb.proofs.HistoryLemmas.{count_of-append, count_of-own, at_most-refl}
-use Rattle.namdb.proofs.SerialLemmas.{by_outcome, told, answers_after, sees_after, known_then, caused_after, last_number_then}
+use Rattle.namdb.proofs.SerialLemmas.{by_outcome, told, answers_after, sees_after, known_then, caused_after}
+use Rattle.namdb.proofs.SerialLemmas.{last_number_then}
 
 module _ (s : Setting) (j : ℕ) where
   -- the history only grows
-  pub history_grows : (history : List CommitLine) (xs : List ℕ) → (more : List CommitLine) × (history_after s j history xs ≡ history ++ more)
+  pub history_grows : (history : List CommitLine) (xs : List ℕ) → (more : List CommitLine)
+      × (history_after s j history xs ≡ history ++ more)
   history_grows history [] = ([], sym (append-nil history))
   history_grows history (x ∷ xs) =
       let rest = history_grows (history ++ entry_after s j history x) xs in
@@ -36,32 +41,50 @@ module _ (s : Setting) (j : ℕ) where
     view = by_history (rows_of s.rows) s.workers s.start final
 
     -- the final history, seen from the next attempt
-    from_next : (history : List CommitLine) (x : ℕ) (xs : List ℕ) (more : List CommitLine) → final ≡ history_after s j history (x ∷ xs) ++ more → (rest : List CommitLine) × (final ≡ history ++ entry_after s j history x ++ rest)
+    from_next : (history : List CommitLine) (x : ℕ) (xs : List ℕ) (more : List CommitLine)
+        → final ≡ history_after s j history (x ∷ xs) ++ more → (rest : List CommitLine)
+        × (final ≡ history ++ entry_after s j history x ++ rest)
     from_next history x xs more longer =
-        let grown = history_grows (history ++ entry_after s j history x) xs in
-        (grown.0 ++ more, longer ∙ ap (λ h. h ++ more) grown.1 ∙ append_assoc (history ++ entry_after s j history x) grown.0 more)
+        let grown = history_grows (history ++ entry_after s j history x) xs in (
+          grown.0 ++ more,
+          longer ∙ ap (λ h. h ++ more) grown.1
+              ∙ append_assoc (history ++ entry_after s j history x) grown.0 more,
+        )
 
-    pub answers_all : (history : List CommitLine) (xs : List ℕ) (more : List CommitLine) → final ≡ history_after s j history xs ++ more → AnswersMatch s (by_script s) view j (tells_after s j history xs)
+    pub answers_all : (history : List CommitLine) (xs : List ℕ) (more : List CommitLine)
+        → final ≡ history_after s j history xs ++ more
+        → AnswersMatch s (by_script s) view j (tells_after s j history xs)
     answers_all history [] more longer = tt
     answers_all history (x ∷ xs) more longer =
-        let next = from_next history x xs more longer in
-        (answers_after s j history x final next.0 next.1, answers_all (history ++ entry_after s j history x) xs more longer)
+        let next = from_next history x xs more longer in (
+          answers_after s j history x final next.0 next.1,
+          answers_all (history ++ entry_after s j history x) xs more longer,
+        )
 
-    pub sees_all : 1 ≤ j → j ≤ s.workers → (history : List CommitLine) (xs : List ℕ) (more : List CommitLine) (known : List ℕ) → final ≡ history_after s j history xs ++ more → AreAtMost known (entries_at s.workers s.start history) → SeesForward view j known (tells_after s j history xs)
+    pub sees_all : 1 ≤ j → j ≤ s.workers → (history : List CommitLine) (xs : List ℕ) (more : List CommitLine)
+        (known : List ℕ) → final ≡ history_after s j history xs ++ more
+        → AreAtMost known (entries_at s.workers s.start history)
+        → SeesForward view j known (tells_after s j history xs)
     sees_all low high history [] more known longer most = tt
     sees_all low high history (x ∷ xs) more known longer most =
         let next = from_next history x xs more longer in (
           sees_after s j history x final next.0 next.1 known most,
-          subst (λ k. SeesForward view j k (tells_after s j (history ++ entry_after s j history x) xs)) (sym (known_then s j history x final next.0 next.1 known low high))
-              (sees_all low high (history ++ entry_after s j history x) xs more (entries_at s.workers s.start (history ++ entry_after s j history x)) longer (at_most-refl _)),
+          subst (λ k. SeesForward view j k (tells_after s j (history ++ entry_after s j history x) xs))
+              (sym (known_then s j history x final next.0 next.1 known low high))
+              (sees_all low high (history ++ entry_after s j history x) xs more
+              (entries_at s.workers s.start (history ++ entry_after s j history x)) longer (at_most-refl _)),
         )
 
-    pub causes_all : (tss : List (List Tell)) (history : List CommitLine) (xs : List ℕ) (more : List CommitLine) (done : List Tell) → final ≡ history_after s j history xs ++ more → last_number s.start done ≡ s.start + count_of j history → HaveCausesAfter s view tss j done (tells_after s j history xs)
+    pub causes_all : (tss : List (List Tell)) (history : List CommitLine) (xs : List ℕ) (more : List CommitLine)
+        (done : List Tell) → final ≡ history_after s j history xs ++ more
+        → last_number s.start done ≡ s.start + count_of j history
+        → HaveCausesAfter s view tss j done (tells_after s j history xs)
     causes_all tss history [] more done longer number = tt
     causes_all tss history (x ∷ xs) more done longer number =
         let next = from_next history x xs more longer in (
           caused_after s j history x final next.0 next.1 tss done number,
-          causes_all tss (history ++ entry_after s j history x) xs more (done ++ tell_after s j history x ∷ []) longer (last_number_then s j history x done number),
+          causes_all tss (history ++ entry_after s j history x) xs more (done ++ tell_after s j history x ∷ []) longer
+              (last_number_then s j history x done number),
         )
 
 -- what a log tells that was made of these: each takes its own items
@@ -69,12 +92,20 @@ module _ (s : Setting) (j : ℕ) where
   abbrev events_of : List CommitLine → List ℕ → List Event
   events_of history xs = map (λ t. t.event) (tells_after s j history xs)
 
-  pub tells_back : (history : List CommitLine) (xs : List ℕ) → tells_of s.jobs (log_of (tells_after s j history xs)) ≡ tells_after s j history xs
+  pub tells_back : (history : List CommitLine) (xs : List ℕ)
+      → tells_of s.jobs (log_of (tells_after s j history xs)) ≡ tells_after s j history xs
   tells_back history [] = refl
   tells_back history (x ∷ xs) =
       let rest = log_of (tells_after s j (history ++ entry_after s j history x) xs) in
       let t = tell_after s j history x in
-      rw (take-append_seam t.reads rest.reads, drop-append_seam t.reads rest.reads, take-append_seam t.locks rest.locks, drop-append_seam t.locks rest.locks, take-append_seam t.writes rest.writes, drop-append_seam t.writes rest.writes)
+      rw (
+        take-append_seam t.reads rest.reads,
+        drop-append_seam t.reads rest.reads,
+        take-append_seam t.locks rest.locks,
+        drop-append_seam t.locks rest.locks,
+        take-append_seam t.writes rest.writes,
+        drop-append_seam t.writes rest.writes,
+      )
       (ap (λ us. t ∷ us) (tells_back (history ++ entry_after s j history x) xs))
 
 -- are the two lines of one commit
@@ -85,7 +116,8 @@ abbrev pub times_in : CommitLine → List CommitLine → ℕ
 times_in e history = length (filter (same_line e) history)
 
 times_in-append : (e : CommitLine) (xs ys : List CommitLine) → times_in e (xs ++ ys) ≡ times_in e xs + times_in e ys
-times_in-append e xs ys = ap length (filter-append (same_line e) xs ys) ∙ length-append (filter (same_line e) xs) (filter (same_line e) ys)
+times_in-append e xs ys = ap length (filter-append (same_line e) xs ys)
+    ∙ length-append (filter (same_line e) xs) (filter (same_line e) ys)
 
 -- one element passes or not, whatever it is
 one_passes : {A B : Type 0} (b : Bool) (x : A) (y : B) → length (cond b (x ∷ []) []) ≡ length (cond b (y ∷ []) [])
@@ -94,28 +126,44 @@ one_passes false x y = refl
 
 module _ (s : Setting) (j : ℕ) (e : CommitLine) where
   -- an attempt lists the line as often as it adds it
-  listed_one : (history : List CommitLine) (x : ℕ) → length (filter (is_listed_as e j) (tell_after s j history x ∷ [])) ≡ times_in e (entry_after s j history x)
+  listed_one : (history : List CommitLine) (x : ℕ)
+      → length (filter (is_listed_as e j) (tell_after s j history x ∷ [])) ≡ times_in e (entry_after s j history x)
   listed_one history x =
-      by_outcome (λ v o. length (filter (is_listed_as e j) (told s j history x v o ∷ [])) ≡ times_in e (entry_by j x (length history) (writes_by v o) o)) s.greatest (s.start + count_of j history) (evaluated_after s j history x)
+      by_outcome (λ v o. length (filter (is_listed_as e j) (told s j history x v o ∷ []))
+      ≡ times_in e (entry_by j x (length history) (writes_by v o) o)) s.greatest (s.start + count_of j history)
+      (evaluated_after s j history x)
       (λ op reads. grind (arith, nat_tests))
       (λ reads guards. grind (arith, nat_tests))
       (λ reads ws w guards l. grind (arith, nat_tests))
       (λ reads ws w guards.
-      let line : CommitLine = record { worker = j; number = s.start + count_of j history + 1; prefix = length history; txn = x; writes = w ∷ ws } in
-      one_passes (same_line e line) (told s j history x (Done reads (w ∷ ws) guards) (Commit (s.start + count_of j history + 1))) line)
+      let line : CommitLine = record {
+        worker = j;
+        number = s.start + count_of j history + 1;
+        prefix = length history;
+        txn = x;
+        writes = w ∷ ws;
+      } in
+      one_passes (same_line e line) (told s j history x (Done reads (w ∷ ws) guards)
+      (Commit (s.start + count_of j history + 1))) line)
 
   -- all its attempts list the line as often as the history has gained it
-  listed_all : (history : List CommitLine) (xs : List ℕ) → length (filter (is_listed_as e j) (tells_after s j history xs)) + times_in e history ≡ times_in e (history_after s j history xs)
+  listed_all : (history : List CommitLine) (xs : List ℕ)
+      → length (filter (is_listed_as e j) (tells_after s j history xs)) + times_in e history
+      ≡ times_in e (history_after s j history xs)
   listed_all history [] = zero-add _
   listed_all history (x ∷ xs) =
       let one = listed_one history x in
       let rest = listed_all (history ++ entry_after s j history x) xs in
-      let both = ap length (filter-append (is_listed_as e j) (tell_after s j history x ∷ []) (tells_after s j (history ++ entry_after s j history x) xs))
-      ∙ length-append (filter (is_listed_as e j) (tell_after s j history x ∷ [])) (filter (is_listed_as e j) (tells_after s j (history ++ entry_after s j history x) xs)) in
+      let both = ap length (filter-append (is_listed_as e j) (tell_after s j history x ∷ [])
+      (tells_after s j (history ++ entry_after s j history x) xs))
+      ∙ length-append (filter (is_listed_as e j) (tell_after s j history x ∷ []))
+      (filter (is_listed_as e j) (tells_after s j (history ++ entry_after s j history x) xs)) in
       omega (arith, one, rest, both, times_in-append e history (entry_after s j history x))
 
 -- the workers from j on list the line as often as the history gains it
-pub times_after : (s : Setting) (e : CommitLine) (j : ℕ) (history : List CommitLine) (n : ℕ) → times_listed e j (map (tells_of s.jobs) (logs_after s j history n)) + times_in e history ≡ times_in e (end_after s j history n)
+pub times_after : (s : Setting) (e : CommitLine) (j : ℕ) (history : List CommitLine) (n : ℕ)
+    → times_listed e j (map (tells_of s.jobs) (logs_after s j history n)) + times_in e history
+    ≡ times_in e (end_after s j history n)
 times_after s e j history zero = zero-add _
 times_after s e j history (suc n) =
     let xs = txns_of j s.owners in
@@ -127,11 +175,13 @@ pub record IsOnce (start : ℕ) (history : List CommitLine) (e : CommitLine) : T
   pub once : times_in e history ≡ 1
   pub within : e.number ≤ start + count_of e.worker history
 
-all_snoc : {A : Type 0} (P : A → Type 0) (xs : List A) (x : A) → AllByRecursion P xs → P x → AllByRecursion P (xs ++ x ∷ [])
+all_snoc : {A : Type 0} (P : A → Type 0) (xs : List A) (x : A) → AllByRecursion P xs → P x
+    → AllByRecursion P (xs ++ x ∷ [])
 all_snoc P [] x all one = (one, tt)
 all_snoc P (y ∷ ys) x all one = (all.0, all_snoc P ys x all.1 one)
 
-pub all_map : {A : Type 0} (P Q : A → Type 0) (xs : List A) → ((x : A) → P x → Q x) → AllByRecursion P xs → AllByRecursion Q xs
+pub all_map : {A : Type 0} (P Q : A → Type 0) (xs : List A) → ((x : A) → P x → Q x) → AllByRecursion P xs
+    → AllByRecursion Q xs
 all_map P Q [] f all = tt
 all_map P Q (y ∷ ys) f all = (f y all.0, all_map P Q ys f all.1)
 
@@ -157,25 +207,44 @@ other_line_above c e above =
     ]
 
 same_self : (c : CommitLine) → same_line c c ≡ true
-same_self c = rw (eq-eqb c.worker c.worker refl, eq-eqb c.number c.number refl, eq-eqb c.prefix c.prefix refl, eq-eqb c.txn c.txn refl) refl
+same_self c =
+    rw (
+      eq-eqb c.worker c.worker refl,
+      eq-eqb c.number c.number refl,
+      eq-eqb c.prefix c.prefix refl,
+      eq-eqb c.txn c.txn refl,
+    ) refl
 
-none_same : (start : ℕ) (history lines : List CommitLine) (c : CommitLine) → AllByRecursion (λ e. e.number ≤ start + count_of e.worker history) lines → c.number ≡ start + count_of c.worker history + 1 → times_in c lines ≡ 0
+none_same : (start : ℕ) (history lines : List CommitLine) (c : CommitLine)
+    → AllByRecursion (λ e. e.number ≤ start + count_of e.worker history) lines
+    → c.number ≡ start + count_of c.worker history + 1 → times_in c lines ≡ 0
 none_same start history [] c within number = refl
 none_same start history (e ∷ es) c within number =
-    let differ : same_line c e ≡ false = other_line_above c e (λ w. let high = within.0 in omega (arith, number, high, ap (λ v. count_of v history) w)) in
+    let differ : same_line c e ≡ false =
+    other_line_above c e (λ w. let high = within.0 in omega (arith, number, high, ap (λ v. count_of v history) w))
+    in
     rw differ (none_same start history es c within.1 number)
 
-pub once_more : (start : ℕ) (history : List CommitLine) (c : CommitLine) → AllByRecursion (IsOnce start history) history → c.number ≡ start + count_of c.worker history + 1 → AllByRecursion (IsOnce start (history ++ c ∷ [])) (history ++ c ∷ [])
+pub once_more : (start : ℕ) (history : List CommitLine) (c : CommitLine) → AllByRecursion (IsOnce start history) history
+    → c.number ≡ start + count_of c.worker history + 1
+    → AllByRecursion (IsOnce start (history ++ c ∷ [])) (history ++ c ∷ [])
 once_more start history c once number =
     let stays : (e : CommitLine) → IsOnce start history e → IsOnce start (history ++ c ∷ []) e = λ e o. record {
       once =
           let high = o.within in
-          let differ : same_line e c ≡ false = other_line e c (λ w. omega (arith, number, high, ap (λ v. count_of v history) w)) in
-          times_in-append e history (c ∷ []) ∙ ap (λ n. n + times_in e (c ∷ [])) o.once ∙ ap (λ b. 1 + length (cond b (c ∷ []) [])) differ;
+          let differ : same_line e c ≡ false =
+          other_line e c (λ w. omega (arith, number, high, ap (λ v. count_of v history) w)) in
+          times_in-append e history (c ∷ []) ∙ ap (λ n. n + times_in e (c ∷ [])) o.once
+          ∙ ap (λ b. 1 + length (cond b (c ∷ []) [])) differ;
       within = omega (arith, o.within, count_of-append e.worker history (c ∷ []));
     } in
-    let within = all_map (IsOnce start history) (λ e. e.number ≤ start + count_of e.worker history) history (λ e o. o.within) once in
-    all_snoc (IsOnce start (history ++ c ∷ [])) history c (all_map (IsOnce start history) (IsOnce start (history ++ c ∷ [])) history stays once) (record {
-      once = times_in-append c history (c ∷ []) ∙ ap (λ n. n + times_in c (c ∷ [])) (none_same start history history c within number) ∙ ap (λ b. 0 + length (cond b (c ∷ []) [])) (same_self c);
+    let within =
+    all_map (IsOnce start history) (λ e. e.number ≤ start + count_of e.worker history) history (λ e o. o.within)
+    once in
+    all_snoc (IsOnce start (history ++ c ∷ [])) history c
+    (all_map (IsOnce start history) (IsOnce start (history ++ c ∷ [])) history stays once) (record {
+      once = times_in-append c history (c ∷ [])
+          ∙ ap (λ n. n + times_in c (c ∷ [])) (none_same start history history c within number)
+          ∙ ap (λ b. 0 + length (cond b (c ∷ []) [])) (same_self c);
       within = omega (arith, number, count_of-own c.worker history c refl);
     })

@@ -2,7 +2,7 @@
 use Rattle.std.specs.Prelude.{◌≡◌, ℕ, List, ◌⊎◌, Option, ⊤}
 use Rattle.std.specs.Io.KnownBytes.{Appends}
 use Rattle.nam_io.specs.Faults.{Rose}
-use Rattle.nam_io.specs.Told.{AppendsFront}
+use Rattle.nam_io.specs.Fronts.{AppendsFront}
 use Rattle.namdb.specs.declared.status.Status.{Status}
 use Rattle.namdb.specs.declared.status.Status.TheVariants.{Done, BadScript, WriteFault, Memory}
 use Rattle.namdb.specs.Headline.{IsBadScript}

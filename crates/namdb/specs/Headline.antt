@@ -1,8 +1,9 @@
 -- What the program promises of its words, its input and what it writes.
-use Rattle.std.specs.Prelude.{◌≡◌, ◌≤◌, ◌<◌, ◌⊎◌, ℕ, List, [], length, codes, IfSome, slice_get, Result, Ok, Err, Option, Some, None, String, string_bytes, ⊤}
+use Rattle.std.specs.Prelude.{◌≡◌, ◌≤◌, ◌<◌, ◌⊎◌, ℕ, List, [], length, codes, IfSome, slice_get, Result, Ok, Err}
+use Rattle.std.specs.Prelude.{Option, Some, None, String, string_bytes, ⊤}
 use Rattle.std.specs.declared.alloc.Global.{Global}
 use Rattle.nam_io.specs.Faults.{Rose}
-use Rattle.nam_io.specs.Told.{LosesFront}
+use Rattle.nam_io.specs.Fronts.{LosesFront}
 use Rattle.si_model.specs.declared.report.Report.{Report}
 use Rattle.si_model.specs.Run.{IsRun}
 use Rattle.nam_script.specs.declared.script.Script.{Script}
@@ -14,7 +15,7 @@ use Rattle.nam_report.specs.Fits.{FitsScript}
 use Rattle.nam_report.specs.Text.{report_text}
 use Rattle.namdb.specs.declared.status.Status.{Status}
 use Rattle.namdb.specs.declared.status.Status.TheVariants.{Done, Usage, BadScript, ReadFault, Memory, TooLong}
-use Rattle.namdb.specs.ScriptSetting.{setting_of}
+use Rattle.nam_script.specs.ScriptSetting.{setting_of}
 use Rattle.namdb.specs.Status.{line_of}
 
 -- the text is that of a report which is a run of the script that the input spells
@@ -45,8 +46,8 @@ IsWholeInput left now input = IsAllThatWasLeft left now input × (length input �
 abbrev pub IsBadScript : List ℕ → ℕ → Kind → Type 0
 IsBadScript input line kind = script_of input ≡ Err (record { line = line; kind = kind })
 
--- without a fault of source or sink: a script is answered by its report, any other input by its first bad line, or memory is
--- not found
+-- without a fault of source or sink: a script is answered by its report, any other input by its first bad line, or
+-- memory is not found
 abbrev pub IsAnsweredBy : Result Script Fault → Status → Type 0
 IsAnsweredBy (Ok script) status = (status ≡ Done) ⊎ (status ≡ Memory)
 IsAnsweredBy (Err fault) status = (status ≡ BadScript fault.line fault.kind) ⊎ (status ≡ Memory)
@@ -64,7 +65,8 @@ module _ (words : List (String Global)) (left now : Option (List ℕ)) (faults f
   -- it may be refused so
   abbrev pub MayRefuse : Status → Type 0
   MayRefuse Usage = (AreRunWords words → ⊥) × (now ≡ left)
-  MayRefuse (BadScript line kind) = AreRunWords words × ((input : List ℕ) × IsWholeInput left now input × IsBadScript input line kind)
+  MayRefuse (BadScript line kind) = AreRunWords words
+      × ((input : List ℕ) × IsWholeInput left now input × IsBadScript input line kind)
   MayRefuse ReadFault = AreRunWords words × Rose faults faults_now × HasAtMost left now
   MayRefuse TooLong = AreRunWords words × HasTooMuch left now
   MayRefuse Memory = AreRunWords words × HasAtMost left now

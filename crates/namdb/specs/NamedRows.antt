@@ -1,37 +1,24 @@
 -- The keys that rows and operations name, and the rows that operations may look at.
-use Rattle.std.specs.Prelude.{ℕ, ◌==◌, ◌&&◌, ◌||◌, nat_le, Bool, false, List, [], ◌∷◌, ◌++◌, map, filter, Option, Some, None}
+use Rattle.std.specs.Prelude.{ℕ, ◌==◌, ◌&&◌, ◌||◌, nat_le, Bool, false, List, [], ◌∷◌, ◌++◌, map, filter, Option, Some}
+use Rattle.std.specs.Prelude.{None}
 use Rattle.std.specs.List.{flat_map}
 use Rattle.si_model.specs.declared.row.Key.{Key}
 use Rattle.si_model.specs.declared.row.Row.{Row}
 use Rattle.si_model.specs.declared.op.Op.{Op}
 use Rattle.si_model.specs.declared.op.Op.TheVariants.{Get, Put, Add, Del, Need, Guard, Scan}
-use Rattle.si_model.specs.Rows.{Rows, key_at, same_key, row_key}
+use Rattle.si_model.specs.Rows.{Rows, key_at, row_key, has_key}
+use Rattle.si_model.specs.Evaluation.{op_key}
 use Rattle.si_model.specs.Setting.{Setting}
 use Rattle.nam_script.specs.declared.script.ScriptTxn.{ScriptTxn}
-
--- the key that an operation names; of a scan its first
-abbrev pub key_of : Op → Key
-key_of (Get t k) = key_at t k
-key_of (Put t k v) = key_at t k
-key_of (Add t k f up by) = key_at t k
-key_of (Del t k) = key_at t k
-key_of (Need t k f least) = key_at t k
-key_of (Guard t k) = key_at t k
-key_of (Scan t low high) = key_at t low
-
--- is the key among these
-abbrev pub has_key : List Key → Key → Bool
-has_key [] key = false
-has_key (k ∷ ks) key = same_key k key || has_key ks key
 
 -- does an operation of the transactions name the key
 abbrev pub txns_name : List ScriptTxn → Key → Bool
 txns_name [] key = false
-txns_name (x ∷ xs) key = has_key (map key_of x.ops) key || txns_name xs key
+txns_name (x ∷ xs) key = has_key (map op_key x.ops) key || txns_name xs key
 
 -- the keys that the rows and the operations name
 abbrev pub named_keys : Setting → List Key
-named_keys s = map row_key s.rows ++ flat_map (λ ops. map key_of ops) s.jobs
+named_keys s = map row_key s.rows ++ flat_map (λ ops. map op_key ops) s.jobs
 
 -- is the key one of the table from low to high
 abbrev pub is_between : ℕ → ℕ → ℕ → Key → Bool

@@ -1,5 +1,6 @@
 -- The run of a script that takes its workers one after another, worker 1 first.
-use Rattle.std.specs.Prelude.{ℕ, zero, suc, false, slice_set, unwrap_or, ◌-◌, ◌+◌, ◌==◌, if◌then◌else◌, List, [], ◌∷◌, ◌++◌, length, map, slice_index_or, ◌-◌, Some}
+use Rattle.std.specs.Prelude.{ℕ, zero, suc, false, slice_set, unwrap_or, ◌-◌, ◌+◌, ◌==◌, if◌then◌else◌, List, [], ◌∷◌}
+use Rattle.std.specs.Prelude.{◌++◌, length, map, slice_index_or, ◌-◌, Some}
 use Rattle.std.specs.List.{flat_map}
 use Rattle.si_model.specs.declared.row.Key.{Key}
 use Rattle.si_model.specs.declared.row.Item.{Item}
@@ -42,7 +43,8 @@ writes_by (Done reads writes guards) (Commit number) = writes
 writes_by e outcome = []
 
 abbrev pub entry_by : ℕ → ℕ → ℕ → List Item → Outcome → List CommitLine
-entry_by j x prefix writes (Commit number) = record { worker = j; number = number; prefix = prefix; txn = x; writes = writes } ∷ []
+entry_by j x prefix writes (Commit number) =
+    record { worker = j; number = number; prefix = prefix; txn = x; writes = writes } ∷ []
 entry_by j x prefix writes outcome = []
 
 -- how many keys a done evaluation writes and guards
@@ -58,7 +60,15 @@ locks_with lock e outcome = []
 -- the first attempt at transaction x, with these items
 abbrev pub attempt_with : ℕ → ℕ → Outcome → List Item → List Lock → List Item → Attempt
 attempt_with x prefix outcome reads locks writes =
-    record { txn = x; nth = 1; prefix = Some prefix; reads = length reads; locks = length locks; writes = length writes; outcome = outcome }
+    record {
+      txn = x;
+      nth = 1;
+      prefix = Some prefix;
+      reads = length reads;
+      locks = length locks;
+      writes = length writes;
+      outcome = outcome;
+    }
 
 -- the first attempt at transaction x, with the evaluation e
 abbrev pub attempt_by : ℕ → ℕ → Evaluated → List Lock → Outcome → Attempt
@@ -112,7 +122,15 @@ module _ (s : Setting) (j : ℕ) where
       let e = evaluated_after history x in
       let outcome = outcome_after history x in
       record {
-        event = Tried (record { txn = x; nth = 1; prefix = Some (length history); reads = length (reads_of e); locks = length (locks_by history e outcome); writes = length (writes_by e outcome); outcome = outcome });
+        event = Tried (record {
+          txn = x;
+          nth = 1;
+          prefix = Some (length history);
+          reads = length (reads_of e);
+          locks = length (locks_by history e outcome);
+          writes = length (writes_by e outcome);
+          outcome = outcome;
+        });
         ops = ops_of s x;
         reads = reads_of e;
         locks = locks_by history e outcome;
@@ -122,7 +140,9 @@ module _ (s : Setting) (j : ℕ) where
 
   -- the entry that it adds, if it commits
   abbrev pub entry_after : List CommitLine → ℕ → List CommitLine
-  entry_after history x = entry_by j x (length history) (writes_by (evaluated_after history x) (outcome_after history x)) (outcome_after history x)
+  entry_after history x =
+      entry_by j x (length history) (writes_by (evaluated_after history x) (outcome_after history x))
+      (outcome_after history x)
 
   -- what worker j tells of its transactions, one after another, from this history on
   abbrev pub tells_after : List CommitLine → List ℕ → List Tell
@@ -140,12 +160,19 @@ own_txn j owner x = if owner == j then x ∷ [] else []
 
 -- the log that tells this
 abbrev pub log_of : List Tell → Log
-log_of ts = record { events = map (λ t. t.event) ts; reads = flat_map (λ t. t.reads) ts; locks = flat_map (λ t. t.locks) ts; writes = flat_map (λ t. t.writes) ts; snaps = map (λ t. t.snap) ts }
+log_of ts = record {
+  events = map (λ t. t.event) ts;
+  reads = flat_map (λ t. t.reads) ts;
+  locks = flat_map (λ t. t.locks) ts;
+  writes = flat_map (λ t. t.writes) ts;
+  snaps = map (λ t. t.snap) ts;
+}
 
 -- the logs of n workers from worker j on, and the history after them
 abbrev pub logs_after : Setting → ℕ → List CommitLine → ℕ → List Log
 logs_after s j history zero = []
-logs_after s j history (suc n) = log_of (tells_after s j history (txns_of j s.owners)) ∷ logs_after s (suc j) (history_after s j history (txns_of j s.owners)) n
+logs_after s j history (suc n) = log_of (tells_after s j history (txns_of j s.owners))
+    ∷ logs_after s (suc j) (history_after s j history (txns_of j s.owners)) n
 
 abbrev pub end_after : Setting → ℕ → List CommitLine → ℕ → List CommitLine
 end_after s j history zero = history

@@ -8,7 +8,8 @@ use Rattle.nam_script.specs.declared.refusal.Kind.TheVariants.{Cut, Word, Name, 
 use Rattle.nam_script.specs.declared.refusal.ParseEnd.{ParseEnd}
 use Rattle.nam_script.specs.declared.refusal.ParseEnd.TheVariants as parse
 use Rattle.namdb.specs.declared.status.Status.{Status}
-use Rattle.namdb.specs.declared.status.Status.TheVariants.{Done, Usage, BadScript, ReadFault, WriteFault, Memory, TooLong}
+use Rattle.namdb.specs.declared.status.Status.TheVariants.{Done, Usage, BadScript, ReadFault, WriteFault, Memory}
+use Rattle.namdb.specs.declared.status.Status.TheVariants.{TooLong}
 
 -- the status with which the process exits
 abbrev pub code_of : Status → ℕ

@@ -1,11 +1,12 @@
 //! One attempt of the serial run.
 
-ghost use Rattle.std.specs.Prelude.{◌≡◌, ℕ, ◌+◌, ◌-◌, ◌^◌, ◌<◌, ◌≤◌, ◌++◌, [], ◌∷◌, true, is_some, length, slice_index, slice_set, OnOk, if◌then◌else◌};
+ghost use Rattle.std.specs.Prelude.{◌≡◌, ◌+◌, ◌-◌, ◌^◌, ◌<◌, ◌≤◌, [], ◌∷◌, true, is_some, length};
+ghost use Rattle.std.specs.Prelude.{slice_index, OnOk};
 ghost use Rattle.std.specs.List.{AllByRecursion};
 ghost use Rattle.si_model.specs.Committed.{rows_held};
 ghost use Rattle.si_model.specs.declared.row.Key.{Key};
 ghost use Rattle.si_model.specs.Evaluation.{evaluation_of, reads_of, OpFits, AreWide};
-ghost use Rattle.namdb.specs.NamedRows.{has_key};
+ghost use Rattle.si_model.specs.Rows.{has_key};
 ghost use Rattle.namdb.specs.Serial.{outcome_of, attempt_with, log_with};
 ghost use Rattle.namdb.specs.Store.{Attempts, AttemptsBy};
 
@@ -86,7 +87,8 @@ fn end_done(
     requires few_keys { length effects.writes + length effects.guards < 2 ^ 32 }
     ensures { OnOk result (
         let e = Evaluated.Done effects.reads effects.writes effects.guards in
-        Attempts turn.worker turn.txn e (outcome_of turn.greatest turn.last e) seen store.old store.new log.old log.new) }
+        let outcome = outcome_of turn.greatest turn.last e in
+        Attempts turn.worker turn.txn e outcome seen store.old store.new log.old log.new) }
 {
     let Effects {
         reads,
@@ -140,7 +142,8 @@ pub fn attempt(
     requires number { slice_index store.old.vector (worker - 1) ≤ plan.now.greatest }
     requires fit { AllByRecursion (OpFits plan.now.widths.items) ops.now }
     requires wide { AreWide plan.now.widths.items (rows_held store.old.rows) }
-    requires keys { (key : Key) → is_some (rows_held store.old.rows key) ≡ true → has_key plan.now.keys.keys key ≡ true }
+    requires keys { (key : Key) →
+        is_some (rows_held store.old.rows key) ≡ true → has_key plan.now.keys.keys key ≡ true }
     requires short { length ops.now < 2 ^ 32 }
     requires few { length (reads_of (evaluation_of plan.now.widths.items (rows_held store.old.rows) ops.now)) < 2 ^ 32 }
     ensures { OnOk result (AttemptsBy plan.now worker txn ops.now store.old store.new log.old log.new) }

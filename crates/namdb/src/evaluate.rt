@@ -1,37 +1,17 @@
 //! The evaluation of a transaction on the committed rows.
 
-ghost use Rattle.std.specs.Prelude.{◌≡◌, ◌++◌, ◌^◌, ◌<◌, ◌≤◌, All, true, filter, is_some, length, IfOk, OnOk};
+ghost use Rattle.std.specs.Prelude.{◌≡◌, ◌++◌, ◌^◌, ◌<◌, ◌≤◌, true, filter, is_some, length, IfOk, OnOk};
 ghost use Rattle.std.specs.List.{AllByRecursion};
 ghost use Rattle.si_model.specs.declared.row.Key.{Key};
 ghost use Rattle.si_model.specs.Committed.{rows_held};
 ghost use Rattle.si_model.specs.Evaluation.{evaluation_of, reads_of, OpFits, AreWide};
-ghost use Rattle.namdb.specs.NamedRows.{key_of, has_key, is_between, keys_for, row_at, rows_at, rows_named};
+ghost use Rattle.si_model.specs.Rows.{has_key};
+ghost use Rattle.namdb.specs.NamedRows.{is_between, keys_for, row_at, rows_at, rows_named};
 ghost use Rattle.namdb.specs.Serial.{claims_of};
 
 use si_model::{CommittedRows, Evaluated, Key, Op, Row, eval};
 use std::alloc::{AllocError, Global};
 use std::collections::BTreeSet;
-
-/// The key that an operation names; of a scan its first.
-pub fn key_named(op: &Op) -> Key
-    ensures { result ≡ key_of op.now }
-{
-    match op {
-        Op::Get { table, key }
-        | Op::Put { table, key, .. }
-        | Op::Add { table, key, .. }
-        | Op::Del { table, key }
-        | Op::Need { table, key, .. }
-        | Op::Guard { table, key } => Key {
-            table: *table,
-            key: *key,
-        },
-        Op::Scan { table, low, .. } => Key {
-            table: *table,
-            key: *low,
-        },
-    }
-}
 
 /// Appends the row of a key, if it holds one.
 fn add_row(named: &mut Vec<Row>, rows: &CommittedRows, key: Key) -> Result<(), AllocError>
@@ -79,21 +59,22 @@ fn add_rows_for(
     rows: &CommittedRows,
     op: &Op,
 ) -> Result<(), AllocError>
-    ensures { OnOk result (named.new.items ≡ named.old.items ++ rows_at (rows_held rows.now) (keys_for keys.now.keys op.now)) }
+    ensures { OnOk result (named.new.items ≡ named.old.items
+        ++ rows_at (rows_held rows.now) (keys_for keys.now.keys op.now)) }
 {
     match op {
         Op::Scan { low, high, .. } => {
             if *high < *low {
                 return Ok(());
             }
-            add_rows_between(named, keys, rows, key_named(op), *high)
+            add_rows_between(named, keys, rows, op.key(), *high)
         }
         Op::Get { .. }
         | Op::Put { .. }
         | Op::Add { .. }
         | Op::Del { .. }
         | Op::Need { .. }
-        | Op::Guard { .. } => add_row(named, rows, key_named(op)),
+        | Op::Guard { .. } => add_row(named, rows, op.key()),
     }
 }
 

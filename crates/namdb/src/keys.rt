@@ -5,9 +5,10 @@ ghost use Rattle.std.specs.BTreeSet.{contains};
 ghost use Rattle.si_model.specs.declared.row.Key.{Key};
 ghost use Rattle.si_model.specs.Held.{key_cmp};
 ghost use Rattle.si_model.specs.Rows.{row_key};
-ghost use Rattle.namdb.specs.NamedRows.{key_of, has_key, txns_name};
+ghost use Rattle.si_model.specs.Rows.{has_key};
+ghost use Rattle.si_model.specs.Evaluation.{op_key};
+ghost use Rattle.namdb.specs.NamedRows.{txns_name};
 
-use crate::evaluate::key_named;
 use nam_script::ScriptTxn;
 use si_model::{Key, Op, Row};
 use std::alloc::{AllocError, Global};
@@ -16,14 +17,11 @@ use std::collections::BTreeSet;
 /// Adds the keys of rows.
 fn add_rows(keys: &mut BTreeSet<Key>, rows: &[Row]) -> Result<(), AllocError>
     ensures { OnOk result (
-        (key : Key) → contains key_cmp keys.new key ≡ contains key_cmp keys.old key || has_key (map row_key rows.now) key) }
+        (key : Key) → contains key_cmp keys.new key
+        ≡ contains key_cmp keys.old key || has_key (map row_key rows.now) key) }
 {
     for row in rows {
-        let key = Key {
-            table: row.table,
-            key: row.key,
-        };
-        keys.insert(key)?;
+        keys.insert(row.key())?;
     }
     Ok(())
 }
@@ -31,10 +29,11 @@ fn add_rows(keys: &mut BTreeSet<Key>, rows: &[Row]) -> Result<(), AllocError>
 /// Adds the keys that operations name.
 fn add_ops(keys: &mut BTreeSet<Key>, ops: &[Op]) -> Result<(), AllocError>
     ensures { OnOk result (
-        (key : Key) → contains key_cmp keys.new key ≡ contains key_cmp keys.old key || has_key (map key_of ops.now) key) }
+        (key : Key) → contains key_cmp keys.new key
+        ≡ contains key_cmp keys.old key || has_key (map op_key ops.now) key) }
 {
     for op in ops {
-        keys.insert(key_named(op))?;
+        keys.insert(op.key())?;
     }
     Ok(())
 }

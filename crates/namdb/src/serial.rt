@@ -1,6 +1,6 @@
 //! The serial run: one worker after another, each transaction tried once.
 
-ghost use Rattle.std.specs.Prelude.{◌≡◌, ℕ, ◌+◌, ◌<◌, ◌≤◌, [], List, length, map, slice_index, IfOk, OnOk};
+ghost use Rattle.std.specs.Prelude.{◌≡◌, ◌+◌, ◌<◌, ◌≤◌, [], List, length, map, slice_index, IfOk, OnOk};
 ghost use Rattle.si_model.specs.declared.row.Row.{Row};
 ghost use Rattle.si_model.specs.Rows.{ListsRows};
 ghost use Rattle.si_model.specs.Committed.{rows_held};
@@ -10,10 +10,11 @@ ghost use Rattle.nam_catalog.specs.Tables.{widths_of};
 ghost use Rattle.nam_script.specs.Limits.{IsScript};
 ghost use Rattle.namdb.specs.InRange.{IsInRange};
 ghost use Rattle.nam_report.specs.Fits.{FitsScript};
-ghost use Rattle.namdb.specs.ScriptSetting.{setting_of};
+ghost use Rattle.nam_script.specs.ScriptSetting.{setting_of};
 ghost use Rattle.namdb.specs.Few.{HasFew};
 ghost use Rattle.namdb.specs.Store.{IsStore, IsPlan};
-ghost use Rattle.namdb.specs.Serial.{own_txn, tells_after, history_after, log_of, log_grown, logs_after, end_after, audit_of};
+ghost use Rattle.namdb.specs.Serial.{own_txn, tells_after, history_after, log_of, log_grown, logs_after, end_after};
+ghost use Rattle.namdb.specs.Serial.{audit_of};
 
 use crate::attempt::{Plan, attempt};
 use crate::keys::names_of;
@@ -43,19 +44,6 @@ fn plan_of(alloc: Global, script: &Script) -> Result<Plan, AllocError>
         widths,
         keys,
     })
-}
-
-/// A log without events.
-fn new_log(alloc: Global) -> Log
-    ensures { result ≡ log_of [] }
-{
-    Log {
-        events: List::new(alloc),
-        reads: List::new(alloc),
-        locks: List::new(alloc),
-        writes: List::new(alloc),
-        snaps: List::new(alloc),
-    }
 }
 
 /// The worker's attempt at the transaction at a place of the script, where it is the worker's.
@@ -121,7 +109,7 @@ fn run_worker(
         let s = setting_of script.now in
         log ≡ log_of (tells_after s worker store.old.history (txns_of worker s.owners))) }
 {
-    let mut log = new_log(alloc);
+    let mut log = Log::new(alloc);
     for place in 0..script.txns.len() {
         serve(alloc, script, plan, store, &mut log, worker, place)?;
     }

@@ -1,6 +1,7 @@
 //! The store of the serial run.
 
-ghost use Rattle.std.specs.Prelude.{◌≡◌, ℕ, ◌+◌, ◌-◌, ◌<◌, ◌≤◌, ◌++◌, [], ◌∷◌, length, map, replicate, slice_set, IfOk, OnOk, if◌then◌else◌};
+ghost use Rattle.std.specs.Prelude.{◌≡◌, ◌+◌, ◌-◌, ◌<◌, ◌≤◌, ◌++◌, [], ◌∷◌, length, map, replicate, slice_set};
+ghost use Rattle.std.specs.Prelude.{IfOk, OnOk, if◌then◌else◌};
 ghost use Rattle.si_model.specs.declared.row.Key.{Key};
 ghost use Rattle.si_model.specs.Rows.{rows_of, overlay, writes_key};
 ghost use Rattle.si_model.specs.Committed.{rows_held};
@@ -11,7 +12,7 @@ use crate::stamps;
 use lists::List;
 use nam_vector::publish_number;
 use nam_verbs::PlainRegion;
-use si_model::{CommitLine, CommittedRows, Item, Items, Key, Lock, Row, Stamp};
+use si_model::{CommitLine, CommittedRows, Item, Key, Lock, Row, Stamp, copy_items, keys_of};
 use std::alloc::{AllocError, Global};
 use std::collections::BTreeMap;
 
@@ -22,25 +23,6 @@ pub struct Store {
     pub rows: CommittedRows,
     pub stamps: BTreeMap<Key, Stamp>,
     pub history: List<CommitLine>,
-}
-
-/// Equal items.
-fn copied(alloc: Global, items: &[Item]) -> Result<Items, AllocError>
-    ensures { IfOk result (λ copies. copies ≡ items.now) }
-{
-    let mut copies = List::new(alloc);
-    for item in items {
-        let value = match &item.value {
-            Some(value) => Some(value.copy()),
-            None => None,
-        };
-        copies.push(Item {
-            table: item.table,
-            key: item.key,
-            value,
-        })?;
-    }
-    Ok(copies)
 }
 
 impl Store {
@@ -70,10 +52,8 @@ impl Store {
     ) -> Result<List<Lock>, AllocError>
         ensures { IfOk result (λ locks. locks ≡ map (lock_held self.now.stamps) (keys_of writes.now guards.now)) }
     {
-        let mut locks = List::new(alloc);
-        stamps::lock_items(&mut locks, &self.stamps, writes)?;
-        stamps::lock_keys(&mut locks, &self.stamps, guards)?;
-        Ok(locks)
+        let keys = keys_of(alloc, writes, guards)?;
+        stamps::locks_on(alloc, &self.stamps, keys.as_slice())
     }
 
     /// Commits a write set as the worker's commit of this number, and publishes it.
@@ -107,7 +87,7 @@ impl Store {
             number,
             prefix: self.history.len() as u64,
             txn,
-            writes: copied(alloc, writes)?,
+            writes: copy_items(alloc, writes)?,
         };
         self.rows.write(writes)?;
         let stamp = Stamp {

@@ -1,15 +1,17 @@
 //! The top call.
 
-ghost use Rattle.std.specs.Prelude.{◌≡◌, ◌≤◌, ℕ, Some, length, List, ◌⊎◌, ◌↔◌, IsTrue, IfOk, IfErr, codes, string_bytes};
+ghost use Rattle.std.specs.Prelude.{◌≡◌, ◌≤◌, ℕ, Some, length, List, ◌⊎◌, ◌↔◌, IsTrue, IfOk, IfErr, codes};
+ghost use Rattle.std.specs.Prelude.{string_bytes};
 ghost use Rattle.std.specs.Io.KnownBytes.{Appends};
 ghost use Rattle.nam_io.specs.Faults.{Rose};
-ghost use Rattle.nam_io.specs.Told.{AppendsFront};
+ghost use Rattle.nam_io.specs.Fronts.{AppendsFront};
 ghost use Rattle.nam_script.specs.declared.refusal.Kind.{Kind};
 ghost use Rattle.nam_script.specs.Parse.{script_of};
 ghost use Rattle.namdb.specs.declared.status.Status.{Status};
 ghost use Rattle.namdb.specs.Status.{script_line, line_of};
 ghost use Rattle.namdb.specs.Ending.{IsAnswerToInput, HasLine, MakesLine, Sends};
-ghost use Rattle.namdb.specs.Headline.{AreRunWords, IsReportOn, IsWholeInput, IsBadScript, IsAnsweredBy, HasTooMuch, HasAtMost, MayRefuse, MayWrite};
+ghost use Rattle.namdb.specs.Headline.{AreRunWords, IsReportOn, IsWholeInput, IsBadScript, IsAnsweredBy, HasTooMuch};
+ghost use Rattle.namdb.specs.Headline.{HasAtMost, MayRefuse, MayWrite};
 
 use crate::serial::run_serial;
 use crate::status::{Status, kind_word};
@@ -76,7 +78,8 @@ pub fn namdb<S: Source, K: Sink>(
     ensures write_fault { result ≡ Status.WriteFault →
         Rose (K.faults sink.old) (K.faults sink.new)
         × ((status : Status) × ((text : List ℕ)
-        × MayWrite words.now (S.left source.old) (S.left source.new) (S.faults source.old) (S.faults source.new) status text
+        × MayWrite words.now (S.left source.old) (S.left source.new) (S.faults source.old) (S.faults source.new)
+        status text
         × AppendsFront (K.taken sink.old) (K.taken sink.new) text)) }
 
     ensures memory { result ≡ Status.Memory →
@@ -93,9 +96,11 @@ pub fn namdb<S: Source, K: Sink>(
 /// The text of the report on the script that the source has, or the status of the refusal.
 fn report_of<S: Source>(alloc: Global, words: &[String], source: &mut S) -> Result<Vec<u8>, Status>
     ensures report { IfOk result (λ text.
-        MayWrite words.now (S.left source.old) (S.left source.new) (S.faults source.old) (S.faults source.new) Status.Done text.items) }
+        MayWrite words.now (S.left source.old) (S.left source.new) (S.faults source.old) (S.faults source.new)
+        Status.Done text.items) }
     ensures refusal { IfErr result (λ status.
-        MayRefuse words.now (S.left source.old) (S.left source.new) (S.faults source.old) (S.faults source.new) status) }
+        MayRefuse words.now (S.left source.old) (S.left source.new) (S.faults source.old) (S.faults source.new)
+        status) }
     ensures usage { ¬ AreRunWords words.now → (result ≡ Err Status.Usage) × (source.new ≡ source.old) }
 {
     if !are_run_words(words) {
@@ -125,7 +130,8 @@ fn are_run_words(words: &[String]) -> bool
 /// Writes the line of a refusal, and ends with it.
 fn refuse<K: Sink>(alloc: Global, sink: &mut K, status: Status) -> Status
     ensures line { HasLine status →
-        Sends (K.taken sink.old) (K.taken sink.new) (K.faults sink.old) (K.faults sink.new) status (line_of status) result
+        Sends (K.taken sink.old) (K.taken sink.new) (K.faults sink.old) (K.faults sink.new)
+        status (line_of status) result
         ⊎ (MakesLine status × (result ≡ Status.Memory) × (sink.new ≡ sink.old)) }
     ensures memory { status ≡ Status.Memory → (result ≡ Status.Memory) × (sink.new ≡ sink.old) }
 {

@@ -1,5 +1,6 @@
 -- How many commits a snapshot contains: as many as its prefix says, and they are the first of the arranged history.
-use Rattle.std.proofs.Common.{◌≡◌, ℕ, zero, suc, ◌-◌, ◌<◌, ◌≤◌, min, true, false, inl, inr, List, [], ◌∷◌, length, get_or, take, drop, refl, ap, sym, ◌∙◌, subst, arith}
+use Rattle.std.proofs.Common.{◌≡◌, ℕ, zero, suc, ◌-◌, ◌<◌, ◌≤◌, min, true, false, inl, inr, List, [], ◌∷◌, length}
+use Rattle.std.proofs.Common.{get_or, take, drop, refl, ap, sym, ◌∙◌, subst, arith}
 use Rattle.std.specs.Prelude.{map, IsPermutation}
 use Rattle.std.specs.List.{AllByRecursion}
 use Rattle.std.proofs.lemmas.Bool.{cond_both, false≢true, cases_lt}
@@ -15,8 +16,10 @@ use Rattle.si_model.specs.Commits.{Published, entry_of, published_of, published_
 use Rattle.si_model.specs.Snapshots.{contains, inside, sum_above}
 use Rattle.si_model.specs.Arranged.{level_of, AreDepths, Precedes, IsArranged}
 use Rattle.si_model.specs.Consistency.{NumbersFollow, AreOwned, IsWithin, HaveOrder}
-use Rattle.si_model.proofs.ListLemmas.{Pairwise-weaker, Pairwise-unmap, filter_front, filter_rest, length_filter_permutation, listed_permutation}
-use Rattle.si_model.proofs.SnapshotLemmas.{contains_is, contains_says, contains_at_most, at_most_by_sum, level_at_most, level_says}
+use Rattle.si_model.proofs.ListLemmas.{Pairwise-weaker, Pairwise-unmap, filter_front, filter_rest}
+use Rattle.si_model.proofs.ListLemmas.{length_filter_permutation, listed_permutation}
+use Rattle.si_model.proofs.SnapshotLemmas.{contains_is, contains_says, contains_at_most, at_most_by_sum, level_at_most}
+use Rattle.si_model.proofs.SnapshotLemmas.{level_says}
 use Rattle.si_law.proofs.Lifts.{lifted}
 use Rattle.si_law.proofs.Standing.{worker_of, last_number-is, is_inside}
 
@@ -49,19 +52,23 @@ ordered_lines start tss lines a =
 
 -- of commits numbered from m on, a snapshot with entry n contains those up to n
 pub count_one : (j m n : ℕ) (snap : List ℕ) → 0 < j → get_or snap (j - 1) 0 ≡ n → (cs : List Published)
-    → AllByRecursion (λ c. c.line.worker ≡ j) cs → NumbersFollow m cs → length (inside snap cs) ≡ min (n - m) (length cs)
+    → AllByRecursion (λ c. c.line.worker ≡ j) cs → NumbersFollow m cs
+    → length (inside snap cs) ≡ min (n - m) (length cs)
 count_one j m n snap p e [] w h = omega arith
 count_one j m n snap p e (c ∷ cs) w h =
     let rest = count_one j (suc m) n snap p e cs w.1 h.1 in
     let at : get_or snap (c.line.worker - 1) 0 ≡ n = rw w.0 e in
-    cond_both (contains snap (stamp_of c.line)) (c ∷ inside snap cs) (inside snap cs) (λ l. length l ≡ min (n - m) (suc (length cs)))
+    cond_both (contains snap (stamp_of c.line)) (c ∷ inside snap cs) (inside snap cs)
+    (λ l. length l ≡ min (n - m) (suc (length cs)))
     (λ t. let says = contains_says snap (stamp_of c.line) t in omega (arith, says.1, at, h.0, rest))
     (λ f. elim (cases_lt n c.line.number) [
       | inl lt ↦ omega (arith, h.0, rest)
-      | inr ge ↦ absurd (false≢true (sym f ∙ contains_is snap (stamp_of c.line) (omega (arith, w.0)) (omega (arith, at))))
+      | inr ge ↦ absurd
+          (false≢true (sym f ∙ contains_is snap (stamp_of c.line) (omega (arith, w.0)) (omega (arith, at))))
     ])
 
-pub drop_cons : (xs : List ℕ) (i : ℕ) (n : ℕ) (ns : List ℕ) → drop i xs ≡ n ∷ ns → (get_or xs i 0 ≡ n) × (drop (suc i) xs ≡ ns)
+pub drop_cons : (xs : List ℕ) (i : ℕ) (n : ℕ) (ns : List ℕ) → drop i xs ≡ n ∷ ns → (get_or xs i 0 ≡ n)
+    × (drop (suc i) xs ≡ ns)
 drop_cons [] zero n ns e = (cc, cc)
 drop_cons [] (suc i) n ns e = (cc, cc)
 drop_cons (x ∷ xs) zero n ns e = (cc, cc)
@@ -73,11 +80,14 @@ count_from start i snap [] [] e w h = refl
 count_from start i snap [] (ts ∷ tss) e w h = elim w [ ]
 count_from start i snap (n ∷ ns) [] e w h = elim w [ ]
 count_from start i snap (n ∷ ns) (ts ∷ tss) e w h =
-    let here : get_or snap (suc i - 1) 0 ≡ n = let q : suc i - 1 ≡ i = omega arith in rw q (drop_cons snap i n ns e).0 in
-    let one = count_one (suc i) start n snap (omega arith) here (published_of (suc i) ts) (worker_of (suc i) ts) h.0.numbers in
+    let here : get_or snap (suc i - 1) 0 ≡ n = let q : suc i - 1 ≡ i =
+    omega arith in rw q (drop_cons snap i n ns e).0 in
+    let one = count_one (suc i) start n snap (omega arith) here (published_of (suc i) ts) (worker_of (suc i) ts)
+    h.0.numbers in
     let rest = count_from start (suc i) snap ns tss (drop_cons snap i n ns e).1 w.2 h.1 in
     let last = last_number-is start (suc i) start ts h.0.snapshots h.0.numbers in
-    let apart = ap length (filter-append (is_inside snap) (published_of (suc i) ts) (published_from (suc (suc i)) tss)) in
+    let apart = ap length (filter-append (is_inside snap) (published_of (suc i) ts) (published_from (suc (suc i)) tss))
+    in
     let both = length-append (inside snap (published_of (suc i) ts)) (inside snap (published_from (suc (suc i)) tss)) in
     omega (arith, apart, both, one, rest, last, w.0, w.1)
 
@@ -97,14 +107,16 @@ length_within start [] (ts ∷ tss) w = elim w [ ]
 length_within start (n ∷ ns) [] w = elim w [ ]
 length_within start (n ∷ ns) (ts ∷ tss) w = ap suc (length_within start ns tss w.2)
 
-pub level_top : (start : ℕ) (tss : List (List Tell)) → HaveOrder start tss → (s : Stamp) → level_of start tss s ≤ suc (length (published_by tss))
+pub level_top : (start : ℕ) (tss : List (List Tell)) → HaveOrder start tss → (s : Stamp)
+    → level_of start tss s ≤ suc (length (published_by tss))
 level_top start tss ok s =
     elim (level_says start (suc (length (published_by tss))) (snaps_by tss) s) [
       | inl t ↦ omega (arith, t)
       | inr (snap, l, c, q) ↦ omega (arith, q, sum_within start 1 snap tss (ok.within snap l) ok.owned)
     ]
 
-module _ (start : ℕ) (tss : List (List Tell)) (ok : HaveOrder start tss) (snap : List ℕ) (l : Listed snap (snaps_by tss)) where
+module _ (start : ℕ) (tss : List (List Tell)) (ok : HaveOrder start tss) (snap : List ℕ)
+    (l : Listed snap (snaps_by tss)) where
   -- a snapshot contains the commits whose level is at most its prefix
   pub inside_level : (s : Stamp) → level_of start tss s ≤ sum_above start snap → contains snap s ≡ true
   inside_level s h =
@@ -112,7 +124,8 @@ module _ (start : ℕ) (tss : List (List Tell)) (ok : HaveOrder start tss) (snap
       elim (level_says start (suc (length (published_by tss))) (snaps_by tss) s) [
         | inl t ↦ absurd (omega arith)
         | inr (other, k, c, q) ↦
-            let most = at_most_by_sum start other snap tss (ok.within other k) (ok.within snap l) (ok.ordered other snap k l) (omega (arith, q, h)) in
+            let most = at_most_by_sum start other snap tss (ok.within other k) (ok.within snap l)
+            (ok.ordered other snap k l) (omega (arith, q, h)) in
             contains_at_most other snap s most c
       ]
 
@@ -122,12 +135,15 @@ module _ (start : ℕ) (tss : List (List Tell)) (ok : HaveOrder start tss) (snap
   pub count_inside : length (inside snap (published_by tss)) ≡ sum_above start snap
   count_inside = count_from start 0 snap snap tss refl (ok.within snap l) ok.owned
 
-pub precedes_level : (level depth : Stamp → ℕ) (a b : CommitLine) → Precedes level depth a b → level (stamp_of a) ≤ level (stamp_of b)
+pub precedes_level : (level depth : Stamp → ℕ) (a b : CommitLine) → Precedes level depth a b
+    → level (stamp_of a) ≤ level (stamp_of b)
 precedes_level level depth a b h = elim h [ inl p ↦ omega arith | inr p ↦ omega (arith, p.0) ]
 
-module _ (start : ℕ) (tss : List (List Tell)) (ok : HaveOrder start tss) (history : List Published) (arr : IsOrdered start tss history) where
+module _ (start : ℕ) (tss : List (List Tell)) (ok : HaveOrder start tss) (history : List Published)
+    (arr : IsOrdered start tss history) where
   pub from_history : (c : Published) → Listed c history → Listed c (published_by tss)
-  from_history c l = listed_permutation history (published_by tss) c (IsPermutation-sym (published_by tss) history arr.same) l
+  from_history c l =
+      listed_permutation history (published_by tss) c (IsPermutation-sym (published_by tss) history arr.same) l
 
   pub to_history : (c : Published) → Listed c (published_by tss) → Listed c history
   to_history c l = listed_permutation (published_by tss) history c arr.same l
@@ -135,18 +151,22 @@ module _ (start : ℕ) (tss : List (List Tell)) (ok : HaveOrder start tss) (hist
   module _ (snap : List ℕ) (l : Listed snap (snaps_by tss)) where
     closed : Pairwise (λ c d. contains snap (stamp_of d.line) ≡ true → contains snap (stamp_of c.line) ≡ true) history
     closed =
-        Pairwise-weaker (λ c. Unit {0}) (Before start tss arr.depth) (λ c d. is_inside snap d ≡ true → is_inside snap c ≡ true)
+        Pairwise-weaker (λ c. Unit {0}) (Before start tss arr.depth) (λ c d. is_inside snap d ≡ true
+        → is_inside snap c ≡ true)
         (λ c d _ _ p h.
         let up = precedes_level (level_of start tss) arr.depth c.line d.line p in
-        inside_level start tss ok snap l (stamp_of c.line) (omega (arith, up, level_inside start tss ok snap l (stamp_of d.line) h)))
+        inside_level start tss ok snap l (stamp_of c.line)
+        (omega (arith, up, level_inside start tss ok snap l (stamp_of d.line) h)))
         history (λ z _. tt) arr.ordered
 
     length_inside : length (inside snap history) ≡ sum_above start snap
-    length_inside = sym (length_filter_permutation (is_inside snap) (published_by tss) history arr.same) ∙ count_inside start tss ok snap l
+    length_inside = sym (length_filter_permutation (is_inside snap) (published_by tss) history arr.same)
+        ∙ count_inside start tss ok snap l
 
     -- as many entries as the prefix says are the commits that the snapshot contains
     pub first_entries : take (sum_above start snap) history ≡ inside snap history
     first_entries = rw (← length_inside) (sym (filter_front (is_inside snap) history closed))
 
-    pub later_entries : (c : Published) → Listed c (drop (sum_above start snap) history) → contains snap (stamp_of c.line) ≡ false
+    pub later_entries : (c : Published) → Listed c (drop (sum_above start snap) history)
+        → contains snap (stamp_of c.line) ≡ false
     later_entries c h = filter_rest (is_inside snap) history closed c (rw length_inside h)

@@ -12,7 +12,8 @@ use Rattle.si_model.specs.Rows.{same_key}
 use Rattle.si_model.specs.History.{same_stamp}
 use Rattle.si_model.specs.Tells.{Tell}
 use Rattle.si_model.specs.Answers.{lock_key}
-use Rattle.si_model.specs.Causes.{lists_lock, collects_entry, has_collected, move_count, moves_version, moves_into, is_done}
+use Rattle.si_model.specs.Causes.{lists_lock, collects_entry, has_collected, move_count, moves_version, moves_into}
+use Rattle.si_model.specs.Causes.{is_done}
 use Rattle.si_law.specs.Growth.{KeepsListed}
 use Rattle.si_law.proofs.GrowthEnds.{any_behind, moves_behind}
 
@@ -46,10 +47,12 @@ listed_behind front was now h = record {
 
 -- with more events at the end
 pub listed_more : (was more : List Tell) → KeepsListed was (was ++ more)
-listed_more was more = subst (λ xs. KeepsListed xs (was ++ more)) (append-nil was) (listed_behind was [] more (listed_nothing more))
+listed_more was more =
+    subst (λ xs. KeepsListed xs (was ++ more)) (append-nil was) (listed_behind was [] more (listed_nothing more))
 
 -- an attempt lists its locks alone, so one that has locked more may stand for it, with whatever follows
-pub listed_locking : (t u : Tell) (a : Attempt) (locks : List Lock) (rest : List Tell) → t.event ≡ Tried a → u.locks ≡ t.locks ++ locks →
+pub listed_locking : (t u : Tell) (a : Attempt) (locks : List Lock) (rest : List Tell) → t.event ≡ Tried a
+    → u.locks ≡ t.locks ++ locks →
     KeepsListed (t ∷ []) (u ∷ rest)
 listed_locking t u a locks rest is more = record {
   locks = λ key q h.

@@ -1,5 +1,6 @@
 -- Snapshots that don't contain one more commit say what they said.
-use Rattle.std.proofs.Common.{◌≡◌, ℕ, suc, Bool, true, false, ◌⊎◌, inl, inr, List, ◌∷◌, ◌++◌, length, refl, ap, sym, ◌∙◌, subst, arith}
+use Rattle.std.proofs.Common.{◌≡◌, ℕ, suc, Bool, true, false, ◌⊎◌, inl, inr, List, ◌∷◌, ◌++◌, length, refl, ap, sym}
+use Rattle.std.proofs.Common.{◌∙◌, subst, arith}
 use Rattle.std.specs.Prelude.{◌&&◌, filter, map}
 use Rattle.std.proofs.lemmas.Bool.{cases_Bool, true≢false, false_from_ne_true, or_parts, or_from, and_right}
 use Rattle.std.proofs.lemmas.List.{length-append, length-map}
@@ -12,9 +13,11 @@ use Rattle.si_model.specs.Rows.{Rows, writes_key}
 use Rattle.si_model.specs.History.{loader, stamp_of, same_stamp, has_stamp, versions_of, is_version}
 use Rattle.si_model.specs.Tells.{Tell}
 use Rattle.si_model.specs.Commits.{Published, entry_of}
-use Rattle.si_model.specs.Snapshots.{contains, inside, newest_in, stamp_or_loader, value_by, rows_in, is_after, later_in}
+use Rattle.si_model.specs.Snapshots.{contains, inside, newest_in, stamp_or_loader, value_by, rows_in, is_after}
+use Rattle.si_model.specs.Snapshots.{later_in}
 use Rattle.si_model.specs.View.{by_snapshots}
-use Rattle.si_model.proofs.ListLemmas.{All-from_listed, listed_append_cases, listed_append_left, listed_append_right, filter_listed, listed_map, map_listed, any_listed, listed_any, filter-none}
+use Rattle.si_model.proofs.ListLemmas.{All-from_listed, listed_append_cases, listed_append_left, listed_append_right}
+use Rattle.si_model.proofs.ListLemmas.{filter_listed, listed_map, map_listed, any_listed, listed_any, filter-none}
 use Rattle.si_law.specs.Views.{Extends, Agrees}
 use Rattle.si_law.proofs.Moved.{same_stamp-refl, same_stamp_says, version_listed, version_cases, is_version_moves}
 
@@ -38,11 +41,22 @@ module _ (c : Published) (cs more : List Published) (adds : IsWithOneMore c cs m
   pub one_more_cases : (d : Published) → Listed d more → Listed d cs ⊎ (c ≡ d)
   one_more_cases d l = elim (listed_append_cases adds.front (c ∷ adds.back) d (subst (Listed d) adds.now l)) [
     | inl a ↦ inl (subst (Listed d) (sym adds.was) (listed_append_left adds.front adds.back d a))
-    | inr a ↦ elim a [ inl e ↦ inr e | inr b ↦ inl (subst (Listed d) (sym adds.was) (listed_append_right adds.front adds.back d b)) ]
+    | inr a ↦ elim a [
+      | inl e ↦ inr e
+      | inr b ↦
+          inl (subst (Listed d) (sym adds.was) (listed_append_right adds.front adds.back d b))
+    ]
   ]
 
   pub one_more_length : length more ≡ suc (length cs)
-  one_more_length = omega (arith, ap length adds.was, ap length adds.now, length-append adds.front adds.back, length-append adds.front (c ∷ adds.back))
+  one_more_length =
+      omega (
+        arith,
+        ap length adds.was,
+        ap length adds.now,
+        length-append adds.front adds.back,
+        length-append adds.front (c ∷ adds.back),
+      )
 
   pub one_more_inside : (snap : List ℕ) → contains snap (stamp_of c.line) ≡ false → inside snap cs ≡ inside snap more
   one_more_inside snap out =
@@ -51,7 +65,8 @@ module _ (c : Published) (cs more : List Published) (adds : IsWithOneMore c cs m
       ap (inside snap) adds.was ∙ filter-append p adds.front adds.back ∙ ap (λ ds. filter p adds.front ++ ds) (sym skip)
       ∙ sym (filter-append p adds.front (c ∷ adds.back)) ∙ sym (ap (inside snap) adds.now)
 
-  pub one_more_rows : (rows : Rows) (snap : List ℕ) → contains snap (stamp_of c.line) ≡ false → rows_in rows cs snap ≡ rows_in rows more snap
+  pub one_more_rows : (rows : Rows) (snap : List ℕ) → contains snap (stamp_of c.line) ≡ false
+      → rows_in rows cs snap ≡ rows_in rows more snap
   one_more_rows rows snap out = ap (λ seen key. value_by rows key (newest_in key seen)) (one_more_inside snap out)
 
   entry_keeps : (e : CommitLine) → Listed e (map entry_of cs) → Listed e (map entry_of more)
@@ -67,7 +82,8 @@ module _ (c : Published) (cs more : List Published) (adds : IsWithOneMore c cs m
   }
 
   -- a stamp that is a version only with the new commit is the commit's
-  new_version : (key : Key) (q : Stamp) → is_version key q (map entry_of cs) ≡ false → is_version key q (map entry_of more) ≡ true →
+  new_version : (key : Key) (q : Stamp) → is_version key q (map entry_of cs) ≡ false
+      → is_version key q (map entry_of more) ≡ true →
       stamp_of c.line ≡ q
   new_version key q none h =
       let a = any_listed (λ p. same_stamp p q) (versions_of key (map entry_of more)) h in
@@ -79,8 +95,10 @@ module _ (c : Published) (cs more : List Published) (adds : IsWithOneMore c cs m
             let d = map_listed entry_of more e l in
             elim (one_more_cases d.0 d.1) [
               | inl m ↦
-                  let listed : Listed e (map entry_of cs) = subst (λ z. Listed z (map entry_of cs)) d.2 (listed_map entry_of cs d.0 m) in
-                  absurd (refuted (subst (λ z. Listed z (versions_of key (map entry_of cs))) is (version_listed key e (map entry_of cs) listed writes)))
+                  let listed : Listed e (map entry_of cs) =
+                  subst (λ z. Listed z (map entry_of cs)) d.2 (listed_map entry_of cs d.0 m) in
+                  absurd (refuted (subst (λ z. Listed z (versions_of key (map entry_of cs))) is
+                  (version_listed key e (map entry_of cs) listed writes)))
               | inr same ↦ ap (λ z. stamp_of z.line) same ∙ ap stamp_of d.2 ∙ is ∙ same_stamp_says a.0 q a.2
             ]
       ]
@@ -90,22 +108,27 @@ module _ (c : Published) (cs more : List Published) (adds : IsWithOneMore c cs m
     abbrev counted : Key → Stamp → List Published → ℕ
     counted key q seen = length (filter (λ d. writes_key d.line.writes key && is_after q d) seen)
 
-    fresh : (key : Key) (q : Stamp) → is_version key q (map entry_of cs) ≡ false → is_version key q (map entry_of more) ≡ true →
+    fresh : (key : Key) (q : Stamp) → is_version key q (map entry_of cs) ≡ false
+        → is_version key q (map entry_of more) ≡ true →
         counted key q (inside snap cs) ≡ 0
     fresh key q none h =
         let is = new_version key q none h in
         let not_loader : same_stamp q loader ≡ false = false_from_ne_true (same_stamp q loader) (λ e.
         true≢false
-        (sym (same_stamp-refl q) ∙ sym (ap (λ z. same_stamp z q) (sym (same_stamp_says q loader e))) ∙ (or_parts (same_stamp loader q) _ none).0)) in
+        (sym (same_stamp-refl q) ∙ sym (ap (λ z. same_stamp z q) (sym (same_stamp_says q loader e)))
+        ∙ (or_parts (same_stamp loader q) _ none).0)) in
         ap length (filter-none (λ d. writes_key d.line.writes key && is_after q d) (inside snap cs)
         (All-from_listed (λ d. (writes_key d.line.writes key && is_after q d) ≡ false) (inside snap cs) (λ d l.
         let hidden : contains d.snap q ≡ false =
-        subst (λ z. contains d.snap z ≡ false) is (unseen d (filter_listed (λ d. contains snap (stamp_of d.line)) cs d l).0) in
-        and_right (writes_key d.line.writes key) (is_after q d) (or_from (same_stamp q loader) (contains d.snap q) not_loader hidden))))
+        subst (λ z. contains d.snap z ≡ false) is
+        (unseen d (filter_listed (λ d. contains snap (stamp_of d.line)) cs d l).0) in
+        and_right (writes_key d.line.writes key) (is_after q d)
+        (or_from (same_stamp q loader) (contains d.snap q) not_loader hidden))))
 
     same_later : (key : Key) (q : Stamp) → later_in cs key q (inside snap cs) ≡ later_in more key q (inside snap more)
     same_later key q =
-        let same : counted key q (inside snap cs) ≡ counted key q (inside snap more) = ap (counted key q) (one_more_inside snap out) in
+        let same : counted key q (inside snap cs) ≡ counted key q (inside snap more) =
+        ap (counted key q) (one_more_inside snap out) in
         elim (cases_Bool (is_version key q (map entry_of cs))) [
           | inl h ↦ rw (h, is_version_moves key q (map entry_of cs) (map entry_of more) entry_keeps h) same
           | inr h ↦ elim (cases_Bool (is_version key q (map entry_of more))) [
@@ -115,7 +138,8 @@ module _ (c : Published) (cs more : List Published) (adds : IsWithOneMore c cs m
         ]
 
   -- the views by both lists agree at an event whose snapshot doesn't contain the commit, where no commit's does
-  pub one_more_agrees : (rows : Rows) (t : Tell) → ((d : Published) → Listed d cs → contains d.snap (stamp_of c.line) ≡ false) →
+  pub one_more_agrees : (rows : Rows) (t : Tell)
+      → ((d : Published) → Listed d cs → contains d.snap (stamp_of c.line) ≡ false) →
       contains t.snap (stamp_of c.line) ≡ false → Agrees (by_snapshots rows cs) (by_snapshots rows more) t
   one_more_agrees rows t unseen out =
       let seen = one_more_inside t.snap out in

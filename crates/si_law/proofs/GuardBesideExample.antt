@@ -1,4 +1,5 @@
--- Logs that are consistent and arranged: a guard stands before the write that it didn't see, though its worker comes later.
+-- Logs that are consistent and arranged: a guard stands before the write that it didn't see, though its worker comes
+-- later.
 use Rattle.std.proofs.Common.{◌≡◌, ℕ, ◌<◌, true, false, List, [], ◌∷◌, refl, subst, arith, Some, inl, inr}
 use Rattle.std.specs.Prelude.{IsTrue, filter, map, ◌⊎◌, ◌≤◌, ◌==◌, if◌then◌else◌}
 use Rattle.std.proofs.lemmas.Bool.{false≢true}
@@ -46,7 +47,8 @@ lock k = record { table = 0; key = k; stamp = stamp_at 0 0 }
 
 -- the first commit of a worker, on the loaded rows
 abbrev committed : ℕ → ℕ → ℕ → Event
-committed x reads locks = Tried (record { txn = x; nth = 1; prefix = Some 0; reads = reads; locks = locks; writes = 1; outcome = Commit 1 })
+committed x reads locks =
+    Tried (record { txn = x; nth = 1; prefix = Some 0; reads = reads; locks = locks; writes = 1; outcome = Commit 1 })
 
 abbrev entry : ℕ → Item → CommitLine
 entry j i = record { worker = j; number = 1; prefix = 0; txn = j; writes = i ∷ [] }
@@ -73,7 +75,13 @@ setting = record {
 
 abbrev logs : List Log
 logs =
-    record { events = committed 1 1 1 ∷ []; reads = item 1 60 ∷ []; locks = lock 1 ∷ []; writes = item 1 0 ∷ []; snaps = (0 ∷ 0 ∷ []) ∷ [] }
+    record {
+      events = committed 1 1 1 ∷ [];
+      reads = item 1 60 ∷ [];
+      locks = lock 1 ∷ [];
+      writes = item 1 0 ∷ [];
+      snaps = (0 ∷ 0 ∷ []) ∷ [];
+    }
     ∷ record {
       events = committed 2 2 2 ∷ [];
       reads = item 1 60 ∷ item 0 60 ∷ [];
@@ -105,7 +113,8 @@ order = record {
     (record { snapshots = (record { sum = refl; commit = λ h. refl }, tt); numbers = (refl, tt) }, tt),
   );
   within = of_snaps (λ snap. IsWithin 0 snap told) (omega arith, omega arith, (omega arith, omega arith, tt));
-  ordered = λ a b l k. inl (of_snaps (λ a. AreAtMost a b) (of_snaps (λ b. AreAtMost (0 ∷ 0 ∷ []) b) (omega arith, (omega arith, tt)) b k) a l);
+  ordered = λ a b l k. inl (of_snaps (λ a. AreAtMost a b)
+      (of_snaps (λ b. AreAtMost (0 ∷ 0 ∷ []) b) (omega arith, (omega arith, tt)) b k) a l);
 }
 
 abbrev writer : Published
@@ -117,11 +126,14 @@ guarder = record { line = entry 2 (item 0 0); snap = 0 ∷ 0 ∷ []; ops = Guard
 of_commits : (P : Published → Type 0) → P writer → P guarder → (c : Published) → Listed c commits → P c
 of_commits P a b c l = All-listed P commits c (a, (b, tt)) l
 
-of_pairs : (P : Published → Published → Type 0) → P writer writer → P writer guarder → P guarder writer → P guarder guarder
+of_pairs : (P : Published → Published → Type 0) → P writer writer → P writer guarder → P guarder writer
+    → P guarder guarder
     → (c d : Published) → Listed c commits → Listed d commits → P c d
-of_pairs P ww wg gw gg c d l k = of_commits (λ c. P c d) (of_commits (P writer) ww wg d k) (of_commits (P guarder) gw gg d k) c l
+of_pairs P ww wg gw gg c d l k =
+    of_commits (λ c. P c d) (of_commits (P writer) ww wg d k) (of_commits (P guarder) gw gg d k) c l
 
-outside : (snap : List ℕ) → Listed snap (snaps_by told) → (c : Published) → Listed c commits → IsTrue (contains snap (stamp_of c.line)) → false ≡ true
+outside : (snap : List ℕ) → Listed snap (snaps_by told) → (c : Published) → Listed c commits
+    → IsTrue (contains snap (stamp_of c.line)) → false ≡ true
 outside snap l c k =
     of_snaps (λ snap. IsTrue (contains snap (stamp_of c.line)) → false ≡ true)
     (of_commits (λ c. IsTrue (contains (0 ∷ 0 ∷ []) (stamp_of c.line)) → false ≡ true) (λ h. h) (λ h. h) c k) snap l
@@ -132,18 +144,28 @@ place s = if s.thread == 1 then 1 else 0
 
 consistent : AreConsistentFor setting logs
 consistent = record {
-  counts = (record { reads = refl; locks = refl; writes = refl; snaps = refl }, (record { reads = refl; locks = refl; writes = refl; snaps = refl }, tt));
+  counts = (
+    record { reads = refl; locks = refl; writes = refl; snaps = refl },
+    (record { reads = refl; locks = refl; writes = refl; snaps = refl }, tt),
+  );
   calls = record {
     one_log_each = refl;
     order = order;
     published = of_commits (MayBePublished (1 ∷ []) (rows_of setting.rows) commits)
         (record { own = refl; reads = item 1 60 ∷ []; guards = []; evaluates = refl; writes = omega arith })
-        (record { own = refl; reads = item 1 60 ∷ item 0 60 ∷ []; guards = key_at 0 1 ∷ []; evaluates = refl; writes = omega arith });
+        (record {
+          own = refl;
+          reads = item 1 60 ∷ item 0 60 ∷ [];
+          guards = key_at 0 1 ∷ [];
+          evaluates = refl;
+          writes = omega arith;
+        });
     first_wins = λ c d l k apart share.
         of_pairs
         (λ c d. (stamp_of c.line ≡ stamp_of d.line → ⊥) → IsTrue (share_key c d)
         → IsTrue (contains d.snap (stamp_of c.line)) ⊎ IsTrue (contains c.snap (stamp_of d.line)))
-        (λ n s. absurd (n refl)) (λ n s. absurd (false≢true s)) (λ n s. absurd (false≢true s)) (λ n s. absurd (n refl)) c d l k apart share;
+        (λ n s. absurd (n refl)) (λ n s. absurd (false≢true s)) (λ n s. absurd (false≢true s)) (λ n s. absurd (n refl))
+        c d l k apart share;
     guards = λ snap l c d m k over inside.
         absurd (false≢true (outside snap l d k inside));
     no_circle = record {
@@ -168,7 +190,8 @@ consistent = record {
       ),
     );
   };
-  jobs_in_range = of_commits (λ c. (1 ≤ c.line.txn) × (c.line.txn ≤ 2)) (omega arith, omega arith) (omega arith, omega arith);
+  jobs_in_range =
+      of_commits (λ c. (1 ≤ c.line.txn) × (c.line.txn ≤ 2)) (omega arith, omega arith) (omega arith, omega arith);
   policies = (
     record { parts = attempted _ ∷ []; read = refl; settled = refl; fulls = λ no_tidy. absurd cc },
     (record { parts = attempted _ ∷ []; read = refl; settled = refl; fulls = λ no_tidy. absurd cc }, tt),
@@ -179,27 +202,37 @@ arranged : IsArranged 0 told history
 arranged = record {
   same = IsPermutation-append_comm (entry 1 (item 1 0) ∷ []) (entry 2 (item 0 0) ∷ []);
   depth = place;
-  depths = of_commits (λ c. place (stamp_of c.line) ≡ above_all place (filter (λ d. guards_beside (level_of 0 told) d c) commits)) refl refl;
+  depths = of_commits (λ c. place (stamp_of c.line)
+      ≡ above_all place (filter (λ d. guards_beside (level_of 0 told) d c) commits)) refl refl;
   ordered = ((inr (refl, inl (omega arith)), tt), (tt, tt));
 }
 
 is_audit : IsAudit (state_at (rows_of setting.rows) history) told audit
 is_audit = record {
   state = record { ordered = ((refl, tt), (tt, tt)); same = λ key. grind (arith, nat_tests) };
-  lines = (record { absent = λ none. absurd cc; locked = λ yes'. absurd cc }, (record { absent = λ none. absurd cc; locked = λ yes'. absurd cc }, tt));
+  lines = (
+    record { absent = λ none. absurd cc; locked = λ yes'. absurd cc },
+    (record { absent = λ none. absurd cc; locked = λ yes'. absurd cc }, tt),
+  );
 }
 
 run : IsRun setting (record { history = history; logs = logs; audit = audit })
 run = arranged_is_run setting logs history audit consistent arranged is_audit
 
 other_guards : {reads : List Item} {guards : List Key}
-    → Done (item 1 60 ∷ item 0 60 ∷ []) (item 0 0 ∷ []) (key_at 0 1 ∷ []) ≡ Done reads (item 0 0 ∷ []) guards → guards ≡ key_at 0 1 ∷ []
+    → Done (item 1 60 ∷ item 0 60 ∷ []) (item 0 0 ∷ []) (key_at 0 1 ∷ []) ≡ Done reads (item 0 0 ∷ []) guards
+    → guards ≡ key_at 0 1 ∷ []
 other_guards e = cc
 
 -- in the order of the workers they are none: the guarded key is written before the guard
-other_order : IsRun setting (record { history = entry 1 (item 1 0) ∷ entry 2 (item 0 0) ∷ []; logs = logs; audit = audit }) → ⊥
+other_order : IsRun setting (record {
+  history = entry 1 (item 1 0) ∷ entry 2 (item 0 0) ∷ [];
+  logs = logs;
+  audit = audit;
+}) → ⊥
 other_order h =
     let second = h.legal.1.0 in
     let written : IsTrue (none_writes (keys_of (item 0 0 ∷ []) (key_at 0 1 ∷ [])) (entry 1 (item 1 0) ∷ [])) =
-    subst (λ gs. IsTrue (none_writes (keys_of (item 0 0 ∷ []) gs) (entry 1 (item 1 0) ∷ []))) (other_guards second.evaluates) second.first_wins in
+    subst (λ gs. IsTrue (none_writes (keys_of (item 0 0 ∷ []) gs) (entry 1 (item 1 0) ∷ [])))
+    (other_guards second.evaluates) second.first_wins in
     false≢true written

@@ -1,5 +1,6 @@
 -- What stands of the commits and snapshots of logs that own them.
-use Rattle.std.proofs.Common.{Bool, false, ◌≡◌, ℕ, suc, ◌+◌, ◌-◌, ◌<◌, ◌≤◌, true, ◌⊎◌, inl, inr, List, [], ◌∷◌, length, drop, refl, ap, sym, ◌∙◌, subst, arith, Option, Some, None}
+use Rattle.std.proofs.Common.{Bool, false, ◌≡◌, ℕ, suc, ◌+◌, ◌-◌, ◌<◌, ◌≤◌, true, ◌⊎◌, inl, inr, List, [], ◌∷◌, length}
+use Rattle.std.proofs.Common.{drop, refl, ap, sym, ◌∙◌, subst, arith, Option, Some, None}
 use Rattle.std.specs.Prelude.{◌==◌, IsTrue, IfSome, is_some, slice_index_or, map}
 use Rattle.std.specs.List.{AllByRecursion}
 use Rattle.std.proofs.lemmas.Bool.{cond_both, false≢true}
@@ -16,11 +17,14 @@ use Rattle.si_model.specs.declared.log.Event.TheVariants.{Tried}
 use Rattle.si_model.specs.Lists.{Listed}
 use Rattle.si_model.specs.Rows.{writes_key}
 use Rattle.si_model.specs.History.{stamp_at, stamp_of}
-use Rattle.si_model.specs.Tells.{Tell, prefix_in, number_in, commit_in, last_number, reads_in, locks_in, writes_in, snaps_in, ops_in, tells_from, tells_of}
-use Rattle.si_model.specs.Commits.{Published, published_in, published_at, published_of, published_from, published_by, snaps_of, snaps_by}
+use Rattle.si_model.specs.Tells.{Tell, prefix_in, number_in, commit_in, last_number, reads_in, locks_in, writes_in}
+use Rattle.si_model.specs.Tells.{snaps_in, ops_in, tells_from, tells_of}
+use Rattle.si_model.specs.Commits.{Published, published_in, published_at, published_of, published_from, published_by}
+use Rattle.si_model.specs.Commits.{snaps_of, snaps_by}
 use Rattle.si_model.specs.Snapshots.{contains, sum_above}
 use Rattle.si_model.specs.Consistency.{OwnsSnapshot, NumbersFollow, AreOwned}
-use Rattle.si_model.proofs.ListLemmas.{All-listed, All-from_listed, listed_append_left, listed_append_right, listed_append_cases}
+use Rattle.si_model.proofs.ListLemmas.{All-listed, All-from_listed, listed_append_left, listed_append_right}
+use Rattle.si_model.proofs.ListLemmas.{listed_append_cases}
 
 abbrev pub is_of : ℕ → Published → Bool
 is_of j c = c.line.worker == j
@@ -48,7 +52,8 @@ pub record IsPublishing (j : ℕ) (t : Tell) (c : Published) : Type 0 where
   pub snap : c.snap ≡ t.snap
   pub ops : c.ops ≡ t.ops
 
-publishing_in : (j : ℕ) (t : Tell) (a : Attempt) (p : Option ℕ) (o : Outcome) (c : Published) → Listed c (published_in j t a p o)
+publishing_in : (j : ℕ) (t : Tell) (a : Attempt) (p : Option ℕ) (o : Outcome) (c : Published)
+    → Listed c (published_in j t a p o)
     → t.event ≡ Tried a → a.prefix ≡ p → a.outcome ≡ o → IsPublishing j t c
 publishing_in j t a (Some p) (Commit n) c l e q r = elim l [
   | inl h ↦ record {
@@ -66,12 +71,14 @@ publishing_in j t a (Some p) (Commit n) c l e q r = elim l [
 ]
 publishing_in j t a p o c l e q r = elim l [ ]
 
-pub publishing_at : (j : ℕ) (t : Tell) (e : Event) (c : Published) → Listed c (published_at j t e) → t.event ≡ e → IsPublishing j t c
+pub publishing_at : (j : ℕ) (t : Tell) (e : Event) (c : Published) → Listed c (published_at j t e) → t.event ≡ e
+    → IsPublishing j t c
 publishing_at j t (Tried a) c l e = publishing_in j t a a.prefix a.outcome c l e refl refl
 publishing_at j t v c l e = elim l [ ]
 
 -- a listed commit is published by a listed event
-pub publishing : (j : ℕ) (ts : List Tell) (c : Published) → Listed c (published_of j ts) → (t : Tell) × Listed t ts × IsPublishing j t c
+pub publishing : (j : ℕ) (ts : List Tell) (c : Published) → Listed c (published_of j ts) → (t : Tell) × Listed t ts
+    × IsPublishing j t c
 publishing j [] c l = elim l [ ]
 publishing j (t ∷ ts) c l =
     elim (listed_append_cases (published_at j t t.event) (published_of j ts) c l) [
@@ -94,15 +101,20 @@ worker_from j (ts ∷ tss) c l =
       | inr h ↦ omega (arith, worker_from (suc j) tss c h)
     ]
 
-pub snap_listed : (ts : List Tell) (t : Tell) → Listed t ts → is_some (prefix_in t.event) ≡ true → Listed t.snap (snaps_of ts)
+pub snap_listed : (ts : List Tell) (t : Tell) → Listed t ts → is_some (prefix_in t.event) ≡ true
+    → Listed t.snap (snaps_of ts)
 snap_listed [] t l h = elim l [ ]
 snap_listed (x ∷ ts) t l h =
     cond_both (is_some (prefix_in x.event)) (x.snap ∷ snaps_of ts) (snaps_of ts) (λ zs. Listed t.snap zs)
     (λ e. elim l [ inl q ↦ inl (ap (λ z. z.snap) q) | inr r ↦ inr (snap_listed ts t r h) ])
-    (λ e. elim l [ inl q ↦ absurd (false≢true (sym e ∙ ap (λ z. is_some (prefix_in z.event)) q ∙ h)) | inr r ↦ snap_listed ts t r h ])
+    (λ e. elim l [
+      | inl q ↦ absurd (false≢true (sym e ∙ ap (λ z. is_some (prefix_in z.event)) q ∙ h))
+      | inr r ↦ snap_listed ts t r h
+    ])
 
 -- an event with a prefix lists its snapshot, and the prefix is the snapshot's sum
-pub tell_stands : (start j : ℕ) (tss : List (List Tell)) → AreOwned start j tss → (ts : List Tell) → Listed ts tss → (t : Tell)
+pub tell_stands : (start j : ℕ) (tss : List (List Tell)) → AreOwned start j tss → (ts : List Tell) → Listed ts tss
+    → (t : Tell)
     → Listed t ts → (p : ℕ) → prefix_in t.event ≡ Some p → Listed t.snap (snaps_by tss) × (p ≡ sum_above start t.snap)
 tell_stands start j [] w ts l t k p e = elim l [ ]
 tell_stands start j (us ∷ tss) w ts l t k p e =
@@ -110,9 +122,11 @@ tell_stands start j (us ∷ tss) w ts l t k p e =
       | inl q ↦
           let here : Listed t us = subst (Listed t) (sym q) k in (
             listed_append_left (snaps_of us) (snaps_by tss) t.snap (snap_listed us t here (ap is_some e)),
-            subst (λ o. IfSome o (λ p. p ≡ sum_above start t.snap)) e (All-listed (OwnsSnapshot start) us t w.0.snapshots here).sum,
+            subst (λ o. IfSome o (λ p. p ≡ sum_above start t.snap)) e
+                (All-listed (OwnsSnapshot start) us t w.0.snapshots here).sum,
           )
-      | inr r ↦ let h = tell_stands start (suc j) tss w.1 ts r t k p e in (listed_append_right (snaps_of us) (snaps_by tss) t.snap h.0, h.1)
+      | inr r ↦ let h = tell_stands start (suc j) tss w.1 ts r t k p e in
+          (listed_append_right (snaps_of us) (snaps_by tss) t.snap h.0, h.1)
     ]
 
 -- the snapshot of a listed commit is listed, and its sum is the commit's prefix
@@ -133,13 +147,17 @@ published_log j (ts ∷ tss) c l =
 pub prefix_at : (j : ℕ) (t : Tell) (c : Published) → IsPublishing j t c → prefix_in t.event ≡ Some c.line.prefix
 prefix_at j t c p = ap prefix_in p.event ∙ p.prefix
 
-pub standing : (start j : ℕ) (tss : List (List Tell)) → AreOwned start j tss → (c : Published) → Listed c (published_from j tss)
+pub standing : (start j : ℕ) (tss : List (List Tell)) → AreOwned start j tss → (c : Published)
+    → Listed c (published_from j tss)
     → IsStanding start tss c
 standing start j tss w c l =
     let log = published_log j tss c l in
     let p = publishing c.line.worker log.0 c log.2 in
     let s = tell_stands start j tss w log.0 log.1 p.0 p.1 c.line.prefix (prefix_at c.line.worker p.0 c p.2) in
-    record { snap = subst (λ z. Listed z (snaps_by tss)) (sym p.2.snap) s.0; prefix = s.1 ∙ ap (sum_above start) (sym p.2.snap) }
+    record {
+      snap = subst (λ z. Listed z (snaps_by tss)) (sym p.2.snap) s.0;
+      prefix = s.1 ∙ ap (sum_above start) (sym p.2.snap);
+    }
 
 -- ---- numbers
 
@@ -147,7 +165,8 @@ pub stamp_path : (a b c d : ℕ) → a ≡ b → c ≡ d → stamp_at a c ≡ st
 stamp_path a b c d e f = ap (λ x. stamp_at x c) e ∙ ap (λ y. stamp_at b y) f
 
 -- numbers that follow m are above it
-pub number_above : (m : ℕ) (cs : List Published) → NumbersFollow m cs → (c : Published) → Listed c cs → m < c.line.number
+pub number_above : (m : ℕ) (cs : List Published) → NumbersFollow m cs → (c : Published) → Listed c cs
+    → m < c.line.number
 number_above m [] h c l = elim l [ ]
 number_above m (x ∷ cs) h c l = elim l [
   | inl q ↦ omega (arith, h.0, ap (λ z. z.line.number) q)
@@ -170,7 +189,8 @@ one_number m (x ∷ cs) h c d l k e =
     ]
 
 -- a stamp names one commit
-pub one_stamp : (start j : ℕ) (tss : List (List Tell)) → AreOwned start j tss → (c d : Published) → Listed c (published_from j tss)
+pub one_stamp : (start j : ℕ) (tss : List (List Tell)) → AreOwned start j tss → (c d : Published)
+    → Listed c (published_from j tss)
     → Listed d (published_from j tss) → stamp_of c.line ≡ stamp_of d.line → c ≡ d
 one_stamp start j [] w c d l k e = elim l [ ]
 one_stamp start j (ts ∷ tss) w c d l k e =
@@ -192,20 +212,31 @@ Publishes j t e =
     ((published_at j t e ≡ []) × (commit_in e ≡ None))
     ⊎ ((c : Published) × (published_at j t e ≡ c ∷ []) × (commit_in e ≡ Some c.line.number))
 
-publishes_in : (j : ℕ) (t : Tell) (a : Attempt) (p : Option ℕ) (o : Outcome) → (IsTrue (is_some (number_in o)) → IsTrue (is_some p))
+publishes_in : (j : ℕ) (t : Tell) (a : Attempt) (p : Option ℕ) (o : Outcome)
+    → (IsTrue (is_some (number_in o)) → IsTrue (is_some p))
     → ((published_in j t a p o ≡ []) × (number_in o ≡ None))
     ⊎ ((c : Published) × (published_in j t a p o ≡ c ∷ []) × (number_in o ≡ Some c.line.number))
 publishes_in j t a (Some p) (Commit n) h =
-    inr (record { line = record { worker = j; number = n; prefix = p; txn = a.txn; writes = t.writes }; snap = t.snap; ops = t.ops }, refl, refl)
+    inr (
+      record {
+        line = record { worker = j; number = n; prefix = p; txn = a.txn; writes = t.writes };
+        snap = t.snap;
+        ops = t.ops;
+      },
+      refl,
+      refl,
+    )
 publishes_in j t a None (Commit n) h = absurd (false≢true (h refl))
 publishes_in j t a p o h = inl (refl, refl)
 
-pub publishes : (j : ℕ) (t : Tell) (e : Event) → (IsTrue (is_some (commit_in e)) → IsTrue (is_some (prefix_in e))) → Publishes j t e
+pub publishes : (j : ℕ) (t : Tell) (e : Event) → (IsTrue (is_some (commit_in e)) → IsTrue (is_some (prefix_in e)))
+    → Publishes j t e
 publishes j t (Tried a) h = publishes_in j t a a.prefix a.outcome h
 publishes j t e h = inl (refl, refl)
 
 -- the last number counts the commits
-pub last_number-is : (start j last : ℕ) (ts : List Tell) → AllByRecursion (OwnsSnapshot start) ts → NumbersFollow last (published_of j ts)
+pub last_number-is : (start j last : ℕ) (ts : List Tell) → AllByRecursion (OwnsSnapshot start) ts
+    → NumbersFollow last (published_of j ts)
     → last_number last ts ≡ last + length (published_of j ts)
 last_number-is start j last [] w n = omega arith
 last_number-is start j last (t ∷ ts) w n =
@@ -219,20 +250,24 @@ last_number-is start j last (t ∷ ts) w n =
 
 -- ---- operations
 
-tell_ops : (jobs : List (List Op)) (es : List Event) (rs : List Item) (ls : List Lock) (ws : List Item) (ss : List (List ℕ)) (t : Tell)
+tell_ops : (jobs : List (List Op)) (es : List Event) (rs : List Item) (ls : List Lock) (ws : List Item)
+    (ss : List (List ℕ)) (t : Tell)
     → Listed t (tells_from jobs es rs ls ws ss) → t.ops ≡ ops_in jobs t.event
 tell_ops jobs [] rs ls ws ss t l = elim l [ ]
 tell_ops jobs (e ∷ es) rs ls ws ss t l = elim l [
   | inl q ↦ sym (ap (λ z. z.ops) q) ∙ ap (λ z. ops_in jobs z.event) q
-  | inr r ↦ tell_ops jobs es (drop (reads_in e) rs) (drop (locks_in e) ls) (drop (writes_in e) ws) (drop (snaps_in e) ss) t r
+  | inr r ↦ tell_ops jobs es (drop (reads_in e) rs) (drop (locks_in e) ls) (drop (writes_in e) ws)
+      (drop (snaps_in e) ss) t r
 ]
 
 -- a commit's operations are those of its transaction
-pub commit_ops : (jobs : List (List Op)) (j : ℕ) (logs : List Log) (c : Published) → Listed c (published_from j (map (tells_of jobs) logs))
+pub commit_ops : (jobs : List (List Op)) (j : ℕ) (logs : List Log) (c : Published)
+    → Listed c (published_from j (map (tells_of jobs) logs))
     → c.ops ≡ slice_index_or jobs (c.line.txn - 1) []
 commit_ops jobs j [] c l = elim l [ ]
 commit_ops jobs j (log ∷ logs) c l =
-    elim (listed_append_cases (published_of j (tells_of jobs log)) (published_from (suc j) (map (tells_of jobs) logs)) c l) [
+    elim (listed_append_cases (published_of j (tells_of jobs log)) (published_from (suc j) (map (tells_of jobs) logs)) c
+    l) [
       | inl h ↦
           let r = publishing j (tells_of jobs log) c h in
           let s = r.2 in

@@ -56,15 +56,21 @@ module _ (s : Setting) (asked : Asked) (tss : List (List Tell)) (ok : AreConsist
         agrees s.start tss ok.order own ok.first_wins history arr (rows_of s.rows) s.workers t p e here.0 here.1
         (length_within s.start t.snap tss (ok.order.within t.snap here.0) ∙ ok.one_log_each)
 
-    worker_runs : asked ≡ by_script s → (j : ℕ) (more : List (List Tell)) → ((ts : List Tell) → Listed ts more → Listed ts tss)
-        → AreSound s asked (view_by s tss) tss j more → FollowPolicies s (view_by s tss) j more → AreWorkerRuns s w tss j more
+    worker_runs : asked ≡ by_script s → (j : ℕ) (more : List (List Tell))
+        → ((ts : List Tell) → Listed ts more → Listed ts tss)
+        → AreSound s asked (view_by s tss) tss j more → FollowPolicies s (view_by s tss) j more
+        → AreWorkerRuns s w tss j more
     worker_runs script j [] among sound policies = tt
     worker_runs script j (ts ∷ more) among sound policies =
         let agree = agree_on ts (among ts (inl refl)) in
         let asks : AsksMore asked (by_script s) =
-        record { ops = λ op l. subst (λ a. Listed op a.ops) script l; by_calls = λ h. subst (λ a. a.by_calls ≡ true) script h } in
+        record {
+          ops = λ op l. subst (λ a. Listed op a.ops) script l;
+          by_calls = λ h. subst (λ a. a.by_calls ≡ true) script h;
+        } in
         let moved = moved_sound s asked (by_script s) (view_by s tss) w tss tss j ts asks
-        (extends s.start tss ok.order own ok.first_wins history arr (rows_of s.rows) s.workers) (keep_causes s w tss j ts) agree sound.0 in (
+        (extends s.start tss ok.order own ok.first_wins history arr (rows_of s.rows) s.workers)
+        (keep_causes s w tss j ts) agree sound.0 in (
           record {
             sees = moved.sees;
             follows = moved_policy s asked (view_by s tss) w j ts agree sound.0.answers policies.0;
@@ -90,8 +96,10 @@ run_of s logs history audit consistent arr is_audit =
       numbered = numbered s (by_script s) (rows_of s.rows) tss ok.one_log_each ok.order owns ok.sound history arr;
       workers = worker_runs s (by_script s) tss ok history arr refl 1 tss (λ ts l. l) ok.sound consistent.policies;
       listed =
-          let once = λ (c : Published) (l : Listed c history). listed_once s.start tss ok.order.owned c (from_history s.start tss ok.order history arr c l) in
-          All-map entry_of (λ e. times_listed e 1 tss ≡ 1) history (All-from_listed (λ c. times_listed c.line 1 tss ≡ 1) history once);
+          let once = λ (c : Published) (l : Listed c history). listed_once s.start tss ok.order.owned c
+          (from_history s.start tss ok.order history arr c l) in
+          All-map entry_of (λ e. times_listed e 1 tss ≡ 1) history
+          (All-from_listed (λ c. times_listed c.line 1 tss ≡ 1) history once);
       audit = is_audit;
     }
 
@@ -99,7 +107,8 @@ run_of s logs history audit consistent arr is_audit =
 pub arranged_is_run : ArrangedIsRun
 arranged_is_run s logs lines audit consistent arranged is_audit =
     let h = ordered_lines s.start (map (tells_of s.jobs) logs) lines arranged in
-    subst (λ es. IsAudit (state_at (rows_of s.rows) es) (map (tells_of s.jobs) logs) audit → IsRun s (record { history = es; logs = logs; audit = audit })) h.2
+    subst (λ es. IsAudit (state_at (rows_of s.rows) es) (map (tells_of s.jobs) logs) audit
+    → IsRun s (record { history = es; logs = logs; audit = audit })) h.2
     (run_of s logs h.0 audit consistent h.1) is_audit
 
 -- consistent logs have no circle of guards in a level

@@ -1,12 +1,12 @@
 -- The law: consistent logs with the history arranged from them are a run of the snapshot isolation machine.
-use Rattle.std.specs.Prelude.{ℕ, ◌≡◌, List, map}
+use Rattle.std.specs.Prelude.{◌≡◌, List, map}
 use Rattle.si_model.specs.declared.log.Log.{Log}
 use Rattle.si_model.specs.declared.report.CommitLine.{CommitLine}
 use Rattle.si_model.specs.declared.report.AuditRow.{AuditRow}
 use Rattle.si_model.specs.Rows.{Rows, rows_of}
 use Rattle.si_model.specs.State.{state_at}
 use Rattle.si_model.specs.Tells.{Tell, tells_of}
-use Rattle.si_model.specs.Commits.{Published, published_by}
+use Rattle.si_model.specs.Commits.{published_by}
 use Rattle.si_model.specs.Snapshots.{newest_in, value_by}
 use Rattle.si_model.specs.Setting.{Setting, Asked}
 use Rattle.si_model.specs.Arranged.{level_of, guards_beside, IsArranged}
@@ -24,7 +24,8 @@ ArrangedIsRun =
 
 -- consistent logs can be arranged
 abbrev pub ConsistentArrange : Type 0
-ConsistentArrange = (s : Setting) (logs : List Log) → AreConsistentFor s logs → CanBeArranged s.start s.jobs (map (tells_of s.jobs) logs)
+ConsistentArrange = (s : Setting) (logs : List Log) → AreConsistentFor s logs
+    → CanBeArranged s.start s.jobs (map (tells_of s.jobs) logs)
 
 -- also over the calls the guards of a level make no circle
 abbrev pub ConsistentNoCircle : Type 0

@@ -4,20 +4,20 @@ use Rattle.std.specs.List.{list_any, list_all}
 use Rattle.si_model.specs.declared.row.Key.{Key}
 use Rattle.si_model.specs.declared.op.Op.{Op}
 use Rattle.si_model.specs.declared.log.Stamp.{Stamp}
-use Rattle.si_model.specs.declared.log.Lock.{Lock}
 use Rattle.si_model.specs.declared.log.Outcome.{Outcome}
 use Rattle.si_model.specs.declared.log.Outcome.TheVariants.{Newer}
 use Rattle.si_model.specs.declared.log.Event.{Event}
 use Rattle.si_model.specs.declared.log.Event.TheVariants.{Tried, Moved}
 use Rattle.si_model.specs.declared.report.CommitLine.{CommitLine}
-use Rattle.si_model.specs.Lists.{Listed, joined}
+use Rattle.si_model.specs.Lists.{Listed, concat_of}
 use Rattle.si_model.specs.Rows.{key_at, same_key}
 use Rattle.si_model.specs.History.{same_stamp, is_version}
 use Rattle.si_model.specs.Tells.{Tell, prefix_in, last_number}
 use Rattle.si_model.specs.View.{View}
 use Rattle.si_model.specs.Setting.{Setting, Asked}
 use Rattle.si_model.specs.Answers.{lock_key}
-use Rattle.si_model.specs.Causes.{others_of, tells_by, lists_lock, collects_entry, has_collected, move_count, moves_version, is_done, keeps_bucket, ends_locking, is_written}
+use Rattle.si_model.specs.Causes.{others_of, tells_by, lists_lock, collects_entry, has_collected, move_count}
+use Rattle.si_model.specs.Causes.{moves_version, is_done, keeps_bucket, ends_locking, is_written}
 
 -- all that was asked for is asked for
 pub record AsksMore (a b : Asked) : Type 0 where
@@ -58,18 +58,24 @@ tells_newer key q event = false
 
 -- what the causes of worker j's events ts rest on in the logs of all is there in other logs and another view too
 pub record KeepCauses (s : Setting) (w : View) (tss now : List (List Tell)) (j : ℕ) (ts : List Tell) : Type 0 where
-  pub locks : (key : Key) (q : Stamp) → IsTrue (list_any (lists_lock key q) (others_of j tss)) → IsTrue (list_any (lists_lock key q) (others_of j now))
-  pub entries : (i n : ℕ) → IsTrue (list_any (λ o. collects_entry i n o.event) (others_of j tss)) → IsTrue (list_any (λ o. collects_entry i n o.event) (others_of j now))
-  pub collects : IsTrue (list_any (λ o. has_collected o.event) (others_of j tss)) → IsTrue (list_any (λ o. has_collected o.event) (others_of j now))
-  pub done : (key : Key) (q : Stamp) → IsTrue (list_any (λ o. moves_version is_done key q o.event) (others_of j tss)) → IsTrue (list_any (λ o. moves_version is_done key q o.event) (others_of j now))
+  pub locks : (key : Key) (q : Stamp) → IsTrue (list_any (lists_lock key q) (others_of j tss))
+      → IsTrue (list_any (lists_lock key q) (others_of j now))
+  pub entries : (i n : ℕ) → IsTrue (list_any (λ o. collects_entry i n o.event) (others_of j tss))
+      → IsTrue (list_any (λ o. collects_entry i n o.event) (others_of j now))
+  pub collects : IsTrue (list_any (λ o. has_collected o.event) (others_of j tss))
+      → IsTrue (list_any (λ o. has_collected o.event) (others_of j now))
+  pub done : (key : Key) (q : Stamp) → IsTrue (list_any (λ o. moves_version is_done key q o.event) (others_of j tss))
+      → IsTrue (list_any (λ o. moves_version is_done key q o.event) (others_of j now))
   pub moves : (b : ℕ) → move_count b (others_of j tss) ≤ move_count b (others_of j now)
-  pub all_moves : (b : ℕ) → move_count b (joined tss) ≤ move_count b (joined now)
+  pub all_moves : (b : ℕ) → move_count b (concat_of tss) ≤ move_count b (concat_of now)
   -- moves of the keys that ts moves stay in their buckets
   pub buckets :
       (b : ℕ) (key : Key) → IsTrue (list_any (λ o. moves_key_into b key o.event) ts)
-      → IsTrue (list_all (λ o. keeps_bucket b key o.event) (joined tss)) → IsTrue (list_all (λ o. keeps_bucket b key o.event) (joined now))
+      → IsTrue (list_all (λ o. keeps_bucket b key o.event) (concat_of tss))
+      → IsTrue (list_all (λ o. keeps_bucket b key o.event) (concat_of now))
   -- a worker that stopped before it published what ts found newer is still stopped, or has published it
   pub stops :
       (key : Key) (q : Stamp) → IsTrue (list_any (λ o. tells_newer key q o.event) ts) → q.thread ≢ j
       → IsTrue (ends_locking key (tells_by q.thread tss)) → q.number ≡ last_number s.start (tells_by q.thread tss) + 1
-      → IsTrue (is_written w key q) ⊎ (IsTrue (ends_locking key (tells_by q.thread now)) × (q.number ≡ last_number s.start (tells_by q.thread now) + 1))
+      → IsTrue (is_written w key q) ⊎ (IsTrue (ends_locking key (tells_by q.thread now))
+      × (q.number ≡ last_number s.start (tells_by q.thread now) + 1))

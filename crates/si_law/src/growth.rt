@@ -1,8 +1,8 @@
 //! How one worker's log may get another end so that the logs of all stay consistent.
 //!
-//! A worker's log is a front that stays and an end that may be exchanged: what it lists so far of the attempt at hand, as
-//! the cut attempt that it would be if its worker stopped now. At each step that gives a log another end the layer above
-//! shows what that worker owes, as said here; the logs of all then stay consistent.
+//! A worker's log is a front that stays and an end that may be exchanged: what it lists so far of the attempt at
+//! hand, as the cut attempt that it would be if its worker stopped now. At each step that gives a log another end the
+//! layer above shows what that worker owes, as said here; the logs of all then stay consistent.
 
 ghost use Rattle.std.specs.Prelude.{replicate, []};
 ghost use Rattle.si_model.specs.Setting.{Setting, Asked};
@@ -21,27 +21,27 @@ pub fn start_law()
 ///   collects, that it collected at all, its done moves, and no fewer moves into any bucket;
 /// - that each prefix in the new end is the sum of its snapshot, and each of its snapshots a moment: within what is
 ///   published, ordered with every other snapshot, and with the commits that those it contains overtake;
-/// - that the new end sees no less than the worker knew after the front, answers as its transactions' evaluations do, and
-///   has its causes, by the view before and the logs with the new end;
+/// - that the new end sees no less than the worker knew after the front, answers as its transactions' evaluations do,
+///   and has its causes, by the view before and the logs with the new end;
 /// - that the new end moves no key into another bucket than the moves listed so far;
-/// - that, where the old end was cut under a lock of a key, the new one is too, or no other worker has found the version
-///   of the key that this one would have published next.
+/// - that, where the old end was cut under a lock of a key, the new one is too, or no other worker has found the
+///   version of the key that this one would have published next.
 pub fn quiet_growth_law()
     ensures { QuietGrowth }
 {}
 
-/// An end that publishes nothing may be exchanged for a commit and what follows it, which publishes no more, while more is
-/// asked for.
+/// An end that publishes nothing may be exchanged for a commit and what follows it, which publishes no more, while
+/// more is asked for.
 ///
 /// The worker owes what [`quiet_growth_law`] says, but for the commit's own answer, and for the old end's locks. Of the
 /// commit it owes, by the view before
 /// - that its number follows the worker's last one;
 /// - that it evaluates its operations with its reads and writes, at least one write;
-/// - that it lists locks of all keys that it writes and then of those that it guards, each at the newest version that its
-///   snapshot shows;
+/// - that it lists locks of all keys that it writes and then of those that it guards, each at the newest version that
+///   its snapshot shows;
 /// - that its snapshot contains each commit that wrote one of these keys;
-/// - that, where the old end was cut under a lock of a key, it writes the key, or no other worker has found the version of
-///   the key that this one would have published next.
+/// - that, where the old end was cut under a lock of a key, it writes the key, or no other worker has found the
+///   version of the key that this one would have published next.
 pub fn commit_growth_law()
     ensures { CommitGrowth }
 {}

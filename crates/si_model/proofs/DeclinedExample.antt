@@ -19,7 +19,8 @@ abbrev pub report : Report
 report = record {
   history = [];
   logs =
-      log (tried 1 1 (Some 0) 1 0 (Declined 1) ∷ tried 2 1 (Some 0) 1 0 (Declined 1) ∷ tried 3 1 (Some 0) 1 0 (Declined 1) ∷ [])
+      log (tried 1 1 (Some 0) 1 0 (Declined 1) ∷ tried 2 1 (Some 0) 1 0 (Declined 1)
+      ∷ tried 3 1 (Some 0) 1 0 (Declined 1) ∷ [])
       (item 0 0 5 ∷ item 0 0 5 ∷ item 0 0 5 ∷ []) []
       ∷ [];
   audit = audited 0 0 5 ∷ [];
@@ -32,13 +33,24 @@ run = record {
   numbered = tt;
   workers = (
     record {
-      sees = (((omega arith, (omega arith, tt)), tt), (((omega arith, (omega arith, tt)), tt), (((omega arith, (omega arith, tt)), tt), tt)));
-      follows = record { parts = attempted _ ∷ attempted _ ∷ attempted _ ∷ []; read = refl; settled = refl; fulls = λ no_tidy. absurd cc };
+      sees = (
+        ((omega arith, (omega arith, tt)), tt),
+        (((omega arith, (omega arith, tt)), tt), (((omega arith, (omega arith, tt)), tt), tt)),
+      );
+      follows = record {
+        parts = attempted _ ∷ attempted _ ∷ attempted _ ∷ [];
+        read = refl;
+        settled = refl;
+        fulls = λ no_tidy. absurd cc;
+      };
       answers = (((refl, refl), tt), (((refl, refl), tt), (((refl, refl), tt), tt)));
       causes = (tt, (tt, (tt, tt)));
     },
     tt,
   );
   listed = tt;
-  audit = record { state = record { ordered = (tt, tt); same = λ key. grind (arith, nat_tests) }; lines = (unmarked _ 0 0 5, tt) };
+  audit = record {
+    state = record { ordered = (tt, tt); same = λ key. grind (arith, nat_tests) };
+    lines = (unmarked _ 0 0 5, tt);
+  };
 }

@@ -45,7 +45,8 @@ tried x nth p r l o = Tried (record { txn = x; nth = nth; prefix = p; reads = r;
 
 -- t x try nth prefix p commit number, with so many reads, locks and writes
 abbrev pub commits : ℕ → ℕ → ℕ → ℕ → ℕ → ℕ → ℕ → Event
-commits x nth p r l w number = Tried (record { txn = x; nth = nth; prefix = Some p; reads = r; locks = l; writes = w; outcome = Commit number })
+commits x nth p r l w number =
+    Tried (record { txn = x; nth = nth; prefix = Some p; reads = r; locks = l; writes = w; outcome = Commit number })
 
 -- move b t k j n done
 abbrev pub moved : ℕ → ℕ → ℕ → ℕ → ℕ → Event
@@ -65,7 +66,8 @@ log events reads locks = record { events = events; reads = reads; locks = locks;
 
 -- a worker's events with all its reads, locks, writes and snapshots
 abbrev pub whole_log : List Event → List Item → List Lock → List Item → List (List ℕ) → Log
-whole_log events reads locks writes snaps = record { events = events; reads = reads; locks = locks; writes = writes; snaps = snaps }
+whole_log events reads locks writes snaps =
+    record { events = events; reads = reads; locks = locks; writes = writes; snaps = snaps }
 
 -- a t k v
 abbrev pub audited : ℕ → ℕ → ℕ → AuditRow
@@ -97,5 +99,6 @@ setting_with workers tries tidy capacity ring rows jobs owners = record {
 }
 
 -- what holds of each pair of the list
-pub of_pairs : {A : Type 0} (R : A → A → Type 0) (xs : List A) → AllByRecursion (λ x. AllByRecursion (R x) xs) xs → (x y : A) → Listed x xs → Listed y xs → R x y
+pub of_pairs : {A : Type 0} (R : A → A → Type 0) (xs : List A) → AllByRecursion (λ x. AllByRecursion (R x) xs) xs
+    → (x y : A) → Listed x xs → Listed y xs → R x y
 of_pairs R xs h x y l k = All-listed (R x) xs y (All-listed (λ z. AllByRecursion (R z) xs) xs x h l) k

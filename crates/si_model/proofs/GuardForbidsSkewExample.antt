@@ -24,8 +24,10 @@ abbrev pub report : Report
 report = record {
   history = entry 1 1 0 1 (item 0 0 0 ∷ []) ∷ [];
   logs =
-      log (tried 1 1 (Some 0) 4 2 (Commit 1) ∷ []) (item 0 0 60 ∷ item 0 1 60 ∷ item 0 1 60 ∷ item 0 0 60 ∷ []) (lock 0 0 0 0 ∷ lock 0 1 0 0 ∷ [])
-      ∷ log (tried 2 1 (Some 0) 4 1 (Newer (lock 0 0 1 1)) ∷ []) (item 0 0 60 ∷ item 0 1 60 ∷ item 0 0 60 ∷ item 0 1 60 ∷ []) (lock 0 1 0 0 ∷ [])
+      log (tried 1 1 (Some 0) 4 2 (Commit 1) ∷ []) (item 0 0 60 ∷ item 0 1 60 ∷ item 0 1 60 ∷ item 0 0 60 ∷ [])
+      (lock 0 0 0 0 ∷ lock 0 1 0 0 ∷ [])
+      ∷ log (tried 2 1 (Some 0) 4 1 (Newer (lock 0 0 1 1)) ∷ []) (item 0 0 60 ∷ item 0 1 60 ∷ item 0 0 60 ∷ item 0 1 60
+      ∷ []) (lock 0 1 0 0 ∷ [])
       ∷ [];
   audit = audited 0 0 0 ∷ audited 0 1 60 ∷ [];
 }
@@ -34,7 +36,16 @@ run : IsRun setting report
 run = record {
   one_log_each = refl;
   legal = (
-    record { job = (omega arith, omega arith); prefix = omega arith; reads = item 0 0 60 ∷ item 0 1 60 ∷ item 0 1 60 ∷ item 0 0 60 ∷ []; guards = key_at 0 1 ∷ []; evaluates = refl; writes = omega arith; first_wins = refl },
+    record {
+      job = (omega arith, omega arith);
+      prefix = omega arith;
+      reads = item 0 0 60 ∷ item 0 1 60 ∷ item 0 1 60 ∷ item 0 0 60 ∷ [];
+      guards = key_at 0 1 ∷ [];
+      evaluates =
+          refl;
+      writes = omega arith;
+      first_wins = refl;
+    },
     tt,
   );
   numbered = (refl, tt);
@@ -56,5 +67,8 @@ run = record {
     ),
   );
   listed = (refl, tt);
-  audit = record { state = record { ordered = ((refl, tt), (tt, tt)); same = λ key. grind (arith, nat_tests) }; lines = (unmarked _ 0 0 0, (unmarked _ 0 1 60, tt)) };
+  audit = record {
+    state = record { ordered = ((refl, tt), (tt, tt)); same = λ key. grind (arith, nat_tests) };
+    lines = (unmarked _ 0 0 0, (unmarked _ 0 1 60, tt));
+  };
 }

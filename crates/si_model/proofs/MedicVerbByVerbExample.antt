@@ -12,7 +12,8 @@ use Rattle.si_model.specs.Run.{IsRun}
 use Rattle.si_model.proofs.ExampleWords.{row, item, lock, tried, entry, log, audited, unmarked, setting_with}
 
 abbrev pub setting : Setting
-setting = record (setting_with 2 1 false 2 2 (row 0 0 0 ∷ row 0 1 0 ∷ []) ((Put 0 0 (1 ∷ []) ∷ Put 0 1 (1 ∷ []) ∷ []) ∷ (Get 0 0 ∷ Get 0 1 ∷ []) ∷ []) (1 ∷ 2 ∷ [])) { held = true }
+setting = record (setting_with 2 1 false 2 2 (row 0 0 0 ∷ row 0 1 0 ∷ []) ((Put 0 0 (1 ∷ []) ∷ Put 0 1 (1 ∷ []) ∷ [])
+    ∷ (Get 0 0 ∷ Get 0 1 ∷ []) ∷ []) (1 ∷ 2 ∷ [])) { held = true }
 
 abbrev pub report : Report
 report = record {
@@ -27,12 +28,28 @@ report = record {
 run : IsRun setting report
 run = record {
   one_log_each = refl;
-  legal = (record { job = (omega arith, omega arith); prefix = omega arith; reads = []; guards = []; evaluates = refl; writes = omega arith; first_wins = refl }, tt);
+  legal = (
+    record {
+      job = (omega arith, omega arith);
+      prefix = omega arith;
+      reads = [];
+      guards = [];
+      evaluates = refl;
+      writes = omega arith;
+      first_wins = refl;
+    },
+    tt,
+  );
   numbered = (refl, tt);
   workers = (
     record {
       sees = (((omega arith, (omega arith, (omega arith, tt))), tt), (tt, tt));
-      follows = record { parts = attempted _ ∷ stopped _ ∷ []; read = refl; settled = refl; fulls = λ no_tidy. absurd cc };
+      follows = record {
+        parts = attempted _ ∷ stopped _ ∷ [];
+        read = refl;
+        settled = refl;
+        fulls = λ no_tidy. absurd cc;
+      };
       answers = (((item 0 0 1 ∷ item 0 1 1 ∷ [], [], refl, (inl refl, refl)), (refl, (refl, tt))), (tt, tt));
       causes = (tt, ((refl, refl), tt));
     },
@@ -47,5 +64,8 @@ run = record {
     ),
   );
   listed = (refl, tt);
-  audit = record { state = record { ordered = ((refl, tt), (tt, tt)); same = λ key. grind (arith, nat_tests) }; lines = (unmarked _ 0 0 1, (unmarked _ 0 1 1, tt)) };
+  audit = record {
+    state = record { ordered = ((refl, tt), (tt, tt)); same = λ key. grind (arith, nat_tests) };
+    lines = (unmarked _ 0 0 1, (unmarked _ 0 1 1, tt));
+  };
 }

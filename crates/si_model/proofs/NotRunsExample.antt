@@ -24,11 +24,15 @@ use Rattle.si_model.proofs.TransferExample as transfer
 values_differ : (a b : ℕ) → a ≢ b → Some (a ∷ []) ≡ Some (b ∷ []) → ⊥
 values_differ a b differ same = differ (cc)
 
-reads_differ : (a b : ℕ) → a ≢ b → (ws vs : List Item) (gs hs : List Key) → Done (item 0 0 a ∷ []) ws gs ≡ Done (item 0 0 b ∷ []) vs hs → ⊥
-reads_differ a b differ ws vs gs hs same = let items : item 0 0 a ≡ item 0 0 b = cc in values_differ a b differ (ap (λ (i : Item). i.value) items)
+reads_differ : (a b : ℕ) → a ≢ b → (ws vs : List Item) (gs hs : List Key)
+    → Done (item 0 0 a ∷ []) ws gs ≡ Done (item 0 0 b ∷ []) vs hs → ⊥
+reads_differ a b differ ws vs gs hs same = let items : item 0 0 a ≡ item 0 0 b =
+    cc in values_differ a b differ (ap (λ (i : Item). i.value) items)
 
-nothing_locked : (reads ws : List Item) (gs hs : List Key) → Done reads (item 0 0 105 ∷ []) gs ≡ Done reads ws hs → [] ≡ keys_of ws hs → ⊥
-nothing_locked reads ws gs hs evaluates locked = let writes : item 0 0 105 ∷ [] ≡ ws = cc in first_key hs (subst (λ is. [] ≡ keys_of is hs) (sym writes) locked)
+nothing_locked : (reads ws : List Item) (gs hs : List Key) → Done reads (item 0 0 105 ∷ []) gs ≡ Done reads ws hs
+    → [] ≡ keys_of ws hs → ⊥
+nothing_locked reads ws gs hs evaluates locked = let writes : item 0 0 105 ∷ [] ≡ ws =
+    cc in first_key hs (subst (λ is. [] ≡ keys_of is hs) (sym writes) locked)
   where
     first_key : (hs : List Key) → [] ≡ key_at 0 0 ∷ hs → ⊥
     first_key hs same = absurd cc
@@ -39,20 +43,25 @@ nothing_locked reads ws gs hs evaluates locked = let writes : item 0 0 105 ∷ [
 read_changed : IsRun first.setting (record first.report {
   logs =
       log (tried 1 1 (Some 0) 1 1 (Commit 1) ∷ []) (item 0 0 100 ∷ []) (lock 0 0 0 0 ∷ [])
-      ∷ log (tried 2 1 (Some 0) 1 0 (Newer (lock 0 0 1 1)) ∷ tried 2 2 (Some 1) 1 1 (Commit 1) ∷ []) (item 0 0 100 ∷ item 0 0 106 ∷ []) (lock 0 0 1 1 ∷ [])
+      ∷ log (tried 2 1 (Some 0) 1 0 (Newer (lock 0 0 1 1)) ∷ tried 2 2 (Some 1) 1 1 (Commit 1) ∷ []) (item 0 0 100
+      ∷ item 0 0 106 ∷ []) (lock 0 0 1 1 ∷ [])
       ∷ [];
 }) → ⊥
 read_changed run = reads_differ 105 106 (omega arith) _ _ _ _ run.workers.1.0.answers.1.0.0.2
 
 -- the entries exchanged
-order_changed : IsRun first.setting (record first.report { history = entry 2 1 1 2 (item 0 0 112 ∷ []) ∷ entry 1 1 0 1 (item 0 0 105 ∷ []) ∷ [] }) → ⊥
+order_changed : IsRun first.setting (record first.report {
+  history = entry 2 1 1 2 (item 0 0 112 ∷ [])
+      ∷ entry 1 1 0 1 (item 0 0 105 ∷ []) ∷ [];
+}) → ⊥
 order_changed run = omega (arith, run.legal.0.prefix)
 
 -- a commit without its lock
 lock_missing : IsRun first.setting (record first.report {
   logs =
       log (tried 1 1 (Some 0) 1 0 (Commit 1) ∷ []) (item 0 0 100 ∷ []) []
-      ∷ log (tried 2 1 (Some 0) 1 0 (Newer (lock 0 0 1 1)) ∷ tried 2 2 (Some 1) 1 1 (Commit 1) ∷ []) (item 0 0 100 ∷ item 0 0 105 ∷ []) (lock 0 0 1 1 ∷ [])
+      ∷ log (tried 2 1 (Some 0) 1 0 (Newer (lock 0 0 1 1)) ∷ tried 2 2 (Some 1) 1 1 (Commit 1) ∷ []) (item 0 0 100
+      ∷ item 0 0 105 ∷ []) (lock 0 0 1 1 ∷ [])
       ∷ [];
 }) → ⊥
 lock_missing run = nothing_locked _ _ _ _ run.workers.0.answers.0.0.2 run.workers.0.answers.0.0.3.1
@@ -61,31 +70,46 @@ lock_missing run = nothing_locked _ _ _ _ run.workers.0.answers.0.0.2 run.worker
 newer_changed : IsRun first.setting (record first.report {
   logs =
       log (tried 1 1 (Some 0) 1 1 (Commit 1) ∷ []) (item 0 0 100 ∷ []) (lock 0 0 0 0 ∷ [])
-      ∷ log (tried 2 1 (Some 0) 1 0 (Newer (lock 0 0 1 2)) ∷ tried 2 2 (Some 1) 1 1 (Commit 1) ∷ []) (item 0 0 100 ∷ item 0 0 105 ∷ []) (lock 0 0 1 1 ∷ [])
+      ∷ log (tried 2 1 (Some 0) 1 0 (Newer (lock 0 0 1 2)) ∷ tried 2 2 (Some 1) 1 1 (Commit 1) ∷ []) (item 0 0 100
+      ∷ item 0 0 105 ∷ []) (lock 0 0 1 1 ∷ [])
       ∷ [];
 }) → ⊥
-newer_changed run = elim run.workers.1.0.causes.0.2 [ inl written ↦ false≢true written | inr unfinished ↦ false≢true unfinished.0 ]
+newer_changed run = elim run.workers.1.0.causes.0.2 [
+  | inl written ↦ false≢true written
+  | inr unfinished ↦ false≢true unfinished.0
+]
 
 -- no try is left to the second worker, though the first of its two was in vain
 abbrev newer_try : Tell
-newer_try = record { event = tried 2 1 (Some 0) 1 0 (Newer (lock 0 0 1 1)); ops = Add 0 0 1 true 7 ∷ []; reads = item 0 0 100 ∷ []; locks = []; writes = []; snap = [] }
+newer_try = record {
+  event = tried 2 1 (Some 0) 1 0 (Newer (lock 0 0 1 1));
+  ops = Add 0 0 1 true 7 ∷ [];
+  reads = item 0 0 100 ∷ [];
+  locks = [];
+  writes = [];
+  snap = [];
+}
 
-one_try_owed : (ps : List Part) → flat_map tells_in ps ≡ [] → settles first.setting.policy (record { keys = []; txns = 2 ∷ []; tries = 1; stage = going }) ps ≡ true → ⊥
+one_try_owed : (ps : List Part) → flat_map tells_in ps ≡ []
+    → settles first.setting.policy (record { keys = []; txns = 2 ∷ []; tries = 1; stage = going }) ps ≡ true → ⊥
 one_try_owed [] read settled = false≢true settled
 one_try_owed (attempted t ∷ ps) read settled = absurd cc
 one_try_owed (tidied key ts ∷ ps) read settled = false≢true settled
 one_try_owed (stopped t ∷ ps) read settled = absurd cc
 
-both_tries_owed : (ps : List Part) → flat_map tells_in ps ≡ newer_try ∷ [] → settles first.setting.policy (owes_all (2 ∷ [])) ps ≡ true → ⊥
+both_tries_owed : (ps : List Part) → flat_map tells_in ps ≡ newer_try ∷ []
+    → settles first.setting.policy (owes_all (2 ∷ [])) ps ≡ true → ⊥
 both_tries_owed [] read settled = absurd cc
 both_tries_owed (attempted t ∷ ps) read settled =
     let same : t ≡ newer_try = cc in
     let rest : flat_map tells_in ps ≡ [] = cc in
-    one_try_owed ps rest (subst (λ (u : Tell). settles first.setting.policy (owes_all (2 ∷ [])) (attempted u ∷ ps) ≡ true) same settled)
+    one_try_owed ps rest (subst (λ (u : Tell). settles first.setting.policy (owes_all (2 ∷ [])) (attempted u ∷ ps)
+    ≡ true) same settled)
 both_tries_owed (tidied key ts ∷ ps) read settled = false≢true settled
 both_tries_owed (stopped t ∷ ps) read settled =
     let same : t ≡ newer_try = cc in
-    false≢true (subst (λ (u : Tell). settles first.setting.policy (owes_all (2 ∷ [])) (stopped u ∷ ps) ≡ true) same settled)
+    false≢true (subst (λ (u : Tell). settles first.setting.policy (owes_all (2 ∷ [])) (stopped u ∷ ps) ≡ true) same
+    settled)
 
 try_missing : IsRun first.setting (record {
   history = entry 1 1 0 1 (item 0 0 105 ∷ []) ∷ [];
@@ -95,7 +119,8 @@ try_missing : IsRun first.setting (record {
       ∷ [];
   audit = audited 0 0 105 ∷ [];
 }) → ⊥
-try_missing run = both_tries_owed run.workers.1.0.follows.parts run.workers.1.0.follows.read run.workers.1.0.follows.settled
+try_missing run =
+    both_tries_owed run.workers.1.0.follows.parts run.workers.1.0.follows.read run.workers.1.0.follows.settled
 
 -- ---- snapshot again
 

@@ -9,10 +9,12 @@ use Rattle.si_model.specs.Rows.{key_at}
 use Rattle.si_model.specs.Setting.{Setting}
 use Rattle.si_model.specs.Tries.Part.{attempted, tidied}
 use Rattle.si_model.specs.Run.{IsRun}
-use Rattle.si_model.proofs.ExampleWords.{row, item, lock, tried, moved, collected, entry, log, audited, unmarked, setting_with}
+use Rattle.si_model.proofs.ExampleWords.{row, item, lock, tried, moved, collected, entry, log, audited, unmarked}
+use Rattle.si_model.proofs.ExampleWords.{setting_with}
 
 abbrev pub setting : Setting
-setting = setting_with 2 1 true 1 1 (row 0 0 5 ∷ []) ((Add 0 0 1 true 1 ∷ []) ∷ (Add 0 0 1 true 1 ∷ []) ∷ (Get 0 0 ∷ []) ∷ []) (1 ∷ 1 ∷ 2 ∷ [])
+setting = setting_with 2 1 true 1 1 (row 0 0 5 ∷ []) ((Add 0 0 1 true 1 ∷ []) ∷ (Add 0 0 1 true 1 ∷ []) ∷ (Get 0 0 ∷ [])
+    ∷ []) (1 ∷ 1 ∷ 2 ∷ [])
 
 abbrev pub report : Report
 report = record {
@@ -38,15 +40,40 @@ run : IsRun setting report
 run = record {
   one_log_each = refl;
   legal = (
-    record { job = (omega arith, omega arith); prefix = omega arith; reads = item 0 0 5 ∷ []; guards = []; evaluates = refl; writes = omega arith; first_wins = refl },
-    (record { job = (omega arith, omega arith); prefix = omega arith; reads = item 0 0 6 ∷ []; guards = []; evaluates = refl; writes = omega arith; first_wins = refl }, tt),
+    record {
+      job = (omega arith, omega arith);
+      prefix = omega arith;
+      reads = item 0 0 5 ∷ [];
+      guards = [];
+      evaluates = refl;
+      writes = omega arith;
+      first_wins = refl;
+    },
+    (
+      record {
+        job = (omega arith, omega arith);
+        prefix = omega arith;
+        reads = item 0 0 6 ∷ [];
+        guards = [];
+        evaluates = refl;
+        writes = omega arith;
+        first_wins = refl;
+      },
+      tt,
+    ),
   );
   numbered = (refl, (refl, tt));
   workers = (
     record {
       sees = (
         ((omega arith, (omega arith, (omega arith, tt))), tt),
-        (tt, (((omega arith, (omega arith, (omega arith, tt))), tt), (tt, ((omega arith, (omega arith, (omega arith, tt))), (tt, tt))))),
+        (
+          tt,
+          (
+            ((omega arith, (omega arith, (omega arith, tt))), tt),
+            (tt, ((omega arith, (omega arith, (omega arith, tt))), (tt, tt))),
+          ),
+        ),
       );
       follows = record {
         parts = attempted _ ∷ tidied (key_at 0 0) (_ ∷ []) ∷ attempted _ ∷ tidied (key_at 0 0) (_ ∷ _ ∷ _ ∷ []) ∷ [];
@@ -58,7 +85,13 @@ run = record {
         ((item 0 0 6 ∷ [], [], refl, (inl refl, refl)), (refl, tt)),
         (tt, (((item 0 0 7 ∷ [], [], refl, (inr (inl refl), refl)), (refl, tt)), (tt, (tt, (tt, tt))))),
       );
-      causes = (tt, ((refl, refl, λ back. absurd cc), (tt, (inl (omega arith), (refl, ((refl, refl, λ back. absurd cc), tt))))));
+      causes = (
+        tt,
+        (
+          (refl, refl, λ back. absurd cc),
+          (tt, (inl (omega arith), (refl, ((refl, refl, λ back. absurd cc), tt)))),
+        ),
+      );
     },
     (
       record {
@@ -71,5 +104,8 @@ run = record {
     ),
   );
   listed = (refl, (refl, tt));
-  audit = record { state = record { ordered = (tt, tt); same = λ key. grind (arith, nat_tests) }; lines = (unmarked _ 0 0 7, tt) };
+  audit = record {
+    state = record { ordered = (tt, tt); same = λ key. grind (arith, nat_tests) };
+    lines = (unmarked _ 0 0 7, tt);
+  };
 }

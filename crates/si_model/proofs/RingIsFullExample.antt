@@ -10,13 +10,15 @@ use Rattle.si_model.specs.Run.{IsRun}
 use Rattle.si_model.proofs.ExampleWords.{row, item, lock, tried, entry, log, audited, unmarked, setting_with}
 
 abbrev pub setting : Setting
-setting = setting_with 1 1 false 1 1 (row 0 0 0 ∷ []) ((Add 0 0 1 true 1 ∷ []) ∷ (Add 0 0 1 true 1 ∷ []) ∷ (Add 0 0 1 true 1 ∷ []) ∷ []) (1 ∷ 1 ∷ 1 ∷ [])
+setting = setting_with 1 1 false 1 1 (row 0 0 0 ∷ []) ((Add 0 0 1 true 1 ∷ []) ∷ (Add 0 0 1 true 1 ∷ [])
+    ∷ (Add 0 0 1 true 1 ∷ []) ∷ []) (1 ∷ 1 ∷ 1 ∷ [])
 
 abbrev pub report : Report
 report = record {
   history = entry 1 1 0 1 (item 0 0 1 ∷ []) ∷ [];
   logs =
-      log (tried 1 1 (Some 0) 1 1 (Commit 1) ∷ tried 2 1 (Some 1) 1 1 (Full (lock 0 0 0 0)) ∷ tried 3 1 (Some 1) 1 1 (Full (lock 0 0 0 0)) ∷ [])
+      log (tried 1 1 (Some 0) 1 1 (Commit 1) ∷ tried 2 1 (Some 1) 1 1 (Full (lock 0 0 0 0))
+      ∷ tried 3 1 (Some 1) 1 1 (Full (lock 0 0 0 0)) ∷ [])
       (item 0 0 0 ∷ item 0 0 1 ∷ item 0 0 1 ∷ []) (lock 0 0 0 0 ∷ lock 0 0 1 1 ∷ lock 0 0 1 1 ∷ [])
       ∷ [];
   audit = audited 0 0 1 ∷ [];
@@ -25,20 +27,45 @@ report = record {
 run : IsRun setting report
 run = record {
   one_log_each = refl;
-  legal = (record { job = (omega arith, omega arith); prefix = omega arith; reads = item 0 0 0 ∷ []; guards = []; evaluates = refl; writes = omega arith; first_wins = refl }, tt);
+  legal = (
+    record {
+      job = (omega arith, omega arith);
+      prefix = omega arith;
+      reads = item 0 0 0 ∷ [];
+      guards = [];
+      evaluates = refl;
+      writes = omega arith;
+      first_wins = refl;
+    },
+    tt,
+  );
   numbered = (refl, tt);
   workers = (
     record {
-      sees = (((omega arith, (omega arith, tt)), tt), (((omega arith, (omega arith, tt)), tt), (((omega arith, (omega arith, tt)), tt), tt)));
-      follows = record { parts = attempted _ ∷ attempted _ ∷ attempted _ ∷ []; read = refl; settled = refl; fulls = λ no_tidy. absurd cc };
+      sees = (
+        ((omega arith, (omega arith, tt)), tt),
+        (((omega arith, (omega arith, tt)), tt), (((omega arith, (omega arith, tt)), tt), tt)),
+      );
+      follows = record {
+        parts = attempted _ ∷ attempted _ ∷ attempted _ ∷ [];
+        read = refl;
+        settled = refl;
+        fulls = λ no_tidy. absurd cc;
+      };
       answers = (
         ((item 0 0 1 ∷ [], [], refl, (inl refl, refl)), (refl, tt)),
-        (((item 0 0 2 ∷ [], [], refl, (refl, refl)), (refl, tt)), (((item 0 0 2 ∷ [], [], refl, (refl, refl)), (refl, tt)), tt)),
+        (
+          ((item 0 0 2 ∷ [], [], refl, (refl, refl)), (refl, tt)),
+          (((item 0 0 2 ∷ [], [], refl, (refl, refl)), (refl, tt)), tt),
+        ),
       );
       causes = (tt, ((refl, omega arith, refl), ((refl, omega arith, refl), tt)));
     },
     tt,
   );
   listed = (refl, tt);
-  audit = record { state = record { ordered = (tt, tt); same = λ key. grind (arith, nat_tests) }; lines = (unmarked _ 0 0 1, tt) };
+  audit = record {
+    state = record { ordered = (tt, tt); same = λ key. grind (arith, nat_tests) };
+    lines = (unmarked _ 0 0 1, tt);
+  };
 }

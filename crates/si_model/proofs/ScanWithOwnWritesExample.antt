@@ -43,23 +43,44 @@ rising (suc (suc zero)) within = omega arith
 rising (suc (suc (suc k))) within = absurd (omega arith)
 
 -- of all keys only four are looked at
-long_scan : evaluation_of (1 ∷ []) (overlay (item 0 2 20 ∷ gone 0 1 ∷ []) (rows_of setting.rows)) (Scan 0 0 18446744073709551614 ∷ [])
+long_scan : evaluation_of (1 ∷ []) (overlay (item 0 2 20 ∷ gone 0 1 ∷ []) (rows_of setting.rows))
+    (Scan 0 0 18446744073709551614 ∷ [])
     ≡ Done (item 0 2 20 ∷ item 0 3 30 ∷ item 0 7 70 ∷ []) [] []
 long_scan =
     ap (λ is. Done (is ++ []) [] [])
-    (sym (items_between-by_keys (rows_of setting.rows) (item 0 2 20 ∷ gone 0 1 ∷ []) 0 0 18446744073709551614 (1 ∷ 2 ∷ 3 ∷ 7 ∷ [])
+    (sym (items_between-by_keys (rows_of setting.rows) (item 0 2 20 ∷ gone 0 1 ∷ []) 0 0 18446744073709551614 (1 ∷ 2 ∷ 3
+    ∷ 7 ∷ [])
     (sorted_from_strictly_increasing (1 ∷ 2 ∷ 3 ∷ 7 ∷ []) rising) (λ key. grind (arith, nat_tests))))
 
 run : IsRun setting report
 run = record {
   one_log_each = refl;
-  legal = (record { job = (omega arith, omega arith); prefix = omega arith; reads = item 0 2 20 ∷ item 0 3 30 ∷ []; guards = []; evaluates = short_scan; writes = omega arith; first_wins = refl }, tt);
+  legal = (
+    record {
+      job = (omega arith, omega arith);
+      prefix = omega arith;
+      reads = item 0 2 20 ∷ item 0 3 30 ∷ [];
+      guards = [];
+      evaluates = short_scan;
+      writes = omega arith;
+      first_wins = refl;
+    },
+    tt,
+  );
   numbered = (refl, tt);
   workers = (
     record {
       sees = (((omega arith, (omega arith, tt)), tt), (((omega arith, (omega arith, tt)), tt), tt));
-      follows = record { parts = attempted _ ∷ attempted _ ∷ []; read = refl; settled = refl; fulls = λ no_tidy. absurd cc };
-      answers = (((item 0 2 20 ∷ gone 0 1 ∷ [], [], short_scan, (inl refl, refl)), (refl, (refl, tt))), ((([], long_scan, refl), tt), tt));
+      follows = record {
+        parts = attempted _ ∷ attempted _ ∷ [];
+        read = refl;
+        settled = refl;
+        fulls = λ no_tidy. absurd cc;
+      };
+      answers = (
+        ((item 0 2 20 ∷ gone 0 1 ∷ [], [], short_scan, (inl refl, refl)), (refl, (refl, tt))),
+        ((([], long_scan, refl), tt), tt),
+      );
       causes = (tt, (tt, tt));
     },
     tt,

@@ -25,12 +25,31 @@ report = record {
 run : IsRun setting report
 run = record {
   one_log_each = refl;
-  legal = (record { job = (omega arith, omega arith); prefix = omega arith; reads = item 0 0 100 ∷ []; guards = []; evaluates = refl; writes = omega arith; first_wins = refl }, tt);
+  legal = (
+    record {
+      job = (omega arith, omega arith);
+      prefix = omega arith;
+      reads = item 0 0 100 ∷ [];
+      guards = [];
+      evaluates = refl;
+      writes = omega arith;
+      first_wins = refl;
+    },
+    tt,
+  );
   numbered = (refl, tt);
   workers = (
     record {
-      sees = ((tt, (omega arith, omega arith, omega arith)), (((omega arith, (omega arith, (omega arith, tt))), tt), tt));
-      follows = record { parts = attempted _ ∷ attempted _ ∷ []; read = refl; settled = refl; fulls = λ no_tidy. absurd cc };
+      sees = (
+        (tt, (omega arith, omega arith, omega arith)),
+        (((omega arith, (omega arith, (omega arith, tt))), tt), tt),
+      );
+      follows = record {
+        parts = attempted _ ∷ attempted _ ∷ [];
+        read = refl;
+        settled = refl;
+        fulls = λ no_tidy. absurd cc;
+      };
       answers = ((refl, refl), (((([], refl, refl)), tt), tt));
       causes = ((omega arith, omega arith, refl), (tt, tt));
     },
@@ -45,5 +64,8 @@ run = record {
     ),
   );
   listed = (refl, tt);
-  audit = record { state = record { ordered = (tt, tt); same = λ key. grind (arith, nat_tests) }; lines = (unmarked _ 0 0 101, tt) };
+  audit = record {
+    state = record { ordered = (tt, tt); same = λ key. grind (arith, nat_tests) };
+    lines = (unmarked _ 0 0 101, tt);
+  };
 }

@@ -29,11 +29,17 @@ run = record {
     record {
       sees = (((omega arith, (omega arith, tt)), tt), tt);
       follows = record { parts = attempted _ ∷ []; read = refl; settled = refl; fulls = λ no_tidy. absurd cc };
-      answers = (((1, Put 0 2 (9 ∷ []), ([], refl), (key_at 0 2, (refl, refl, refl), refl), (refl, refl), refl), tt), tt);
+      answers = (
+        ((1, Put 0 2 (9 ∷ []), ([], refl), (key_at 0 2, (refl, refl, refl), refl), (refl, refl), refl), tt),
+        tt,
+      );
       causes = (tt, tt);
     },
     tt,
   );
   listed = tt;
-  audit = record { state = record { ordered = ((refl, tt), (tt, tt)); same = λ key. grind (arith, nat_tests) }; lines = (unmarked _ 0 0 1, (unmarked _ 0 1 1, tt)) };
+  audit = record {
+    state = record { ordered = ((refl, tt), (tt, tt)); same = λ key. grind (arith, nat_tests) };
+    lines = (unmarked _ 0 0 1, (unmarked _ 0 1 1, tt));
+  };
 }

@@ -10,19 +10,33 @@ use Rattle.si_model.specs.Run.{IsRun}
 use Rattle.si_model.proofs.ExampleWords.{row, item, lock, tried, entry, log, audited, unmarked, setting_with}
 
 abbrev pub setting : Setting
-setting = setting_with 1 1 false 2 1 (row 0 0 100 ∷ row 0 1 0 ∷ []) ((Need 0 0 1 10 ∷ Add 0 0 1 false 10 ∷ Add 0 1 1 true 10 ∷ []) ∷ []) (1 ∷ [])
+setting = setting_with 1 1 false 2 1 (row 0 0 100 ∷ row 0 1 0 ∷ [])
+    ((Need 0 0 1 10 ∷ Add 0 0 1 false 10 ∷ Add 0 1 1 true 10 ∷ []) ∷ []) (1 ∷ [])
 
 abbrev pub report : Report
 report = record {
   history = entry 1 1 0 1 (item 0 0 90 ∷ item 0 1 10 ∷ []) ∷ [];
-  logs = log (tried 1 1 (Some 0) 3 2 (Commit 1) ∷ []) (item 0 0 100 ∷ item 0 0 100 ∷ item 0 1 0 ∷ []) (lock 0 0 0 0 ∷ lock 0 1 0 0 ∷ []) ∷ [];
+  logs = log (tried 1 1 (Some 0) 3 2 (Commit 1) ∷ []) (item 0 0 100 ∷ item 0 0 100 ∷ item 0 1 0 ∷ []) (lock 0 0 0 0
+      ∷ lock 0 1 0 0 ∷ []) ∷ [];
   audit = audited 0 0 90 ∷ audited 0 1 10 ∷ [];
 }
 
 run : IsRun setting report
 run = record {
   one_log_each = refl;
-  legal = (record { job = (omega arith, omega arith); prefix = omega arith; reads = item 0 0 100 ∷ item 0 0 100 ∷ item 0 1 0 ∷ []; guards = []; evaluates = refl; writes = omega arith; first_wins = refl }, tt);
+  legal = (
+    record {
+      job = (omega arith, omega arith);
+      prefix = omega arith;
+      reads = item 0 0 100 ∷ item 0 0 100 ∷ item 0 1 0 ∷ [];
+      guards = [];
+      evaluates = refl;
+      writes =
+          omega arith;
+      first_wins = refl;
+    },
+    tt,
+  );
   numbered = (refl, tt);
   workers = (
     record {
@@ -34,5 +48,8 @@ run = record {
     tt,
   );
   listed = (refl, tt);
-  audit = record { state = record { ordered = ((refl, tt), (tt, tt)); same = λ key. grind (arith, nat_tests) }; lines = (unmarked _ 0 0 90, (unmarked _ 0 1 10, tt)) };
+  audit = record {
+    state = record { ordered = ((refl, tt), (tt, tt)); same = λ key. grind (arith, nat_tests) };
+    lines = (unmarked _ 0 0 90, (unmarked _ 0 1 10, tt));
+  };
 }

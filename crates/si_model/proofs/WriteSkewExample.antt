@@ -12,7 +12,8 @@ use Rattle.si_model.proofs.ExampleWords.{row, item, lock, tried, entry, log, aud
 abbrev pub setting : Setting
 setting =
     setting_with 2 1 false 4 2 (row 0 0 60 ∷ row 0 1 60 ∷ [])
-    ((Need 0 0 1 60 ∷ Need 0 1 1 60 ∷ Add 0 0 1 false 60 ∷ []) ∷ (Need 0 0 1 60 ∷ Need 0 1 1 60 ∷ Add 0 1 1 false 60 ∷ []) ∷ [])
+    ((Need 0 0 1 60 ∷ Need 0 1 1 60 ∷ Add 0 0 1 false 60 ∷ [])
+    ∷ (Need 0 0 1 60 ∷ Need 0 1 1 60 ∷ Add 0 1 1 false 60 ∷ []) ∷ [])
     (1 ∷ 2 ∷ [])
 
 abbrev pub report : Report
@@ -29,8 +30,29 @@ run : IsRun setting report
 run = record {
   one_log_each = refl;
   legal = (
-    record { job = (omega arith, omega arith); prefix = omega arith; reads = item 0 0 60 ∷ item 0 1 60 ∷ item 0 0 60 ∷ []; guards = []; evaluates = refl; writes = omega arith; first_wins = refl },
-    (record { job = (omega arith, omega arith); prefix = omega arith; reads = item 0 0 60 ∷ item 0 1 60 ∷ item 0 1 60 ∷ []; guards = []; evaluates = refl; writes = omega arith; first_wins = refl }, tt),
+    record {
+      job = (omega arith, omega arith);
+      prefix = omega arith;
+      reads = item 0 0 60 ∷ item 0 1 60 ∷ item 0 0 60 ∷ [];
+      guards = [];
+      evaluates = refl;
+      writes =
+          omega arith;
+      first_wins = refl;
+    },
+    (
+      record {
+        job = (omega arith, omega arith);
+        prefix = omega arith;
+        reads = item 0 0 60 ∷ item 0 1 60 ∷ item 0 1 60 ∷ [];
+        guards = [];
+        evaluates = refl;
+        writes =
+            omega arith;
+        first_wins = refl;
+      },
+      tt,
+    ),
   );
   numbered = (refl, (refl, tt));
   workers = (
@@ -51,5 +73,8 @@ run = record {
     ),
   );
   listed = (refl, (refl, tt));
-  audit = record { state = record { ordered = ((refl, tt), (tt, tt)); same = λ key. grind (arith, nat_tests) }; lines = (unmarked _ 0 0 0, (unmarked _ 0 1 0, tt)) };
+  audit = record {
+    state = record { ordered = ((refl, tt), (tt, tt)); same = λ key. grind (arith, nat_tests) };
+    lines = (unmarked _ 0 0 0, (unmarked _ 0 1 0, tt));
+  };
 }

@@ -1,5 +1,6 @@
 -- An attempt's reads, locks and outcome are those of its transaction's evaluation.
-use Rattle.std.specs.Prelude.{ℕ, suc, ◌<◌, ◌≡◌, ◌&&◌, ◌⊎◌, ◌==◌, not, nat_le, Bool, true, false, IsTrue, List, [], ◌∷◌, ◌++◌, length, take, map, Option, Some, None}
+use Rattle.std.specs.Prelude.{ℕ, suc, ◌<◌, ◌≡◌, ◌&&◌, ◌⊎◌, ◌==◌, not, nat_le, Bool, true, false, IsTrue, List, [], ◌∷◌}
+use Rattle.std.specs.Prelude.{◌++◌, length, take, map, Option, Some, None}
 use Rattle.std.specs.List.{list_any, AllByRecursion}
 use Rattle.si_model.specs.declared.row.Key.{Key}
 use Rattle.si_model.specs.declared.row.Item.{Item}
@@ -8,14 +9,16 @@ use Rattle.si_model.specs.declared.op.Op.TheVariants.{Scan}
 use Rattle.si_model.specs.declared.log.Lock.{Lock}
 use Rattle.si_model.specs.declared.log.Attempt.{Attempt}
 use Rattle.si_model.specs.declared.log.Outcome.{Outcome}
-use Rattle.si_model.specs.declared.log.Outcome.TheVariants.{Commit, ReadOnly, Declined as DeclinedAt, NoSpace, Spent, Again, Locked, Newer, TooOld, Full, Cut, Left}
+use Rattle.si_model.specs.declared.log.Outcome.TheVariants.{Commit, ReadOnly, Declined as DeclinedAt, NoSpace, Spent}
+use Rattle.si_model.specs.declared.log.Outcome.TheVariants.{Again, Locked, Newer, TooOld, Full, Cut, Left}
 use Rattle.si_model.specs.declared.log.Event.{Event}
 use Rattle.si_model.specs.declared.log.Event.TheVariants.{Tried}
 use Rattle.si_model.specs.declared.evaluated.Evaluated.{Evaluated}
 use Rattle.si_model.specs.declared.evaluated.Evaluated.TheVariants.{Done, Declined}
 use Rattle.si_model.specs.Lists.{Listed, IsFront, StandsAt}
 use Rattle.si_model.specs.Rows.{Rows, key_at, item_key, writes_key}
-use Rattle.si_model.specs.Evaluation.{evaluation_of, reads_of, all_pass, reads_from, key_read, key_claimed, is_key, ops_write, ops_claim}
+use Rattle.si_model.specs.Evaluation.{evaluation_of, reads_of, all_pass, reads_from, key_read, key_claimed, is_key}
+use Rattle.si_model.specs.Evaluation.{ops_write, ops_claim}
 use Rattle.si_model.specs.History.{stamp_of, keys_of}
 use Rattle.si_model.specs.Tells.{Tell}
 use Rattle.si_model.specs.View.{View}
@@ -52,11 +55,13 @@ LacksRoom s asked table before op = (key : Key) × ClaimsFirst table before op k
 
 -- these are the reads of the first k operations, and all of them pass
 abbrev pub ReadsFirst : List ℕ → Rows → List Op → ℕ → List Item → Type 0
-ReadsFirst widths rows ops k reads = IsTrue (all_pass widths rows [] (take k ops)) × (reads ≡ reads_from widths rows [] (take k ops))
+ReadsFirst widths rows ops k reads = IsTrue (all_pass widths rows [] (take k ops))
+    × (reads ≡ reads_from widths rows [] (take k ops))
 
 -- the evaluation is done, with these reads, and P says how the locked keys stand to its write set and its guards
 abbrev pub IsDoneLocking : Evaluated → Tell → (List Key → List Item → List Key → Type 0) → Type 0
-IsDoneLocking e t P = (writes : List Item) × (guards : List Key) × (e ≡ Done t.reads writes guards) × P (map lock_key t.locks) writes guards
+IsDoneLocking e t P = (writes : List Item) × (guards : List Key) × (e ≡ Done t.reads writes guards)
+    × P (map lock_key t.locks) writes guards
 
 -- all keys of the write set, then the guards, are locked
 abbrev pub LocksAll : List Key → List Item → List Key → Type 0
@@ -64,7 +69,8 @@ LocksAll locked writes guards = locked ≡ keys_of writes guards
 
 -- the key comes right after the locked ones
 abbrev pub LocksBefore : Key → List Key → List Item → List Key → Type 0
-LocksBefore key locked writes guards = (0 < length writes) × (rest : List Key) × (keys_of writes guards ≡ locked ++ key ∷ rest)
+LocksBefore key locked writes guards = (0 < length writes) × (rest : List Key)
+    × (keys_of writes guards ≡ locked ++ key ∷ rest)
 
 -- some of the first keys are locked
 abbrev pub LocksFront : List Key → List Item → List Key → Type 0
@@ -75,7 +81,8 @@ module _ (s : Setting) (asked : Asked) (v : View) (j : ℕ) (t : Tell) (a : Atte
   abbrev pub AnswersWith : Evaluated → ℕ → Outcome → Type 0
   AnswersWith e p (Commit number) =
       IsDoneLocking e t (λ locked writes guards.
-      Listed (record { worker = j; number = number; prefix = p; txn = a.txn; writes = writes }) v.all × LocksAll locked writes guards)
+      Listed (record { worker = j; number = number; prefix = p; txn = a.txn; writes = writes }) v.all
+      × LocksAll locked writes guards)
   AnswersWith e p ReadOnly = (guards : List Key) × (e ≡ Done t.reads [] guards) × (t.locks ≡ [])
   AnswersWith e p (DeclinedAt op) = (e ≡ Declined op t.reads) × (t.locks ≡ [])
   AnswersWith e p (NoSpace table) =
@@ -88,7 +95,9 @@ module _ (s : Setting) (asked : Asked) (v : View) (j : ℕ) (t : Tell) (a : Atte
   AnswersWith e p (TooOld i x h) =
       (k : ℕ) × (op : Op) × StandsAt k op t.ops × IsTrue (reads_overtaken v t (take k t.ops) op)
       × ReadsFirst s.widths (v.value t) t.ops k t.reads × (t.locks ≡ [])
-  AnswersWith e p (Full l) = IsDoneLocking e t (λ locked writes guards. IsTrue (writes_key writes (lock_key l)) × LocksAll locked writes guards)
+  AnswersWith e p (Full l) =
+      IsDoneLocking e t (λ locked writes guards. IsTrue (writes_key writes (lock_key l))
+      × LocksAll locked writes guards)
   AnswersWith e p Cut = IsFront t.reads (reads_of e) × ((t.locks ≡ []) ⊎ IsDoneLocking e t LocksFront)
   AnswersWith e p Left = IsTrue asked.by_calls × IsFront t.reads (reads_of e) × (t.locks ≡ [])
 
@@ -105,7 +114,8 @@ AreNewest v t = AllByRecursion (λ l. l.stamp ≡ v.newest t (lock_key l)) t.loc
 -- by whether the attempt got a snapshot
 abbrev pub AnswersOn : Setting → Asked → View → ℕ → Tell → Attempt → Option ℕ → Type 0
 AnswersOn s asked v j t a None = AnswersWithout t a.outcome
-AnswersOn s asked v j t a (Some p) = AnswersWith s asked v j t a (evaluation_of s.widths (v.value t) t.ops) p a.outcome × AreNewest v t
+AnswersOn s asked v j t a (Some p) = AnswersWith s asked v j t a (evaluation_of s.widths (v.value t) t.ops) p a.outcome
+    × AreNewest v t
 
 -- of an event; only attempts answer
 abbrev pub AnswersIn : Setting → Asked → View → ℕ → Tell → Event → Type 0

@@ -1,5 +1,6 @@
 -- The order in which listed commits make a history: by level, depth, worker and number.
-use Rattle.std.specs.Prelude.{ℕ, suc, ◌<◌, ◌≡◌, ◌==◌, ◌&&◌, ◌⊎◌, max, min, Bool, if◌then◌else◌, List, [], ◌∷◌, length, filter, map, IsPermutation}
+use Rattle.std.specs.Prelude.{ℕ, suc, ◌<◌, ◌≡◌, ◌==◌, ◌&&◌, ◌⊎◌, max, min, Bool, if◌then◌else◌, List, [], ◌∷◌, length}
+use Rattle.std.specs.Prelude.{filter, map, IsPermutation}
 use Rattle.std.specs.List.{list_any}
 use Rattle.si_model.specs.declared.log.Stamp.{Stamp}
 use Rattle.si_model.specs.declared.report.CommitLine.{CommitLine}
@@ -34,7 +35,8 @@ abbrev pub above_all : (Stamp → ℕ) → List Published → ℕ
 above_all depth [] = 0
 above_all depth (c ∷ cs) = max (suc (depth (stamp_of c.line))) (above_all depth cs)
 
--- each commit's depth is one more than the greatest of those of its level that guard a key that it writes, and 0 where none does
+-- each commit's depth is one more than the greatest of those of its level that guard a key that it writes, and 0 where
+-- none does
 abbrev pub AreDepths : (Stamp → ℕ) → (Stamp → ℕ) → List Published → Type 0
 AreDepths level depth cs =
     (c : Published) → Listed c cs → depth (stamp_of c.line) ≡ above_all depth (filter (λ d. guards_beside level d c) cs)
@@ -45,7 +47,8 @@ Precedes level depth a b =
     (level (stamp_of a) < level (stamp_of b))
     ⊎ ((level (stamp_of a) ≡ level (stamp_of b))
     × ((depth (stamp_of a) < depth (stamp_of b))
-    ⊎ ((depth (stamp_of a) ≡ depth (stamp_of b)) × ((a.worker < b.worker) ⊎ ((a.worker ≡ b.worker) × (a.number < b.number))))))
+    ⊎ ((depth (stamp_of a) ≡ depth (stamp_of b))
+    × ((a.worker < b.worker) ⊎ ((a.worker ≡ b.worker) × (a.number < b.number))))))
 
 -- the history has exactly the commits of the logs, in that order
 pub record IsArranged (start : ℕ) (tss : List (List Tell)) (history : List CommitLine) : Type 0 where

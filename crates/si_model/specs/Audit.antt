@@ -21,7 +21,8 @@ is_tail_cut event = false
 
 -- a commit that guards the key, and then the stop after it
 abbrev pub is_guard_left : Key → Tell → Tell → Bool
-is_guard_left key t u = is_tail_cut u.event && is_some (commit_in t.event) && list_any (λ k. same_key k key) (guard_keys t.ops)
+is_guard_left key t u =
+    is_tail_cut u.event && is_some (commit_in t.event) && list_any (λ k. same_key k key) (guard_keys t.ops)
 
 -- the last two events are a commit that guards the key, and the stop after it
 abbrev pub ends_guarding : Key → List Tell → Bool

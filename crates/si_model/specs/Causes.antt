@@ -1,5 +1,7 @@
 -- Each event has its cause.
-use Rattle.std.specs.Prelude.{ℕ, zero, suc, ◌+◌, ◌-◌, ◌^◌, ◌<◌, ◌≤◌, ◌≡◌, ◌≢◌, ◌==◌, ◌&&◌, ◌||◌, ◌⊎◌, not, Bool, true, false, IsTrue, nat_lt, if◌then◌else◌, List, [], ◌∷◌, ◌++◌, length, filter, slice_index, slice_index_or, Some, None, is_some}
+use Rattle.std.specs.Prelude.{ℕ, zero, suc, ◌+◌, ◌-◌, ◌^◌, ◌<◌, ◌≤◌, ◌≡◌, ◌≢◌, ◌==◌, ◌&&◌, ◌||◌, ◌⊎◌, not, Bool, true}
+use Rattle.std.specs.Prelude.{false, IsTrue, nat_lt, if◌then◌else◌, List, [], ◌∷◌, ◌++◌, length, filter, slice_index}
+use Rattle.std.specs.Prelude.{slice_index_or, Some, None, is_some}
 use Rattle.std.specs.List.{list_any, list_all}
 use Rattle.si_model.specs.declared.row.Key.{Key}
 use Rattle.si_model.specs.declared.log.Stamp.{Stamp}
@@ -10,8 +12,9 @@ use Rattle.si_model.specs.declared.log.MoveEnd.TheVariants.{Done, Back, Cut as M
 use Rattle.si_model.specs.declared.log.Finish.{Finish}
 use Rattle.si_model.specs.declared.log.Finish.TheVariants.{RolledOn}
 use Rattle.si_model.specs.declared.log.Event.{Event}
-use Rattle.si_model.specs.declared.log.Event.TheVariants.{Tried, NoRoom, Moved, Collected, CollectAgain, CollectCut, TidyCut, TailCut, Finished}
-use Rattle.si_model.specs.Lists.{joined, last_of}
+use Rattle.si_model.specs.declared.log.Event.TheVariants.{Tried, NoRoom, Moved, Collected, CollectAgain, CollectCut}
+use Rattle.si_model.specs.declared.log.Event.TheVariants.{TidyCut, TailCut, Finished}
+use Rattle.si_model.specs.Lists.{concat_of, last_of}
 use Rattle.si_model.specs.Rows.{key_at, same_key, writes_key}
 use Rattle.si_model.specs.Evaluation.{guard_keys}
 use Rattle.si_model.specs.History.{same_stamp, stamp_at, stamp_of, has_stamp, is_version}
@@ -95,13 +98,15 @@ frees v b key s t event = false
 
 -- does a worker's own move into the bucket still fill a cell, after these later events of the worker
 abbrev pub fills : View → Bool → ℕ → List Tell → Event → Bool
-fills v others_collect b later (Moved c table key s how) = (c == b) && (others_collect || not (list_any (λ t. frees v b (key_at table key) s t t.event) later))
+fills v others_collect b later (Moved c table key s how) =
+    (c == b) && (others_collect || not (list_any (λ t. frees v b (key_at table key) s t t.event) later))
 fills v others_collect b later event = false
 
 -- how many of a worker's own earlier moves into the bucket still fill a cell
 abbrev pub filling : View → Bool → ℕ → List Tell → ℕ
 filling v others_collect b [] = 0
-filling v others_collect b (t ∷ ts) = (if fills v others_collect b ts t.event then 1 else 0) + filling v others_collect b ts
+filling v others_collect b (t ∷ ts) =
+    (if fills v others_collect b ts t.event then 1 else 0) + filling v others_collect b ts
 
 -- how many moves into the bucket the events list
 abbrev pub move_count : ℕ → List Tell → ℕ
@@ -135,25 +140,29 @@ module _ (s : Setting) (v : View) (tss : List (List Tell)) (j : ℕ) (done : Lis
 
   -- another worker lists that lock, on the newest version of the prefix if on one
   abbrev pub LockedCause : Key → Stamp → Type 0
-  LockedCause key q = IsTrue (list_any (lists_lock key q) (others_of j tss)) × (IsTrue (is_version key q v.all) → v.later t key q ≡ 0)
+  LockedCause key q = IsTrue (list_any (lists_lock key q) (others_of j tss))
+      × (IsTrue (is_version key q v.all) → v.later t key q ≡ 0)
 
   -- another worker wrote the version behind the prefix, and published it or was stopped
   abbrev pub NewerCause : Key → Stamp → Type 0
   NewerCause key q =
       (q.thread ≢ j) × (v.has t q ≡ false)
-      × (IsTrue (is_written v key q) ⊎ (IsTrue (ends_locking key (tells_by q.thread tss)) × (q.number ≡ last_number s.start (tells_by q.thread tss) + 1)))
+      × (IsTrue (is_written v key q) ⊎ (IsTrue (ends_locking key (tells_by q.thread tss))
+      × (q.number ≡ last_number s.start (tells_by q.thread tss) + 1)))
 
   -- the horizon passed the snapshot by another worker's collect
   -- (that a later entry overwrites what was to be read stands with the answer, since both are of one operation)
   abbrev pub OldCause : ℕ → ℕ → ℕ → Type 0
   OldCause i entry horizon =
-      (i ≢ j) × (slice_index (v.entries t) (i - 1) ≡ entry) × (entry < horizon) × IsTrue (list_any (λ o. collects_entry i horizon o.event) (others_of j tss))
+      (i ≢ j) × (slice_index (v.entries t) (i - 1) ≡ entry) × (entry < horizon)
+      × IsTrue (list_any (λ o. collects_entry i horizon o.event) (others_of j tss))
 
   -- the ring's slots hold versions that the worker has not moved
   -- (that the worker's own tidying of the version failed stands with the policy, which knows the tidyings)
   abbrev pub FullCause : Key → Stamp → Type 0
   FullCause key q =
-      IsTrue (is_version key q v.all) × (slice_index s.rings key.table ≤ v.later t key q) × (list_any (λ d. moves_version is_over key q d.event) done ≡ false)
+      IsTrue (is_version key q v.all) × (slice_index s.rings key.table ≤ v.later t key q)
+      × (list_any (λ d. moves_version is_over key q d.event) done ≡ false)
 
   -- (that a table without room is crowded stands with the answer, since both are of one operation)
   abbrev pub OutcomeCause : Outcome → Type 0
@@ -168,13 +177,14 @@ module _ (s : Setting) (v : View) (tss : List (List Tell)) (j : ℕ) (done : Lis
   -- moves fill all cells of the bucket, or its tags are used up
   abbrev pub NoRoomCause : ℕ → Type 0
   NoRoomCause b =
-      (s.cells ≤ filling v (list_any (λ o. has_collected o.event) (others_of j tss)) b done + move_count b (others_of j tss))
-      ⊎ (2 ^ 62 - 1 ≤ move_count b (joined tss))
+      (s.cells ≤ filling v (list_any (λ o. has_collected o.event) (others_of j tss)) b done
+      + move_count b (others_of j tss))
+      ⊎ (2 ^ 62 - 1 ≤ move_count b (concat_of tss))
 
   -- a version of the key, into the bucket of all its moves; a move that is back was done by another worker
   abbrev pub MoveCause : ℕ → Key → Stamp → MoveEnd → Type 0
   MoveCause b key q how =
-      IsTrue (is_version key q v.all) × IsTrue (list_all (λ o. keeps_bucket b key o.event) (joined tss))
+      IsTrue (is_version key q v.all) × IsTrue (list_all (λ o. keeps_bucket b key o.event) (concat_of tss))
       × (how ≡ Back → IsTrue (list_any (λ o. moves_version is_done key q o.event) (others_of j tss)))
 
   -- how a stopped worker was finished fits the event that it was stopped in
@@ -196,7 +206,8 @@ module _ (s : Setting) (v : View) (tss : List (List Tell)) (j : ℕ) (done : Lis
 -- each event has its cause, after those that are done
 abbrev pub HaveCausesAfter : Setting → View → List (List Tell) → ℕ → List Tell → List Tell → Type 0
 HaveCausesAfter s v tss j done [] = Unit {0}
-HaveCausesAfter s v tss j done (t ∷ ts) = EventCause s v tss j done t t.event × HaveCausesAfter s v tss j (done ++ t ∷ []) ts
+HaveCausesAfter s v tss j done (t ∷ ts) =
+    EventCause s v tss j done t t.event × HaveCausesAfter s v tss j (done ++ t ∷ []) ts
 
 -- each of worker j's events has its cause, in the logs of all workers and in the view
 abbrev pub HaveCauses : Setting → View → List (List Tell) → ℕ → List Tell → Type 0

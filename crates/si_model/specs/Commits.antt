@@ -21,7 +21,11 @@ entry_of c = c.line
 -- by an attempt of worker j, where it is a commit on a prefix
 abbrev pub published_in : ℕ → Tell → Attempt → Option ℕ → Outcome → List Published
 published_in j t a (Some p) (Commit number) =
-    record { line = record { worker = j; number = number; prefix = p; txn = a.txn; writes = t.writes }; snap = t.snap; ops = t.ops } ∷ []
+    record {
+      line = record { worker = j; number = number; prefix = p; txn = a.txn; writes = t.writes };
+      snap = t.snap;
+      ops = t.ops;
+    } ∷ []
 published_in j t a prefix outcome = []
 
 abbrev pub published_at : ℕ → Tell → Event → List Published

@@ -1,5 +1,6 @@
 -- Logs that are consistent without a history: what they list is right by their snapshots alone.
-use Rattle.std.specs.Prelude.{ℕ, suc, ◌<◌, ◌≤◌, ◌≡◌, ◌≢◌, ◌&&◌, ◌⊎◌, not, Bool, false, IsTrue, IfSome, List, [], ◌∷◌, length, map, replicate, is_some}
+use Rattle.std.specs.Prelude.{ℕ, suc, ◌<◌, ◌≤◌, ◌≡◌, ◌≢◌, ◌&&◌, ◌⊎◌, not, Bool, false, IsTrue, IfSome, List, [], ◌∷◌}
+use Rattle.std.specs.Prelude.{length, map, replicate, is_some}
 use Rattle.std.specs.List.{list_any, AllByRecursion}
 use Rattle.si_model.specs.declared.row.Key.{Key}
 use Rattle.si_model.specs.declared.row.Item.{Item}
@@ -55,11 +56,13 @@ pub record HaveOrder (start : ℕ) (tss : List (List Tell)) : Type 0 where
   pub within : (snap : List ℕ) → Listed snap (snaps_by tss) → IsWithin start snap tss
   pub ordered : (a b : List ℕ) → Listed a (snaps_by tss) → Listed b (snaps_by tss) → AreAtMost a b ⊎ AreAtMost b a
 
--- no circle of commits in which each stands so to the next: they can be numbered, below their count, so that the numbers rise
+-- no circle of commits in which each stands so to the next: they can be numbered, below their count, so that the
+-- numbers rise
 pub record HaveNoCircle (before : Published → Published → Bool) (cs : List Published) : Type 0 where
   pub place : Stamp → ℕ
   pub below : (c : Published) → Listed c cs → place (stamp_of c.line) < length cs
-  pub rises : (c d : Published) → Listed c cs → Listed d cs → IsTrue (before c d) → place (stamp_of c.line) < place (stamp_of d.line)
+  pub rises : (c d : Published) → Listed c cs → Listed d cs → IsTrue (before c d)
+      → place (stamp_of c.line) < place (stamp_of d.line)
 
 -- the condition of arranging: an order, the transactions in range, and no circle of guards within a level
 pub record CanBeArranged (start : ℕ) (jobs : List (List Op)) (tss : List (List Tell)) : Type 0 where
@@ -92,13 +95,15 @@ is_overtaking c d = guards_write c d && not (contains c.snap (stamp_of d.line))
 -- a snapshot that contains a commit contains those that it overtakes
 abbrev pub KeepsGuards : List Published → List ℕ → Type 0
 KeepsGuards cs snap =
-    (c d : Published) → Listed c cs → Listed d cs → IsTrue (is_overtaking c d) → IsTrue (contains snap (stamp_of d.line)) → IsTrue (contains snap (stamp_of c.line))
+    (c d : Published) → Listed c cs → Listed d cs → IsTrue (is_overtaking c d)
+    → IsTrue (contains snap (stamp_of d.line)) → IsTrue (contains snap (stamp_of c.line))
 
 -- what worker j lists is right in the view, its policy apart
-pub record IsSound (s : Setting) (asked : Asked) (v : View) (tss : List (List Tell)) (j : ℕ) (ts : List Tell) : Type 0 where
-  pub sees : SeesForward v j (replicate s.workers s.start) ts
-  pub answers : AnswersMatch s asked v j ts
-  pub causes : HaveCauses s v tss j ts
+pub record IsSound (s : Setting) (asked : Asked) (v : View) (tss : List (List Tell)) (j : ℕ) (ts : List Tell) : Type 0
+  where
+    pub sees : SeesForward v j (replicate s.workers s.start) ts
+    pub answers : AnswersMatch s asked v j ts
+    pub causes : HaveCauses s v tss j ts
 
 -- the same of each worker from number j on
 abbrev pub AreSound : Setting → Asked → View → List (List Tell) → ℕ → List (List Tell) → Type 0
@@ -109,11 +114,13 @@ AreSound s asked v tss j (ts ∷ more) = IsSound s asked v tss j ts × AreSound 
 abbrev pub view_by : Setting → List (List Tell) → View
 view_by s tss = by_snapshots (rows_of s.rows) (published_by tss)
 
--- the logs are consistent over the calls: an event has the operations that its worker asked for, and asked has all of them
+-- the logs are consistent over the calls: an event has the operations that its worker asked for, and asked has all of
+-- them
 pub record AreConsistent (s : Setting) (asked : Asked) (tss : List (List Tell)) : Type 0 where
   pub one_log_each : length tss ≡ s.workers
   pub order : HaveOrder s.start tss
-  pub published : (c : Published) → Listed c (published_by tss) → MayBePublished s.widths (rows_of s.rows) (published_by tss) c
+  pub published : (c : Published) → Listed c (published_by tss)
+      → MayBePublished s.widths (rows_of s.rows) (published_by tss) c
   pub first_wins : FirstWins (published_by tss)
   pub guards : (snap : List ℕ) → Listed snap (snaps_by tss) → KeepsGuards (published_by tss) snap
   pub no_circle : HaveNoCircle is_overtaking (published_by tss)
@@ -124,10 +131,12 @@ abbrev pub FollowPolicies : Setting → View → ℕ → List (List Tell) → Ty
 FollowPolicies s v j [] = Unit {0}
 FollowPolicies s v j (ts ∷ tss) = FollowsPolicy s v j ts × FollowPolicies s v (suc j) tss
 
--- the logs are consistent for a script: the operations are those of its transactions, and each worker follows its policy
+-- the logs are consistent for a script: the operations are those of its transactions, and each worker follows its
+-- policy
 pub record AreConsistentFor (s : Setting) (logs : List Log) : Type 0 where
   pub counts : AllByRecursion CountsFit logs
   pub calls : AreConsistent s (by_script s) (map (tells_of s.jobs) logs)
   pub jobs_in_range :
-      (c : Published) → Listed c (published_by (map (tells_of s.jobs) logs)) → (1 ≤ c.line.txn) × (c.line.txn ≤ length s.jobs)
+      (c : Published) → Listed c (published_by (map (tells_of s.jobs) logs)) → (1 ≤ c.line.txn)
+      × (c.line.txn ≤ length s.jobs)
   pub policies : FollowPolicies s (view_by s (map (tells_of s.jobs) logs)) 1 (map (tells_of s.jobs) logs)

@@ -1,5 +1,7 @@
 -- What a list of operations reads, writes and guards on a copy of the rows.
-use Rattle.std.specs.Prelude.{ℕ, ◌+◌, ◌-◌, ◌^◌, ◌≡◌, ◌<◌, ◌≤◌, Bool, true, false, not, nat_lt, nat_le, if◌then◌else◌, List, [], ◌∷◌, ◌++◌, length, filter, slice_index, slice_set, replicate, Option, Some, None, MatchOption}
+use Rattle.std.specs.Prelude.{ℕ, ◌+◌, ◌-◌, ◌^◌, ◌≡◌, ◌<◌, ◌≤◌, Bool, true, false, not, nat_lt, nat_le, if◌then◌else◌}
+use Rattle.std.specs.Prelude.{List, [], ◌∷◌, ◌++◌, length, filter, slice_index, slice_set, replicate, Option, Some}
+use Rattle.std.specs.Prelude.{None, MatchOption}
 use Rattle.std.specs.List.{list_any}
 use Rattle.si_model.specs.declared.row.Key.{Key}
 use Rattle.si_model.specs.declared.row.Item.{Item}
@@ -92,7 +94,8 @@ evaluation_from widths rows n ws gs [] = Done [] ws (unwritten ws gs)
 evaluation_from widths rows n ws gs (op ∷ ops) =
     let copy = overlay ws rows in
     if passes op copy
-    then with_reads (found op copy) (evaluation_from widths rows (n + 1) (writes_after widths op copy ws) (guards_after op gs) ops)
+    then with_reads (found op copy) (evaluation_from widths rows (n + 1) (writes_after widths op copy ws)
+    (guards_after op gs) ops)
     else Declined n (found op copy)
 
 -- the operations one after another, on a copy of the rows
@@ -116,6 +119,16 @@ reads_from widths rows ws [] = []
 reads_from widths rows ws (op ∷ ops) =
     let copy = overlay ws rows in
     found op copy ++ reads_from widths rows (writes_after widths op copy ws) ops
+
+-- the key of an operation; of a scan its lowest
+abbrev pub op_key : Op → Key
+op_key (Get t k) = key_at t k
+op_key (Put t k v) = key_at t k
+op_key (Add t k f up by) = key_at t k
+op_key (Del t k) = key_at t k
+op_key (Need t k f least) = key_at t k
+op_key (Guard t k) = key_at t k
+op_key (Scan t low high) = key_at t low
 
 -- the key that an operation other than a scan reads
 abbrev pub key_read : Op → Option Key

@@ -1,5 +1,7 @@
--- Histories: entries, writers and versions, and which histories are legal (first committer wins: Berenson and others 1995).
-use Rattle.std.specs.Prelude.{ℕ, zero, suc, ◌+◌, ◌-◌, ◌<◌, ◌≤◌, ◌≡◌, ◌==◌, ◌&&◌, not, Bool, IsTrue, if◌then◌else◌, List, [], ◌∷◌, ◌++◌, length, take, drop, map, filter, slice_index_or, Option, Some, None}
+-- Histories: entries, writers and versions, and which histories are legal (first committer wins: Berenson and others
+-- 1995).
+use Rattle.std.specs.Prelude.{ℕ, zero, suc, ◌+◌, ◌-◌, ◌<◌, ◌≤◌, ◌≡◌, ◌==◌, ◌&&◌, not, Bool, IsTrue, if◌then◌else◌, List}
+use Rattle.std.specs.Prelude.{[], ◌∷◌, ◌++◌, length, take, drop, map, filter, slice_index_or, Option, Some, None}
 use Rattle.std.specs.List.{list_any, list_all}
 use Rattle.si_model.specs.declared.row.Key.{Key}
 use Rattle.si_model.specs.declared.row.Item.{Item}
@@ -84,18 +86,21 @@ abbrev pub none_writes : List Key → List CommitLine → Bool
 none_writes keys es = list_all (λ e. list_all (λ key. not (writes_key e.writes key)) keys) es
 
 -- the entry may follow these: it evaluates its transaction on its prefix, and nobody wrote its keys since
-pub record MayFollow (widths : List ℕ) (rows : Rows) (jobs : List (List Op)) (done : List CommitLine) (e : CommitLine) : Type 0 where
+pub record MayFollow (widths : List ℕ) (rows : Rows) (jobs : List (List Op)) (done : List CommitLine) (e : CommitLine) :
+    Type 0 where
   pub job : (1 ≤ e.txn) × (e.txn ≤ length jobs)
   pub prefix : e.prefix ≤ length done
   pub reads : List Item
   pub guards : List Key
-  pub evaluates : evaluation_of widths (state_at rows (take e.prefix done)) (slice_index_or jobs (e.txn - 1) []) ≡ Done reads e.writes guards
+  pub evaluates : evaluation_of widths (state_at rows (take e.prefix done)) (slice_index_or jobs (e.txn - 1) [])
+      ≡ Done reads e.writes guards
   pub writes : 0 < length e.writes
   pub first_wins : IsTrue (none_writes (keys_of e.writes guards) (drop e.prefix done))
 
 abbrev pub IsLegalAfter : List ℕ → Rows → List (List Op) → List CommitLine → List CommitLine → Type 0
 IsLegalAfter widths rows jobs done [] = Unit {0}
-IsLegalAfter widths rows jobs done (e ∷ es) = MayFollow widths rows jobs done e × IsLegalAfter widths rows jobs (done ++ e ∷ []) es
+IsLegalAfter widths rows jobs done (e ∷ es) =
+    MayFollow widths rows jobs done e × IsLegalAfter widths rows jobs (done ++ e ∷ []) es
 
 -- each entry may follow those before it
 abbrev pub IsLegal : List ℕ → Rows → List (List Op) → List CommitLine → Type 0
@@ -103,7 +108,8 @@ IsLegal widths rows jobs history = IsLegalAfter widths rows jobs [] history
 
 abbrev pub IsNumberedAfter : ℕ → List CommitLine → List CommitLine → Type 0
 IsNumberedAfter start done [] = Unit {0}
-IsNumberedAfter start done (e ∷ es) = (e.number ≡ start + count_of e.worker done + 1) × IsNumberedAfter start (done ++ e ∷ []) es
+IsNumberedAfter start done (e ∷ es) = (e.number ≡ start + count_of e.worker done + 1)
+    × IsNumberedAfter start (done ++ e ∷ []) es
 
 -- each worker's numbers follow start one by one, in the order of the history
 abbrev pub IsNumbered : ℕ → List CommitLine → Type 0

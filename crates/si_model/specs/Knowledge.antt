@@ -14,8 +14,8 @@ AreAtMost (k ∷ ks) [] = ⊥
 AreAtMost (k ∷ ks) (n ∷ ns) = (k ≤ n) × AreAtMost ks ns
 
 -- worker i's number is known to be n
-abbrev pub learnt : List ℕ → ℕ → ℕ → List ℕ
-learnt known i n = slice_set known (i - 1) n
+abbrev pub knowledge_with : List ℕ → ℕ → ℕ → List ℕ
+knowledge_with known i n = slice_set known (i - 1) n
 
 -- the prefix is one of a history, and its entries are at least what is known
 abbrev pub SeesPrefix : View → Tell → List ℕ → Option ℕ → Type 0
@@ -39,9 +39,9 @@ SeesOutcome known outcome = Unit {0}
 
 -- what worker j knows after an outcome
 abbrev pub known_by : ℕ → List ℕ → Outcome → List ℕ
-known_by j known (Commit number) = learnt known j number
-known_by j known (Again i first second) = learnt known i second
-known_by j known (TooOld i entry horizon) = learnt known i (max (slice_index known (i - 1)) horizon)
+known_by j known (Commit number) = knowledge_with known j number
+known_by j known (Again i first second) = knowledge_with known i second
+known_by j known (TooOld i entry horizon) = knowledge_with known i (max (slice_index known (i - 1)) horizon)
 known_by j known outcome = known
 
 -- the event sees no less than is known
@@ -55,7 +55,7 @@ SeesEvent v t known event = Unit {0}
 abbrev pub known_after : View → ℕ → Tell → List ℕ → Event → List ℕ
 known_after v j t known (Tried a) = known_by j (known_with v t known a.prefix) a.outcome
 known_after v j t known (Collected b prefix entries cut) = v.entries t
-known_after v j t known (CollectAgain b i first second) = learnt known i second
+known_after v j t known (CollectAgain b i first second) = knowledge_with known i second
 known_after v j t known event = known
 
 -- each of worker j's events sees no less than is known before it

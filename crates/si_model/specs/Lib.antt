@@ -1,7 +1,9 @@
 pub mod Lists
+pub mod Generator
 pub mod Rows
 pub mod Evaluation
 pub mod EvaluationLaws
+pub mod Operations
 pub mod Held
 pub mod Committed
 pub mod State

@@ -21,9 +21,9 @@ last_of (x ∷ []) = Some x
 last_of (x ∷ y ∷ ys) = last_of (y ∷ ys)
 
 -- all elements of the lists, one list after another
-abbrev pub joined : {A : Type 0} → List (List A) → List A
-joined [] = []
-joined (xs ∷ xss) = xs ++ joined xss
+abbrev pub concat_of : {A : Type 0} → List (List A) → List A
+concat_of [] = []
+concat_of (xs ∷ xss) = xs ++ concat_of xss
 
 -- each element stands so to those after it
 abbrev pub Pairwise : {A : Type 0} → (A → A → Type 0) → List A → Type 0

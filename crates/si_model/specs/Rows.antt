@@ -1,6 +1,7 @@
 -- Keys, rows as a function of the key, and write sets over them.
-use Rattle.std.specs.Prelude.{ℕ, zero, suc, ◌+◌, ◌-◌, ◌≡◌, ◌==◌, ◌&&◌, ◌||◌, nat_lt, Bool, true, false, if◌then◌else◌, List, [], ◌∷◌, ◌++◌, map, Option, Some, None, IsTrue}
-use Rattle.std.specs.List.{AllByRecursion}
+use Rattle.std.specs.Prelude.{ℕ, zero, suc, ◌+◌, ◌-◌, ◌≡◌, ◌==◌, ◌&&◌, ◌||◌, nat_lt, Bool, true, false, if◌then◌else◌}
+use Rattle.std.specs.Prelude.{List, [], ◌∷◌, ◌++◌, map, Option, Some, None, IsTrue}
+use Rattle.std.specs.List.{list_any, AllByRecursion}
 use Rattle.si_model.specs.declared.row.Key.{Key}
 use Rattle.si_model.specs.declared.row.Row.{Row}
 use Rattle.si_model.specs.declared.row.Item.{Item}
@@ -11,6 +12,10 @@ key_at table key = record { table = table; key = key }
 -- are the two keys one
 abbrev pub same_key : Key → Key → Bool
 same_key a b = (a.table == b.table) && (a.key == b.key)
+
+-- is the key among these
+abbrev pub has_key : List Key → Key → Bool
+has_key keys key = list_any (λ k. same_key k key) keys
 
 -- does the first key come before the second, by table and then by key
 abbrev pub key_before : Key → Key → Bool
@@ -52,7 +57,8 @@ present key (Some v) = item_at key (Some v) ∷ []
 -- the items of the present rows among the n keys of the table from low on, in order of keys
 unfoldable pub items_from : Rows → ℕ → ℕ → ℕ → List Item
 items_from rows table low zero = []
-items_from rows table low (suc n) = present (key_at table low) (rows (key_at table low)) ++ items_from rows table (low + 1) n
+items_from rows table low (suc n) = present (key_at table low) (rows (key_at table low))
+    ++ items_from rows table (low + 1) n
 
 -- the items of the present rows whose keys are from low to high
 abbrev pub items_between : Rows → ℕ → ℕ → ℕ → List Item

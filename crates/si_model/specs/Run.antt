@@ -1,5 +1,6 @@
 -- The definition of a run of the snapshot isolation machine.
-use Rattle.std.specs.Prelude.{ℕ, suc, ◌+◌, ◌≡◌, ◌==◌, ◌&&◌, Bool, false, List, [], ◌∷◌, length, map, filter, replicate, Some, None}
+use Rattle.std.specs.Prelude.{ℕ, suc, ◌+◌, ◌≡◌, ◌==◌, ◌&&◌, Bool, false, List, [], ◌∷◌, length, map, filter, replicate}
+use Rattle.std.specs.Prelude.{Some, None}
 use Rattle.std.specs.List.{AllByRecursion}
 use Rattle.si_model.specs.declared.log.Attempt.{Attempt}
 use Rattle.si_model.specs.declared.report.CommitLine.{CommitLine}
@@ -52,7 +53,8 @@ pub record IsRun (s : Setting) (r : Report) : Type 0 where
   pub one_log_each : length r.logs ≡ s.workers
   pub legal : IsLegal s.widths (rows_of s.rows) s.jobs r.history
   pub numbered : IsNumbered s.start r.history
-  pub workers : AreWorkerRuns s (by_history (rows_of s.rows) s.workers s.start r.history) (tells_in_report s r) 1 (tells_in_report s r)
+  pub workers : AreWorkerRuns s (by_history (rows_of s.rows) s.workers s.start r.history) (tells_in_report s r) 1
+      (tells_in_report s r)
   -- each entry is exactly one listed commit
   pub listed : AllByRecursion (λ e. times_listed e 1 (tells_in_report s r) ≡ 1) r.history
   pub audit : IsAudit (state_at (rows_of s.rows) r.history) (tells_in_report s r) r.audit

@@ -1,10 +1,11 @@
 -- What a run is of.
-use Rattle.std.specs.Prelude.{ℕ, suc, ◌==◌, ◌&&◌, not, Bool, false, if◌then◌else◌, List, [], ◌∷◌, length, map, filter, slice_index, nat_le}
+use Rattle.std.specs.Prelude.{ℕ, suc, ◌==◌, ◌&&◌, not, Bool, false, if◌then◌else◌, List, [], ◌∷◌, length, map, filter}
+use Rattle.std.specs.Prelude.{slice_index, nat_le}
 use Rattle.si_model.specs.declared.row.Key.{Key}
 use Rattle.si_model.specs.declared.row.Row.{Row}
 use Rattle.si_model.specs.declared.op.Op.{Op}
 use Rattle.si_model.specs.declared.op.Policy.{Policy}
-use Rattle.si_model.specs.Lists.{joined}
+use Rattle.si_model.specs.Lists.{concat_of}
 use Rattle.si_model.specs.Rows.{row_key, same_key}
 use Rattle.si_model.specs.Evaluation.{guarded, key_claimed, keys_from}
 
@@ -35,7 +36,7 @@ pub record Asked : Type 0 where
   pub by_calls : Bool
 
 abbrev pub by_script : Setting → Asked
-by_script s = record { ops = joined s.jobs; by_calls = false }
+by_script s = record { ops = concat_of s.jobs; by_calls = false }
 
 -- the keys of the list, each once
 abbrev pub distinct_from : List Key → List Key → List Key
@@ -49,7 +50,8 @@ claimed_keys s asked = keys_from key_claimed (distinct_from [] (map row_key s.ro
 -- are there at least as many other keys of its table as the table has positions
 abbrev pub is_crowded : Setting → Asked → Key → Bool
 is_crowded s asked key =
-    nat_le (slice_index s.capacities key.table) (length (filter (λ q. (q.table == key.table) && not (same_key q key)) (claimed_keys s asked)))
+    nat_le (slice_index s.capacities key.table)
+    (length (filter (λ q. (q.table == key.table) && not (same_key q key)) (claimed_keys s asked)))
 
 abbrev pub places_of : ℕ → ℕ → List ℕ → List ℕ
 places_of j x [] = []

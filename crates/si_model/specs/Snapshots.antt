@@ -1,5 +1,6 @@
 -- What a snapshot contains of the listed commits, and what it says by them.
-use Rattle.std.specs.Prelude.{ℕ, ◌+◌, ◌-◌, ◌&&◌, ◌||◌, nat_lt, nat_le, Bool, if◌then◌else◌, List, [], ◌∷◌, length, filter, map, slice_index, Option, Some, None}
+use Rattle.std.specs.Prelude.{ℕ, ◌+◌, ◌-◌, ◌&&◌, ◌||◌, nat_lt, nat_le, Bool, if◌then◌else◌, List, [], ◌∷◌, length}
+use Rattle.std.specs.Prelude.{filter, map, slice_index, Option, Some, None}
 use Rattle.si_model.specs.declared.row.Key.{Key}
 use Rattle.si_model.specs.declared.log.Stamp.{Stamp}
 use Rattle.si_model.specs.Rows.{Rows, writes_key, overlay}
@@ -48,4 +49,5 @@ is_after s c = same_stamp s loader || contains c.snap s
 -- how many of these commits write the key after the version; none where it is not a version of the key
 abbrev pub later_in : List Published → Key → Stamp → List Published → ℕ
 later_in cs key s seen =
-    if is_version key s (map entry_of cs) then length (filter (λ c. writes_key c.line.writes key && is_after s c) seen) else 0
+    if is_version key s (map entry_of cs) then length (filter (λ c. writes_key c.line.writes key && is_after s c) seen)
+    else 0

@@ -1,5 +1,6 @@
 -- A log seen as a list of its events, each with its own items.
-use Rattle.std.specs.Prelude.{ℕ, ◌+◌, ◌-◌, ◌≡◌, length, Bool, true, false, if◌then◌else◌, List, [], ◌∷◌, take, drop, slice_index_or, Option, Some, None, is_some, unwrap_or}
+use Rattle.std.specs.Prelude.{ℕ, ◌+◌, ◌-◌, ◌≡◌, length, Bool, true, false, if◌then◌else◌, List, [], ◌∷◌, take, drop}
+use Rattle.std.specs.Prelude.{slice_index_or, Option, Some, None, is_some, unwrap_or}
 use Rattle.si_model.specs.declared.row.Item.{Item}
 use Rattle.si_model.specs.declared.op.Op.{Op}
 use Rattle.si_model.specs.declared.log.Lock.{Lock}
@@ -55,7 +56,8 @@ pub record CountsFit (log : Log) : Type 0 where
   pub writes : total writes_in log.events ≡ length log.writes
   pub snaps : total snaps_in log.events ≡ length log.snaps
 
--- the operations of an event's transaction; transaction x stands at place x - 1 (that x is at least 1 is the policy's matter)
+-- the operations of an event's transaction; transaction x stands at place x - 1 (that x is at least 1 is the policy's
+-- matter)
 abbrev pub ops_in : List (List Op) → Event → List Op
 ops_in jobs e = elim (attempt_in e) [ None ↦ [] | Some a ↦ slice_index_or jobs (a.txn - 1) [] ]
 

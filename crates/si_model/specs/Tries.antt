@@ -1,5 +1,6 @@
 -- The retry policy: which events a worker lists, and in what order.
-use Rattle.std.specs.Prelude.{ℕ, ◌+◌, ◌≡◌, ◌==◌, ◌&&◌, ◌||◌, Bool, true, false, IsTrue, nat_lt, if◌then◌else◌, List, [], ◌∷◌, ◌++◌, length, Option, Some, None}
+use Rattle.std.specs.Prelude.{ℕ, ◌+◌, ◌≡◌, ◌==◌, ◌&&◌, ◌||◌, Bool, true, false, IsTrue, nat_lt, if◌then◌else◌, List, []}
+use Rattle.std.specs.Prelude.{◌∷◌, ◌++◌, length, Option, Some, None}
 use Rattle.std.specs.List.{flat_map}
 use Rattle.si_model.specs.declared.row.Key.{Key}
 use Rattle.si_model.specs.declared.op.Policy.{Policy}
@@ -8,7 +9,8 @@ use Rattle.si_model.specs.declared.log.Outcome.{Outcome}
 use Rattle.si_model.specs.declared.log.Outcome.TheVariants.{Commit, Again, Locked, Newer, TooOld, Full, Cut, Left}
 use Rattle.si_model.specs.declared.log.MoveEnd.TheVariants.{Cut as MoveCut}
 use Rattle.si_model.specs.declared.log.Event.{Event}
-use Rattle.si_model.specs.declared.log.Event.TheVariants.{Tried, NoRoom, Moved, Collected, CollectAgain, CollectCut, TidyCut, TailCut, Finished}
+use Rattle.si_model.specs.declared.log.Event.TheVariants.{Tried, NoRoom, Moved, Collected, CollectAgain, CollectCut}
+use Rattle.si_model.specs.declared.log.Event.TheVariants.{TidyCut, TailCut, Finished}
 use Rattle.si_model.specs.Rows.{key_at, same_key}
 use Rattle.si_model.specs.Evaluation.{written_keys}
 use Rattle.si_model.specs.Tells.{Tell, commit_in}
@@ -120,23 +122,28 @@ next_owed keys txns stage = record { keys = keys; txns = txns; tries = 0; stage 
 -- the same transaction again, where a try is left; before it these keys are tidied
 abbrev pub again_owed : Policy → List Key → ℕ → List ℕ → ℕ → Owed
 again_owed policy keys txn txns tries =
-    if nat_lt tries policy.tries then record { keys = keys; txns = txn ∷ txns; tries = tries; stage = going } else next_owed [] txns going
+    if nat_lt tries policy.tries then record { keys = keys; txns = txn ∷ txns; tries = tries; stage = going }
+    else next_owed [] txns going
 
 -- after an attempt at a transaction, by its outcome; tries counts it too
 abbrev pub outcome_owed : Policy → Tell → ℕ → List ℕ → ℕ → Outcome → Option Owed
-outcome_owed policy t txn txns tries (Commit number) = Some (next_owed (if policy.tidy then written_keys t.ops else []) txns committed)
+outcome_owed policy t txn txns tries (Commit number) =
+    Some (next_owed (if policy.tidy then written_keys t.ops else []) txns committed)
 outcome_owed policy t txn txns tries (Again i first second) = Some (again_owed policy [] txn txns tries)
 outcome_owed policy t txn txns tries (Locked l) = Some (again_owed policy [] txn txns tries)
 outcome_owed policy t txn txns tries (Newer l) = Some (again_owed policy [] txn txns tries)
 outcome_owed policy t txn txns tries (TooOld i entry horizon) = Some (again_owed policy [] txn txns tries)
-outcome_owed policy t txn txns tries (Full l) = Some (again_owed policy (if policy.tidy then lock_key l ∷ [] else []) txn txns tries)
-outcome_owed policy t txn txns tries Cut = Some (record { keys = []; txns = txn ∷ txns; tries = tries; stage = cut_short })
+outcome_owed policy t txn txns tries (Full l) =
+    Some (again_owed policy (if policy.tidy then lock_key l ∷ [] else []) txn txns tries)
+outcome_owed policy t txn txns tries Cut =
+    Some (record { keys = []; txns = txn ∷ txns; tries = tries; stage = cut_short })
 outcome_owed policy t txn txns tries Left = None
 outcome_owed policy t txn txns tries outcome = Some (next_owed [] txns going)
 
 -- after an attempt, which is the next try of the first transaction
 abbrev pub attempt_owed : Policy → Tell → ℕ → List ℕ → ℕ → Attempt → Option Owed
-attempt_owed policy t txn txns tries a = if (a.txn == txn) && (a.nth == tries + 1) then outcome_owed policy t txn txns (tries + 1) a.outcome else None
+attempt_owed policy t txn txns tries a =
+    if (a.txn == txn) && (a.nth == tries + 1) then outcome_owed policy t txn txns (tries + 1) a.outcome else None
 
 -- after an event that has to be an attempt
 abbrev pub tried_owed : Policy → Tell → List ℕ → ℕ → Event → Option Owed
@@ -157,7 +164,8 @@ tidied_owed keys owed end = record owed { keys = keys; stage = going }
 abbrev pub owed_after_tidying : List Key → Owed → Key → List Tell → Option Owed
 owed_after_tidying [] owed key ts = None
 owed_after_tidying (k ∷ keys) owed key ts =
-    if same_key k key then elim (tidy_end key ts) [ None ↦ None | Some end ↦ Some (tidied_owed keys owed end) ] else None
+    if same_key k key then elim (tidy_end key ts) [ None ↦ None | Some end ↦ Some (tidied_owed keys owed end) ]
+    else None
 
 -- is the worker right behind a commit
 abbrev pub is_committed : Stage → Bool
@@ -212,7 +220,8 @@ module _ (v : View) (j : ℕ) (done : List Part) (t : Tell) where
   -- a full ring's newest version, where it is the worker's own
   abbrev pub FullOutcome : Outcome → Type 0
   FullOutcome (Full l) =
-      (v.newest t (lock_key l)).thread ≡ j → IsTrue (failed_after (v.newest t (lock_key l)).number (lock_key l) false done)
+      (v.newest t (lock_key l)).thread ≡ j → IsTrue
+      (failed_after (v.newest t (lock_key l)).number (lock_key l) false done)
   FullOutcome outcome = Unit {0}
 
   abbrev pub FullEvent : Event → Type 0

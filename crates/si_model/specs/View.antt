@@ -1,5 +1,5 @@
--- What the entries that an event's snapshot holds say. Answers, causes and knowledge stand over a view, so that they serve a
--- report with its history and logs alone.
+-- What the entries that an event's snapshot holds say. Answers, causes and knowledge stand over a view, so that they
+-- serve a report with its history and logs alone.
 use Rattle.std.specs.Prelude.{ℕ, Bool, List, length, map, take}
 use Rattle.si_model.specs.declared.row.Key.{Key}
 use Rattle.si_model.specs.declared.log.Stamp.{Stamp}

@@ -6,9 +6,8 @@ ghost use Rattle.si_model.specs.Held.{held_at};
 ghost use Rattle.si_model.specs.Rows.{same_key, rows_of, overlay, ListsRows};
 ghost use Rattle.si_model.specs.State.{state_at};
 
-use crate::lookup::copied;
 use crate::report::CommitLine;
-use crate::row::{Item, Key, Row, Value};
+use crate::row::{Item, Key, Row, Value, copy_value};
 use std::alloc::{AllocError, Global};
 use std::collections::BTreeMap;
 
@@ -19,18 +18,15 @@ fn held_by(alloc: Global, rows: &[Row]) -> Result<BTreeMap<Key, Value>, AllocErr
 {
     let mut held = BTreeMap::new(alloc);
     for row in rows.iter().rev() {
-        let key = Key {
-            table: row.table,
-            key: row.key,
-        };
-        held.insert(key, row.value.copy())?;
+        held.insert(row.key(), row.value.copy())?;
     }
     Ok(held)
 }
 
 /// Gives a key a value, or makes it absent.
 fn hold(held: &mut BTreeMap<Key, Value>, key: Key, value: Option<Value>) -> Result<(), AllocError>
-    ensures { OnOk result ((k : Key) → held_at held.new k ≡ (if same_key key k then value else held_at held.old k)) }
+    ensures { OnOk result (
+        (k : Key) → held_at held.new k ≡ (if same_key key k then value else held_at held.old k)) }
 {
     match value {
         Some(value) => {
@@ -49,17 +45,13 @@ fn write_over(held: &mut BTreeMap<Key, Value>, writes: &[Item]) -> Result<(), Al
     ensures { OnOk result ((key : Key) → held_at held.new key ≡ overlay writes.now (held_at held.old) key) }
 {
     for item in writes.iter().rev() {
-        let key = Key {
-            table: item.table,
-            key: item.key,
-        };
-        hold(held, key, copied(&item.value))?;
+        hold(held, item.key(), copy_value(&item.value))?;
     }
     Ok(())
 }
 
 /// The rows that are held, in order of tables and keys.
-fn listed(alloc: Global, held: BTreeMap<Key, Value>) -> Result<Vec<Row>, AllocError>
+fn rows_in_order(alloc: Global, held: BTreeMap<Key, Value>) -> Result<Vec<Row>, AllocError>
     ensures { IfOk result (λ rows. ListsRows rows.items (held_at held)) }
 {
     let mut rows = Vec::new(alloc);
@@ -94,10 +86,7 @@ impl CommittedRows {
     pub fn value(&self, key: Key) -> Option<Value>
         ensures { result ≡ rows_held self.now key }
     {
-        match self.held.get(&key) {
-            Some(value) => Some(value.copy()),
-            None => None,
-        }
+        self.held.get(&key).map(|value| value.copy())
     }
 
     /// Puts a write set over the rows. Where memory is not found, some of it may stand over them.
@@ -112,7 +101,7 @@ impl CommittedRows {
         ensures { IfOk result (λ listed. ListsRows listed.items (rows_held self)) }
     {
         let CommittedRows { held } = self;
-        listed(alloc, held)
+        rows_in_order(alloc, held)
     }
 }
 
@@ -131,5 +120,5 @@ pub fn state(
     for line in &history[..p] {
         write_over(&mut held, line.writes.as_slice())?;
     }
-    listed(alloc, held)
+    rows_in_order(alloc, held)
 }

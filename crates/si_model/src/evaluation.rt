@@ -1,53 +1,41 @@
 //! Evaluation of operations.
 
 ghost use Rattle.std.specs.Prelude.{◌≡◌, ◌^◌, ◌<◌, [], ◌∷◌, ◌++◌, length, All, IfOk, OnOk, IsTrue};
-ghost use Rattle.si_model.specs.Rows.{key_at, item_at, rows_of, writes_key, overlay};
-ghost use Rattle.si_model.specs.Evaluation.{wrote, guarded, passes, found, writes_after, guards_after, unwritten, evaluation_of, OpFits, AreWide};
+ghost use Rattle.si_model.specs.Rows.{item_at, rows_of, writes_key, overlay};
+ghost use Rattle.si_model.specs.Evaluation.{wrote, passes, found, writes_after, guards_after, unwritten};
+ghost use Rattle.si_model.specs.Evaluation.{evaluation_of, OpFits, AreWide};
 
 use crate::evaluated::Evaluated;
 use crate::field::{changed_by, field_at, with_field};
-use crate::lookup::{add_items_between, copied, value_at};
+use crate::keys::note_key;
+use crate::lookup::{add_items_between, value_at};
 use crate::op::Op;
-use crate::row::{Item, Items, Key, Row, Value};
+use crate::row::{Item, Items, Key, Row, Value, copy_value};
 use lists::List;
 use std::alloc::{AllocError, Global};
 
 /// Notes a write: each key stands once, in the order of first writes, with its last value.
-#[tactic(auto, using(crate::proofs::WriteLemmas::wrote_at))]
 fn note_write(writes: &mut Items, item: Item) -> Result<(), AllocError>
     ensures { OnOk result (writes.new ≡ wrote writes.old item) }
 {
-    for place in 0..writes.len() {
-        let at = writes.at(place);
-        if at.table == item.table && at.key == item.key {
+    let key = item.key();
+    match writes
+        .as_slice()
+        .iter()
+        .position(|write| write.key() == key)
+    {
+        Some(place) => {
             writes.set(place, item);
-            return Ok(());
+            Ok(())
         }
+        None => writes.push(item),
     }
-    writes.push(item)
-}
-
-/// Notes a guarded key: each stands once, in the order of first guards.
-fn note_guard(guards: &mut List<Key>, key: Key) -> Result<(), AllocError>
-    ensures { OnOk result (guards.new ≡ guarded guards.old key) }
-{
-    for guard in guards.as_slice() {
-        if *guard == key {
-            return Ok(());
-        }
-    }
-    guards.push(key)
 }
 
 pub fn is_written(writes: &[Item], key: Key) -> bool
     ensures { result ≡ writes_key writes.now key }
 {
-    for item in writes {
-        if item.table == key.table && item.key == key.key {
-            return true;
-        }
-    }
-    false
+    writes.iter().any(|item| item.key() == key)
 }
 
 /// The guarded keys that aren't written.
@@ -73,28 +61,34 @@ struct Progress {
 
 impl Progress {
     /// Reads a key, and gives what was found.
-    fn read(&mut self, rows: &[Row], table: u32, key: u64) -> Result<Option<Value>, AllocError>
-        ensures found { IfOk result (λ value. value ≡ overlay self.old.writes (rows_of rows.now) (key_at table key)) }
-        ensures reads { OnOk result (self.new.reads ≡ self.old.reads ++ item_at (key_at table key) (overlay self.old.writes (rows_of rows.now) (key_at table key)) ∷ []) }
+    fn read(&mut self, rows: &[Row], key: Key) -> Result<Option<Value>, AllocError>
+        ensures found { IfOk result (λ value. value ≡ overlay self.old.writes (rows_of rows.now) key) }
+        ensures reads { OnOk result (
+            self.new.reads ≡ self.old.reads ++ item_at key (overlay self.old.writes (rows_of rows.now) key) ∷ []) }
         ensures writes { self.new.writes ≡ self.old.writes }
         ensures guards { self.new.guards ≡ self.old.guards }
     {
-        let value = value_at(self.writes.as_slice(), rows, table, key);
+        let value = value_at(self.writes.as_slice(), rows, key);
         self.reads.push(Item {
-            table,
-            key,
-            value: copied(&value),
+            table: key.table,
+            key: key.key,
+            value: copy_value(&value),
         })?;
         Ok(value)
     }
 
     /// Gives a key a value, or makes it absent.
-    fn write(&mut self, table: u32, key: u64, value: Option<Value>) -> Result<(), AllocError>
-        ensures writes { OnOk result (self.new.writes ≡ wrote self.old.writes (item_at (key_at table key) value)) }
+    fn write(&mut self, key: Key, value: Option<Value>) -> Result<(), AllocError>
+        ensures writes { OnOk result (self.new.writes ≡ wrote self.old.writes (item_at key value)) }
         ensures reads { self.new.reads ≡ self.old.reads }
         ensures guards { self.new.guards ≡ self.old.guards }
     {
-        note_write(&mut self.writes, Item { table, key, value })
+        let item = Item {
+            table: key.table,
+            key: key.key,
+            value,
+        };
+        note_write(&mut self.writes, item)
     }
 
     /// Does one operation on the copy, and says whether it passed.
@@ -107,47 +101,43 @@ impl Progress {
     ) -> Result<bool, AllocError>
         requires fits { OpFits widths.now op.now }
         requires wide { AreWide widths.now (overlay self.old.writes (rows_of rows.now)) }
-        ensures passed { IfOk result (λ passed. passed ≡ passes op.now (overlay self.old.writes (rows_of rows.now))) }
-        ensures reads { OnOk result (self.new.reads ≡ self.old.reads ++ found op.now (overlay self.old.writes (rows_of rows.now))) }
-        ensures writes { IfOk result (λ passed. IsTrue passed → self.new.writes ≡ writes_after widths.now op.now (overlay self.old.writes (rows_of rows.now)) self.old.writes) }
-        ensures guards { IfOk result (λ passed. IsTrue passed → self.new.guards ≡ guards_after op.now self.old.guards) }
+        ensures passed { IfOk result (λ passed.
+            passed ≡ passes op.now (overlay self.old.writes (rows_of rows.now))) }
+        ensures reads { OnOk result (
+            self.new.reads ≡ self.old.reads ++ found op.now (overlay self.old.writes (rows_of rows.now))) }
+        ensures writes { IfOk result (λ passed. IsTrue passed →
+            self.new.writes
+            ≡ writes_after widths.now op.now (overlay self.old.writes (rows_of rows.now)) self.old.writes) }
+        ensures guards { IfOk result (λ passed. IsTrue passed →
+            self.new.guards ≡ guards_after op.now self.old.guards) }
     {
         match op {
-            Op::Get { table, key } => {
-                self.read(rows, *table, *key)?;
+            Op::Get { .. } => {
+                self.read(rows, op.key())?;
             }
-            Op::Put { table, key, value } => self.write(*table, *key, Some(value.copy()))?,
+            Op::Put { value, .. } => self.write(op.key(), Some(value.copy()))?,
             Op::Add {
                 table,
-                key,
                 field,
                 up,
                 by,
+                ..
             } => {
-                let before = self.read(rows, *table, *key)?;
+                let before = self.read(rows, op.key())?;
                 let Some(number) = changed_by(field_at(&before, *field), *up, *by) else {
                     return Ok(false);
                 };
                 let after = with_field(widths[*table as usize], before, *field, number);
-                self.write(*table, *key, Some(after))?;
+                self.write(op.key(), Some(after))?;
             }
-            Op::Del { table, key } => self.write(*table, *key, None)?,
-            Op::Need {
-                table,
-                key,
-                field,
-                least,
-            } => {
-                let found = self.read(rows, *table, *key)?;
+            Op::Del { .. } => self.write(op.key(), None)?,
+            Op::Need { field, least, .. } => {
+                let found = self.read(rows, op.key())?;
                 return Ok(*least <= field_at(&found, *field));
             }
-            Op::Guard { table, key } => {
-                self.read(rows, *table, *key)?;
-                let key = Key {
-                    table: *table,
-                    key: *key,
-                };
-                note_guard(&mut self.guards, key)?;
+            Op::Guard { .. } => {
+                self.read(rows, op.key())?;
+                note_key(&mut self.guards, op.key())?;
             }
             Op::Scan { table, low, high } => {
                 let writes = self.writes.as_slice();
@@ -169,7 +159,8 @@ pub fn eval(
     requires fits { All (OpFits widths.now) ops.now }
     requires wide { AreWide widths.now (rows_of rows.now) }
     requires short { length ops.now < 2 ^ 32 }
-    ensures { IfOk result (λ evaluated. evaluated ≡ evaluation_of widths.now (rows_of rows.now) ops.now) }
+    ensures { IfOk result (λ evaluated.
+        evaluated ≡ evaluation_of widths.now (rows_of rows.now) ops.now) }
 {
     let mut progress = Progress {
         reads: List::new(alloc),

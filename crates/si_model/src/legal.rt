@@ -1,21 +1,22 @@
 //! Legal histories: first committer wins.
 
-ghost use Rattle.std.specs.Prelude.{◌≡◌, ◌^◌, ◌<◌, ◌≤◌, ◌-◌, List, [], length, map, take, All, IfOk, IfSome, Decides, Some, None, slice_index_or};
-ghost use Rattle.std.specs.List.{list_any, AllByRecursion};
+ghost use Rattle.std.specs.Prelude.{◌≡◌, ◌^◌, ◌<◌, ◌≤◌, ◌-◌, [], length, map, take, not};
+ghost use Rattle.std.specs.Prelude.{All, IfOk, IfSome, Decides, Some, None, slice_index_or};
+ghost use Rattle.std.specs.List.{list_all, AllByRecursion};
 ghost use Rattle.si_model.specs.Rows.{rows_of, writes_key};
 ghost use Rattle.si_model.specs.Evaluation.{evaluation_of, OpFits, AreWide};
 ghost use Rattle.si_model.specs.EvaluationLaws.{IsWide};
 ghost use Rattle.si_model.specs.State.{state_at};
-ghost use Rattle.si_model.specs.History.{keys_of, none_writes, MayFollow, IsLegal};
+ghost use Rattle.si_model.specs.History.{none_writes, MayFollow, IsLegal};
 ghost use Rattle.si_model.specs.Gives.{Gives};
 
 use crate::committed::state;
 use crate::evaluated::Evaluated;
 use crate::evaluation::{eval, is_written};
+use crate::keys::keys_of;
 use crate::op::Op;
 use crate::report::CommitLine;
 use crate::row::{Item, Key, Row};
-use lists::List;
 use std::alloc::{AllocError, Global};
 
 /// Do the two write sets have the same items in the same order?
@@ -25,50 +26,27 @@ fn are_same(a: &[Item], b: &[Item]) -> bool
     a == b
 }
 
-/// The keys that a transaction writes, and then those that it guards.
-fn claimed(alloc: Global, writes: &[Item], guards: &[Key]) -> Result<List<Key>, AllocError>
-    ensures { IfOk result (λ keys. keys ≡ keys_of writes.now guards.now) }
+/// Does the write set write none of the keys?
+fn writes_none(writes: &[Item], keys: &[Key]) -> bool
+    ensures { result ≡ list_all (λ key. not (writes_key writes.now key)) keys.now }
 {
-    let mut keys = List::new(alloc);
-    for item in writes {
-        keys.push(Key {
-            table: item.table,
-            key: item.key,
-        })?;
-    }
-    for key in guards {
-        keys.push(*key)?;
-    }
-    Ok(keys)
-}
-
-/// Does the write set write one of the keys?
-fn writes_one(writes: &[Item], keys: &[Key]) -> bool
-    ensures { result ≡ list_any (λ key. writes_key writes.now key) keys.now }
-{
-    for key in keys {
-        if is_written(writes, *key) {
-            return true;
-        }
-    }
-    false
+    keys.iter().all(|key| !is_written(writes, *key))
 }
 
 /// Does no entry write one of the keys?
 fn none_writes(keys: &[Key], entries: &[CommitLine]) -> bool
     ensures { result ≡ none_writes keys.now entries.now }
 {
-    for entry in entries {
-        if writes_one(entry.writes.as_slice(), keys) {
-            return false;
-        }
-    }
-    true
+    entries
+        .iter()
+        .all(|entry| writes_none(entry.writes.as_slice(), keys))
 }
 
 /// The operations of transaction `txn`, counted from 1.
 fn job_of(jobs: &[Vec<Op>], txn: u32) -> Option<&[Op]>
-    ensures found { IfSome result (λ ops. (1 ≤ txn) × (txn ≤ length jobs.now) × (ops.now ≡ slice_index_or (map (λ job. job.items) jobs.now) (txn - 1) [])) }
+    ensures found { IfSome result (λ ops.
+        (1 ≤ txn) × (txn ≤ length jobs.now)
+        × (ops.now ≡ slice_index_or (map (λ job. job.items) jobs.now) (txn - 1) [])) }
     ensures missing { result ≡ None → (1 ≤ txn) × (txn ≤ length jobs.now) → ⊥ }
 {
     let place = txn.checked_sub(1)?;
@@ -90,7 +68,8 @@ fn evaluated_at(
     requires wide { AreWide widths.now (rows_of rows.now) }
     requires written { AllByRecursion (λ e. AllByRecursion (IsWide widths.now) e.writes) done.now }
     requires prefix { prefix ≤ length done.now }
-    ensures { IfOk result (λ e. e ≡ evaluation_of widths.now (state_at (rows_of rows.now) (take prefix done.now)) ops.now) }
+    ensures { IfOk result (λ e.
+        e ≡ evaluation_of widths.now (state_at (rows_of rows.now) (take prefix done.now)) ops.now) }
 {
     let seen = state(alloc, rows, done, prefix)?;
     eval(alloc, widths, ops, seen.as_slice())
@@ -116,7 +95,7 @@ fn gives(
     if writes.is_empty() || !are_same(made.as_slice(), writes) {
         return Ok(false);
     }
-    let keys = claimed(alloc, writes, guards.as_slice())?;
+    let keys = keys_of(alloc, writes, guards.as_slice())?;
     Ok(none_writes(keys.as_slice(), since))
 }
 
@@ -133,7 +112,9 @@ fn may_follow(
     requires short { All (λ job. length job.items < 2 ^ 32) jobs.now }
     requires wide { AreWide widths.now (rows_of rows.now) }
     requires written { AllByRecursion (λ e. AllByRecursion (IsWide widths.now) e.writes) done.now }
-    ensures { IfOk result (λ may. Decides may (MayFollow widths.now (rows_of rows.now) (map (λ job. job.items) jobs.now) done.now entry.now)) }
+    ensures { IfOk result (λ may.
+        let jobs = map (λ job. job.items) jobs.now in
+        Decides may (MayFollow widths.now (rows_of rows.now) jobs done.now entry.now)) }
 {
     let Some(ops) = job_of(jobs, entry.txn) else {
         return Ok(false);
@@ -161,7 +142,9 @@ pub fn is_legal(
     requires fits { All (λ job. All (OpFits widths.now) job.items) jobs.now }
     requires short { All (λ job. length job.items < 2 ^ 32) jobs.now }
     requires wide { AreWide widths.now (rows_of rows.now) }
-    ensures { IfOk result (λ legal. Decides legal (IsLegal widths.now (rows_of rows.now) (map (λ job. job.items) jobs.now) history.now)) }
+    ensures { IfOk result (λ legal.
+        let jobs = map (λ job. job.items) jobs.now in
+        Decides legal (IsLegal widths.now (rows_of rows.now) jobs history.now)) }
 {
     for (place, entry) in history.iter().enumerate() {
         if !may_follow(alloc, widths, rows, jobs, &history[..place], entry)? {

@@ -1,24 +1,41 @@
 //! What a worker lists of its attempts and of its tidying.
 
-use crate::row::Items;
+ghost use Rattle.std.specs.Prelude.{◌≡◌, []};
+
+use crate::row::{Items, Key};
 use lists::{List, ShortList};
+use std::alloc::Global;
 
 /// The commit numbers that a worker found published, one for each worker.
 pub type Snapshot = ShortList<u64, 16>;
 
 /// The writer of a version and the number of its commit. (0, 0) is the loader's.
-#[derive(Clone, Copy, Debug, PartialEq, Eq)]
+#[derive(Clone, Copy, Debug, Default, PartialEq, Eq)]
 pub struct Stamp {
     pub thread: u32,
     pub number: u64,
 }
 
 /// A record, with the stamp that its header bore.
-#[derive(Clone, Copy, Debug, PartialEq, Eq)]
+#[derive(Clone, Copy, Debug, Default, PartialEq, Eq)]
 pub struct Lock {
     pub table: u32,
     pub key: u64,
     pub stamp: Stamp,
+}
+
+impl Lock {
+    ghost use Rattle.si_model.specs.Answers.{lock_key};
+
+    /// The table and the key.
+    pub fn key(&self) -> Key
+        ensures { result ≡ lock_key self.now }
+    {
+        Key {
+            table: self.table,
+            key: self.key,
+        }
+    }
 }
 
 /// How an attempt ended.
@@ -144,6 +161,41 @@ pub enum Event {
     },
 }
 
+impl Event {
+    ghost use Rattle.si_model.specs.Tells.{attempt_in, reads_in, locks_in, writes_in};
+
+    /// The attempt that the event is.
+    pub fn attempt(&self) -> Option<Attempt>
+        ensures { result ≡ attempt_in self.now }
+    {
+        match self {
+            Event::Tried(attempt) => Some(*attempt),
+            _ => None,
+        }
+    }
+
+    /// How many of its log's reads the event owns.
+    pub fn reads(&self) -> u32
+        ensures { result ≡ reads_in self.now }
+    {
+        self.attempt().map_or(0, |attempt| attempt.reads)
+    }
+
+    /// How many of its log's locks the event owns.
+    pub fn locks(&self) -> u32
+        ensures { result ≡ locks_in self.now }
+    {
+        self.attempt().map_or(0, |attempt| attempt.locks)
+    }
+
+    /// How many of its log's writes the event owns.
+    pub fn writes(&self) -> u32
+        ensures { result ≡ writes_in self.now }
+    {
+        self.attempt().map_or(0, |attempt| attempt.writes)
+    }
+}
+
 /// What one worker did, in order. The items of the events stand one after another in the other lists.
 #[derive(Debug, Drop)]
 pub struct Log {
@@ -152,4 +204,19 @@ pub struct Log {
     pub locks: List<Lock>,
     pub writes: Items,
     pub snaps: List<Snapshot>,
+}
+
+impl Log {
+    /// A log without events, which has taken no memory yet.
+    pub fn new(alloc: Global) -> Log
+        ensures { result ≡ record { events = []; reads = []; locks = []; writes = []; snaps = [] } }
+    {
+        Log {
+            events: List::new(alloc),
+            reads: List::new(alloc),
+            locks: List::new(alloc),
+            writes: List::new(alloc),
+            snaps: List::new(alloc),
+        }
+    }
 }

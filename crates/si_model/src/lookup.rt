@@ -5,22 +5,15 @@ ghost use Rattle.std.specs.Ordering.{nat_cmp};
 ghost use Rattle.std.specs.BTreeSet.{contains};
 ghost use Rattle.si_model.specs.Rows.{key_at, rows_of, writes_key, overlay, present, items_between};
 
-use crate::row::{Item, Items, Row, Value};
+use crate::row::{Item, Items, Key, Row, Value, copy_value};
 use std::alloc::{AllocError, Global};
 use std::collections::BTreeSet;
 
-/// An equal value, if there is one.
-pub(crate) fn copied(value: &Option<Value>) -> Option<Value>
-    ensures { result ≡ value.now }
-{
-    value.as_ref().map(|value| value.copy())
-}
-
-fn value_in_rows(rows: &[Row], table: u32, key: u64) -> Option<Value>
-    ensures { result ≡ rows_of rows.now (key_at table key) }
+fn value_in_rows(rows: &[Row], key: Key) -> Option<Value>
+    ensures { result ≡ rows_of rows.now key }
 {
     for row in rows {
-        if row.table == table && row.key == key {
+        if row.key() == key {
             return Some(row.value.copy());
         }
     }
@@ -28,15 +21,15 @@ fn value_in_rows(rows: &[Row], table: u32, key: u64) -> Option<Value>
 }
 
 /// What stands at a key of the rows under the write set.
-pub(crate) fn value_at(writes: &[Item], rows: &[Row], table: u32, key: u64) -> Option<Value>
-    ensures { result ≡ overlay writes.now (rows_of rows.now) (key_at table key) }
+pub(crate) fn value_at(writes: &[Item], rows: &[Row], key: Key) -> Option<Value>
+    ensures { result ≡ overlay writes.now (rows_of rows.now) key }
 {
     for item in writes {
-        if item.table == table && item.key == key {
-            return copied(&item.value);
+        if item.key() == key {
+            return copy_value(&item.value);
         }
     }
-    value_in_rows(rows, table, key)
+    value_in_rows(rows, key)
 }
 
 /// Adds the keys of the table from `low` to `high` that have a row.
@@ -47,7 +40,10 @@ fn add_row_keys(
     low: u64,
     high: u64,
 ) -> Result<(), AllocError>
-    ensures { OnOk result ((key : ℕ) → contains nat_cmp keys.new key ≡ contains nat_cmp keys.old key || nat_le low key && nat_le key high && is_some (rows_of rows.now (key_at table key))) }
+    ensures { OnOk result ((key : ℕ) →
+        contains nat_cmp keys.new key
+        ≡ contains nat_cmp keys.old key
+        || nat_le low key && nat_le key high && is_some (rows_of rows.now (key_at table key))) }
 {
     for row in rows {
         if row.table == table && low <= row.key && row.key <= high {
@@ -65,7 +61,10 @@ fn add_written_keys(
     low: u64,
     high: u64,
 ) -> Result<(), AllocError>
-    ensures { OnOk result ((key : ℕ) → contains nat_cmp keys.new key ≡ contains nat_cmp keys.old key || nat_le low key && nat_le key high && writes_key writes.now (key_at table key)) }
+    ensures { OnOk result ((key : ℕ) →
+        contains nat_cmp keys.new key
+        ≡ contains nat_cmp keys.old key
+        || nat_le low key && nat_le key high && writes_key writes.now (key_at table key)) }
 {
     for item in writes {
         if item.table == table && low <= item.key && item.key <= high {
@@ -84,7 +83,10 @@ fn keys_between(
     low: u64,
     high: u64,
 ) -> Result<BTreeSet<u64>, AllocError>
-    ensures { IfOk result (λ keys. (key : ℕ) → contains nat_cmp keys key ≡ nat_le low key && nat_le key high && (is_some (rows_of rows.now (key_at table key)) || writes_key writes.now (key_at table key))) }
+    ensures { IfOk result (λ keys. (key : ℕ) →
+        contains nat_cmp keys key
+        ≡ nat_le low key && nat_le key high
+        && (is_some (rows_of rows.now (key_at table key)) || writes_key writes.now (key_at table key))) }
 {
     let mut keys = BTreeSet::new(alloc);
     add_row_keys(&mut keys, rows, table, low, high)?;
@@ -93,18 +95,13 @@ fn keys_between(
 }
 
 /// Appends the item of a key that holds a row.
-fn add_if_present(
-    items: &mut Items,
-    table: u32,
-    key: u64,
-    value: Option<Value>,
-) -> Result<(), AllocError>
-    ensures { OnOk result (items.new ≡ items.old ++ present (key_at table key) value) }
+fn add_if_present(items: &mut Items, key: Key, value: Option<Value>) -> Result<(), AllocError>
+    ensures { OnOk result (items.new ≡ items.old ++ present key value) }
 {
     match value {
         Some(value) => items.push(Item {
-            table,
-            key,
+            table: key.table,
+            key: key.key,
             value: Some(value),
         }),
         None => Ok(()),
@@ -121,12 +118,13 @@ pub(crate) fn add_items_between(
     low: u64,
     high: u64,
 ) -> Result<(), AllocError>
-    ensures { OnOk result (items.new ≡ items.old ++ items_between (overlay writes.now (rows_of rows.now)) table low high) }
+    ensures { OnOk result (
+        items.new ≡ items.old ++ items_between (overlay writes.now (rows_of rows.now)) table low high) }
 {
     let keys = keys_between(alloc, writes, rows, table, low, high)?;
     for key in &keys {
-        let value = value_at(writes, rows, table, *key);
-        add_if_present(items, table, *key, value)?;
+        let key = Key { table, key: *key };
+        add_if_present(items, key, value_at(writes, rows, key))?;
     }
     Ok(())
 }

@@ -1,6 +1,8 @@
-//! The operations of a transaction.
+//! The operations of a transaction, and the keys that they name.
 
-use crate::row::Value;
+ghost use Rattle.std.specs.Prelude.{◌≡◌};
+
+use crate::row::{Key, Value};
 
 /// One operation. Fields are counted from 1.
 #[derive(Debug, Drop)]
@@ -47,6 +49,70 @@ pub enum Op {
         low: u64,
         high: u64,
     },
+}
+
+impl Op {
+    ghost use Rattle.si_model.specs.Evaluation.{op_key, key_read, key_written, key_guarded, key_claimed};
+
+    /// The key that the operation names; of a scan its lowest.
+    pub fn key(&self) -> Key
+        ensures { result ≡ op_key self.now }
+    {
+        match self {
+            Op::Get { table, key }
+            | Op::Put { table, key, .. }
+            | Op::Add { table, key, .. }
+            | Op::Del { table, key }
+            | Op::Need { table, key, .. }
+            | Op::Guard { table, key } => Key {
+                table: *table,
+                key: *key,
+            },
+            Op::Scan { table, low, .. } => Key {
+                table: *table,
+                key: *low,
+            },
+        }
+    }
+
+    /// The key that the operation reads. A scan reads a range, and has none.
+    pub fn key_read(&self) -> Option<Key>
+        ensures { result ≡ key_read self.now }
+    {
+        match self {
+            Op::Get { .. } | Op::Add { .. } | Op::Need { .. } | Op::Guard { .. } => {
+                Some(self.key())
+            }
+            Op::Put { .. } | Op::Del { .. } | Op::Scan { .. } => None,
+        }
+    }
+
+    /// The key that the operation writes.
+    pub fn key_written(&self) -> Option<Key>
+        ensures { result ≡ key_written self.now }
+    {
+        match self {
+            Op::Put { .. } | Op::Add { .. } | Op::Del { .. } => Some(self.key()),
+            Op::Get { .. } | Op::Need { .. } | Op::Guard { .. } | Op::Scan { .. } => None,
+        }
+    }
+
+    /// The key that the operation guards.
+    pub fn key_guarded(&self) -> Option<Key>
+        ensures { result ≡ key_guarded self.now }
+    {
+        match self {
+            Op::Guard { .. } => Some(self.key()),
+            _ => None,
+        }
+    }
+
+    /// The key that the operation writes or guards, which so needs a position.
+    pub fn key_claimed(&self) -> Option<Key>
+        ensures { result ≡ key_claimed self.now }
+    {
+        self.key_written().or(self.key_guarded())
+    }
 }
 
 /// How often a transaction is tried at the most, and whether old versions are moved away afterwards.

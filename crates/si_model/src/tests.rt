@@ -192,7 +192,8 @@ fn all_operations_are_done(rt: HostRuntime) -> Result<(), AllocError> {
     let text = evaluated(rt.alloc(), &[1, 2], &all_operations(), &rows)?;
     assert_eq!(rt;
         text.as_str(),
-        "reads 0 0 105, 0 0 105, 1 5 -, 0 0 112, 1 0 1 2, 0 1 7, 0 0 112, 0 1 7, writes 0 1 8, 0 0 112, 1 5 0 9, 0 3 -, guards 1 0,"
+        "reads 0 0 105, 0 0 105, 1 5 -, 0 0 112, 1 0 1 2, 0 1 7, 0 0 112, 0 1 7, \
+         writes 0 1 8, 0 0 112, 1 5 0 9, 0 3 -, guards 1 0,"
     );
     Ok(())
 }

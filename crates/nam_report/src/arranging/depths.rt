@@ -1,9 +1,10 @@
 //! The depths of commits, found round by round.
 
-ghost use Rattle.std.specs.Prelude.{◌≡◌, ◌<◌, ◌+◌, ◌^◌, max, suc, false, length, map, if◌then◌else◌, OnOk, IfOk, All};
+ghost use Rattle.std.specs.Prelude.{◌≡◌, ◌<◌, ◌+◌, ◌^◌, max, false, length, map, if◌then◌else◌, OnOk, IfOk, All};
 ghost use Rattle.std.specs.List.{AllByRecursion};
 ghost use Rattle.nam_report.specs.declared.arranging.placed.LevelKey.{LevelKey};
-ghost use Rattle.nam_report.specs.Depths.{at_depth, flat, same_level_key, reach_in, has_guard, reach, deepest, deepened, AreSettled, AreAcyclic};
+ghost use Rattle.nam_report.specs.Depths.{at_depth, flat, same_level_key, reach_in, has_guard, reach, deepest};
+ghost use Rattle.nam_report.specs.Depths.{with_next_depths, AreSettled, AreAcyclic};
 
 use crate::arranging::placed::{LevelKey, Placed};
 use si_model::{Item, Key};
@@ -14,15 +15,13 @@ use std::collections::BTreeMap;
 fn reach_at(reached: &BTreeMap<LevelKey, u64>, key: LevelKey) -> u64
     ensures { result ≡ reach_in reached.now key }
 {
-    match reached.get(&key) {
-        Some(reach) => *reach,
-        None => 0,
-    }
+    reached.get(&key).copied().unwrap_or(0)
 }
 
 /// Raises what is said of a key at a level.
 fn raise(reached: &mut BTreeMap<LevelKey, u64>, key: LevelKey, reach: u64) -> Result<(), AllocError>
-    ensures { OnOk result ((k : LevelKey) → reach_in reached.new k ≡ max (if same_level_key key k then reach else 0) (reach_in reached.old k)) }
+    ensures { OnOk result ((k : LevelKey) →
+        reach_in reached.new k ≡ max (if same_level_key key k then reach else 0) (reach_in reached.old k)) }
 {
     if reach_at(reached, key) < reach {
         reached.insert(key, reach)?;
@@ -37,7 +36,8 @@ fn raise_guards(
     guards: &[Key],
     reach: u64,
 ) -> Result<(), AllocError>
-    ensures { OnOk result ((k : LevelKey) → reach_in reached.new k ≡ max (if has_guard level guards.now k then reach else 0) (reach_in reached.old k)) }
+    ensures { OnOk result ((k : LevelKey) →
+        reach_in reached.new k ≡ max (if has_guard level guards.now k then reach else 0) (reach_in reached.old k)) }
 {
     for guard in guards {
         raise(reached, LevelKey { level, key: *guard }, reach)?;
@@ -68,10 +68,7 @@ fn deepest(reached: &BTreeMap<LevelKey, u64>, level: u64, writes: &[Item]) -> u6
 {
     let mut depth: u64 = 0;
     for item in writes {
-        let key = Key {
-            table: item.table,
-            key: item.key,
-        };
+        let key = item.key();
         depth = depth.max(reach_at(reached, LevelKey { level, key }));
     }
     depth
@@ -103,7 +100,7 @@ fn deepen_each(placed: &mut [Placed], reached: &BTreeMap<LevelKey, u64>) -> bool
 /// One round: the commits get the depths that follow from those that they have. Says whether any is another.
 fn deepen_all(alloc: Global, placed: &mut Vec<Placed>) -> Result<bool, AllocError>
     requires { All (λ p. p.depth + 1 < 2 ^ 64) placed.old.items }
-    ensures after { OnOk result (placed.new.items ≡ deepened placed.old.items) }
+    ensures after { OnOk result (placed.new.items ≡ with_next_depths placed.old.items) }
     ensures same { IfOk result (λ changed. changed ≡ false → placed.new.items ≡ placed.old.items) }
 {
     let reached = reached_by(alloc, placed.as_slice())?;

@@ -5,33 +5,8 @@ ghost use Rattle.std.specs.List.{AllByRecursion};
 ghost use Rattle.si_model.specs.Tells.{total, writes_in, CountsFit};
 ghost use Rattle.nam_report.specs.Lines.{line_at, lines_from, lines_by};
 
-use lists::List;
-use si_model::{CommitLine, Event, Item, Items, Log, Outcome};
+use si_model::{CommitLine, Event, Item, Log, Outcome, copy_items};
 use std::alloc::{AllocError, Global};
-
-fn copied(alloc: Global, items: &[Item]) -> Result<Items, AllocError>
-    ensures { IfOk result (λ copy. copy ≡ items.now) }
-{
-    let mut copy = List::new(alloc);
-    for item in items {
-        copy.push(Item {
-            table: item.table,
-            key: item.key,
-            value: item.value.as_ref().map(|value| value.copy()),
-        })?;
-    }
-    Ok(copy)
-}
-
-/// How many writes the event owns.
-fn writes_of(event: &Event) -> usize
-    ensures { result ≡ writes_in event.now }
-{
-    match event {
-        Event::Tried(attempt) => attempt.writes as usize,
-        _ => 0,
-    }
-}
 
 /// Appends the entry of an event that is a commit, with a copy of the writes that it owns.
 fn add_line(
@@ -51,7 +26,7 @@ fn add_line(
                     number: *number,
                     prefix,
                     txn: attempt.txn,
-                    writes: copied(alloc, writes)?,
+                    writes: copy_items(alloc, writes)?,
                 })?;
             }
         }
@@ -72,7 +47,7 @@ fn add_lines(
 {
     let mut at = 0;
     for event in events {
-        let end = at + writes_of(event);
+        let end = at + event.writes() as usize;
         add_line(alloc, lines, worker, event, &writes[at..end])?;
         at = end;
     }

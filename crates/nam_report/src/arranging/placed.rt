@@ -1,15 +1,14 @@
 //! Commits with what places them in the order of a history.
 
-ghost use Rattle.std.specs.Prelude.{◌≡◌, ◌≤◌, length, map, IfOk};
+ghost use Rattle.std.specs.Prelude.{◌≡◌, length, map, IfOk};
 ghost use Rattle.std.specs.List.{AllByRecursion};
 ghost use Rattle.si_model.specs.Arranged.{level_from};
-ghost use Rattle.nam_report.specs.Lines.{shown, AreChained};
+ghost use Rattle.nam_report.specs.Lines.{referents, AreChained};
 ghost use Rattle.nam_report.specs.Depths.{HasJob, placed_with};
 
-use crate::arranging::guards::guards_of;
 use crate::arranging::levels::level_by;
 use lists::List;
-use si_model::{CommitLine, Key, Op, Snapshot};
+use si_model::{CommitLine, Key, Op, Snapshot, guard_keys};
 use std::alloc::{AllocError, Global};
 
 /// A commit, with its level and depth and the keys that it guards.
@@ -37,12 +36,14 @@ fn place(
     start: u64,
     top: u64,
 ) -> Result<Placed, AllocError>
-    requires chain { AreChained start top (shown snapshots.now) }
+    requires chain { AreChained start top (referents snapshots.now) }
     requires job { HasJob (length jobs.now) line }
-    ensures { IfOk result (λ placed. placed ≡ placed_with (level_from start top (shown snapshots.now)) (map (λ job. job.items) jobs.now) line) }
+    ensures { IfOk result (λ placed.
+        let level = level_from start top (referents snapshots.now) in
+        placed ≡ placed_with level (map (λ job. job.items) jobs.now) line) }
 {
     let level = level_by(snapshots, start, top, line.worker, line.number);
-    let guards = guards_of(alloc, jobs[line.txn as usize - 1].as_slice())?;
+    let guards = guard_keys(alloc, jobs[line.txn as usize - 1].as_slice())?;
     Ok(Placed {
         level,
         depth: 0,
@@ -60,9 +61,11 @@ pub fn place_all(
     start: u64,
     top: u64,
 ) -> Result<Vec<Placed>, AllocError>
-    requires chain { AreChained start top (shown snapshots.now) }
+    requires chain { AreChained start top (referents snapshots.now) }
     requires jobs { AllByRecursion (HasJob (length jobs.now)) lines.items }
-    ensures { IfOk result (λ placed. placed.items ≡ map (placed_with (level_from start top (shown snapshots.now)) (map (λ job. job.items) jobs.now)) lines.items) }
+    ensures { IfOk result (λ placed.
+        let level = level_from start top (referents snapshots.now) in
+        placed.items ≡ map (placed_with level (map (λ job. job.items) jobs.now)) lines.items) }
 {
     let mut placed = Vec::new(alloc);
     for line in lines {

@@ -3,4 +3,5 @@ use Rattle.nam_catalog.specs.Limits.{first_twice_named}
 use Rattle.nam_catalog.proofs.names.first_twice_named.Given as goal
 
 abbrev pub invariant-loop-place : goal.invariant-loop-place
-invariant-loop-place l = first_twice_named (take l.place l.tables) l.place (drop l.place l.tables) ≡ first_twice_named [] 0 l.tables
+invariant-loop-place l =
+    first_twice_named (take l.place l.tables) l.place (drop l.place l.tables) ≡ first_twice_named [] 0 l.tables

@@ -1,5 +1,5 @@
 use Rattle.std.proofs.Common.{◌≤◌, length}
-use Rattle.nam_io.specs.Told.{AppendsBefore}
+use Rattle.nam_io.specs.Fronts.{AppendsBefore}
 use Rattle.nam_io.proofs.writing.write_all.Given as goal
 
 -- what stands before the rest went out

@@ -6,7 +6,8 @@ pub returns-clause-field : goal.returns-clause-field
 returns-clause-field c = found_there
 
 pub returns-clause-address : goal.returns-clause-address
-returns-clause-address c = λ shape at within. let there = stands_there shape at within in (there.field, there.address_is)
+returns-clause-address c =
+    λ shape at within. let there = stands_there shape at within in (there.field, there.address_is)
 
 pub returns-clause-distinct : goal.returns-clause-distinct
 returns-clause-distinct c = are_one

@@ -5,4 +5,6 @@ use Rattle.nam_report.proofs.item.push_items.Given as goal
 
 -- the items from here on are still to come
 abbrev pub invariant-loop-item : goal.invariant-loop-item
-invariant-loop-item l = string_bytes l.out ++ items_text l.tables l.letter (drop l.item-index l.items) ≡ string_bytes l.initial.out ++ items_text l.tables l.letter l.items
+invariant-loop-item l =
+    string_bytes l.out ++ items_text l.tables l.letter (drop l.item-index l.items) ≡ string_bytes l.initial.out ++
+    items_text l.tables l.letter l.items

@@ -7,4 +7,5 @@ use Rattle.nam_report.proofs.tests_arrange.guard_order.Goals as goal
 pub order_of-requires : goal.order_of-requires
 order_of-requires c =
     ready_at guard_jobs guard_logs guard_ready c.as_slice.result.now c.as_slice-2.result.now
-    (ap (map (λ (job : Vec Op Global). job.items)) c.as_slice.ensures.value ∙ c.in_ok-jobs.ensures) (c.as_slice-2.ensures.value ∙ c.in_ok-logs.ensures)
+    (ap (map (λ (job : Vec Op Global). job.items)) c.as_slice.ensures.value ∙ c.in_ok-jobs.ensures)
+    (c.as_slice-2.ensures.value ∙ c.in_ok-logs.ensures)

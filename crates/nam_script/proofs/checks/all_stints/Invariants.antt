@@ -5,4 +5,6 @@ use Rattle.nam_script.proofs.checks.all_stints.Given as goal
 
 -- the stints from here on are still to be tried
 abbrev pub invariant-loop-place : goal.invariant-loop-place
-invariant-loop-place l = (after_stints l.stints (all_stints l.workers (drop l.place l.spelt)) ≡ all_stints l.workers l.fn.spelt) × (length l.stints ≡ l.place)
+invariant-loop-place l =
+    (after_stints l.stints (all_stints l.workers (drop l.place l.spelt)) ≡ all_stints l.workers l.fn.spelt) ×
+    (length l.stints ≡ l.place)

@@ -4,10 +4,14 @@ use Rattle.nam_script.proofs.ReadAll.{one_more, ill_spelt, too_many, at_end}
 use Rattle.nam_script.proofs.parts.stints_at.Goals as goal
 
 pub returns-in_err-stint : goal.returns-in_err-stint
-returns-in_err-stint c = rw c.from_residual.ensures (sym (ill_spelt _ _ _ _ _ _ _ c.loop-field.invariant c.in-Some.ensures (sym c.in_err-stint.ensures)))
+returns-in_err-stint c =
+    rw c.from_residual.ensures
+    (sym (ill_spelt _ _ _ _ _ _ _ c.loop-field.invariant c.in-Some.ensures (sym c.in_err-stint.ensures)))
 
 pub loop-field-preserved : goal.loop-field-preserved
-loop-field-preserved c = rw c.push.ensures (one_more _ _ _ _ _ _ _ _ c.loop-field.invariant c.in-Some.ensures (sym c.in_ok-stint.ensures) (λ e. c.if-len-eq64.false (c.len.ensures.value ∙ e)))
+loop-field-preserved c =
+    rw c.push.ensures (one_more _ _ _ _ _ _ _ _ c.loop-field.invariant c.in-Some.ensures (sym c.in_ok-stint.ensures)
+    (λ e. c.if-len-eq64.false (c.len.ensures.value ∙ e)))
 
 pub returns-then-len-eq0 : goal.returns-then-len-eq0
 returns-then-len-eq0 c =
@@ -16,8 +20,10 @@ returns-then-len-eq0 c =
 
 pub returns-else-len-eq0 : goal.returns-else-len-eq0
 returns-else-len-eq0 c =
-    let some : eqb (length c.loop-field.stints) 0 ≡ false = ne_eqb _ _ (λ e. c.if-len-eq0.false (c.len-2.ensures.value ∙ e)) in
+    let some : eqb (length c.loop-field.stints) 0 ≡ false = ne_eqb _ _
+    (λ e. c.if-len-eq0.false (c.len-2.ensures.value ∙ e)) in
     sym (at_end _ _ _ _ _ c.loop-field.invariant c.in_default.ensures.0 ∙ rw some refl)
 
 pub returns-then-len-eq64 : goal.returns-then-len-eq64
-returns-then-len-eq64 c = sym (too_many _ _ _ _ _ _ _ c.loop-field.invariant c.in-Some.ensures (sym c.len.ensures.value ∙ c.if-len-eq64.true))
+returns-then-len-eq64 c =
+    sym (too_many _ _ _ _ _ _ _ c.loop-field.invariant c.in-Some.ensures (sym c.len.ensures.value ∙ c.if-len-eq64.true))

@@ -1,11 +1,11 @@
 use Rattle.std.proofs.Common.{length}
-use Rattle.nam_script.specs.Lines.{stint}
+use Rattle.nam_script.specs.Lines.{stint_of}
 use Rattle.nam_script.proofs.ReadAll.{IsPart}
 use Rattle.nam_script.proofs.parts.stints_at.Given as goal
 
 -- what was read so far
 abbrev pub invariant-loop-field : goal.invariant-loop-field
-invariant-loop-field l = IsPart 64 stint l.fn.fields l.stints l.fields
+invariant-loop-field l = IsPart 64 stint_of l.fn.fields l.stints l.fields
 
 abbrev pub decreases-loop-field : goal.decreases-loop-field
 decreases-loop-field l = length l.fields

@@ -1,4 +1,3 @@
-use Rattle.std.proofs.Common.{◌≡◌}
 use Rattle.nam_text.proofs.Tokens.{utf8_from_name}
 use Rattle.nam_text.proofs.reading.name_of.Goals as goal
 

@@ -23,4 +23,5 @@ returns c =
     ∙ ap (λ a. filter (range_contains key_cmp (Included a) (Included c.new.result.end)) keys) c.new.ensures.start
     ∙ ap (λ b. filter (range_contains key_cmp (Included first) (Included b)) keys) c.new.ensures.end
     ∙ range_is keys first c.args.high in
-    sym (append-nil c.loop-key.named.items) ∙ ap (λ ks. c.loop-key.named.items ++ rows_at rows ks) (sym left) ∙ c.loop-key.invariant ∙ ap (λ ks. c.args.named.now.items ++ rows_at rows ks) between
+    sym (append-nil c.loop-key.named.items) ∙ ap (λ ks. c.loop-key.named.items ++ rows_at rows ks) (sym left)
+    ∙ c.loop-key.invariant ∙ ap (λ ks. c.args.named.now.items ++ rows_at rows ks) between

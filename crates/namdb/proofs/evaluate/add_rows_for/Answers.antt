@@ -9,4 +9,6 @@ returns-then-high-low c =
     let rows = rows_held c.args.rows.now in
     let keys = c.args.keys.now.keys in
     sym (append-nil c.args.named.now.items)
-    ∙ ap (λ ks. c.args.named.now.items ++ rows_at rows ks) (sym (ap (keys_for keys) c.in-Scan.is ∙ backward keys c.in-Scan.table c.in-Scan.low c.in-Scan.high c.if-high-low.true))
+    ∙ ap (λ ks. c.args.named.now.items ++ rows_at rows ks)
+    (sym (ap (keys_for keys) c.in-Scan.is ∙ backward keys c.in-Scan.table c.in-Scan.low c.in-Scan.high
+    c.if-high-low.true))

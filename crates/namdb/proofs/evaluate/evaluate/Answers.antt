@@ -18,10 +18,13 @@ returns c =
     let ops = c.args.ops.now in
     let widths = c.args.widths.now in
     let rows = rows_held c.args.rows.now in
-    let same = ap (λ items. evaluation_of widths (rows_of items) ops) named ∙ evaluation_named c.args.keys.now.keys rows c.requires.keys widths ops in
+    let same = ap (λ items. evaluation_of widths (rows_of items) ops) named
+    ∙ evaluation_named c.args.keys.now.keys rows c.requires.keys widths ops in
     let value = subst (λ z. IfOk c.eval.result (λ e. e ≡ z)) same c.eval.ensures in
     record {
       value = value;
-      few_reads = if_same c.eval.result (evaluation_of widths rows ops) (λ e. length (reads_of e) < 2 ^ 32) c.requires.few value;
-      few_keys = if_same c.eval.result (evaluation_of widths rows ops) (λ e. claims_of e ≤ length ops) (claims_few widths rows ops) value;
+      few_reads = if_same c.eval.result (evaluation_of widths rows ops) (λ e. length (reads_of e) < 2 ^ 32)
+          c.requires.few value;
+      few_keys = if_same c.eval.result (evaluation_of widths rows ops) (λ e. claims_of e ≤ length ops)
+          (claims_few widths rows ops) value;
     }

@@ -2,7 +2,8 @@ use Rattle.std.proofs.Common.{refl, ap, ◌∙◌}
 use Rattle.std.specs.Prelude.{◌||◌, map}
 use Rattle.si_model.specs.Rows.{row_key}
 use Rattle.nam_catalog.specs.Tables.{widths_of}
-use Rattle.namdb.specs.NamedRows.{has_key, txns_name}
+use Rattle.si_model.specs.Rows.{has_key}
+use Rattle.namdb.specs.NamedRows.{txns_name}
 use Rattle.namdb.proofs.NamedLemmas.{script_named}
 use Rattle.namdb.proofs.serial.plan_of.Goals as goal
 

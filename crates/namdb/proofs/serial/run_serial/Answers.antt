@@ -9,7 +9,7 @@ use Rattle.si_model.specs.Run.{IsRun}
 use Rattle.nam_script.specs.declared.script.Script.{Script}
 use Rattle.nam_report.specs.Fits.{FitsScript}
 use Rattle.namdb.specs.declared.store.Store.{Store}
-use Rattle.namdb.specs.ScriptSetting.{setting_of}
+use Rattle.nam_script.specs.ScriptSetting.{setting_of}
 use Rattle.namdb.specs.Store.{IsStore}
 use Rattle.namdb.specs.Serial.{end_after, logs_after}
 use Rattle.namdb.proofs.StoreLemmas.{store_open}
@@ -27,12 +27,17 @@ run_workers-requires-clause-few c = reads_few c.args.script.now c.requires
 
 pub run_workers-requires-clause-store : goal.run_workers-requires-clause-store
 run_workers-requires-clause-store c =
-    store_open (setting_of c.args.script.now) c.in_ok-store.store (in_range c.args.script.now c.requires).start c.in_ok-store.ensures.history c.in_ok-store.ensures.vector
-    (λ key. c.in_ok-store.ensures.rows key ∙ ap (λ rows. rows_of rows key) c.as_slice.ensures) c.in_ok-store.ensures.stamps
+    store_open (setting_of c.args.script.now) c.in_ok-store.store (in_range c.args.script.now c.requires).start
+    c.in_ok-store.ensures.history c.in_ok-store.ensures.vector
+    (λ key. c.in_ok-store.ensures.rows key ∙ ap (λ rows. rows_of rows key) c.as_slice.ensures)
+    c.in_ok-store.ensures.stamps
 
 -- the rows that were listed are the final state
-final_rows : (script : Script) (store : Store) (r : Report) → IsStore (setting_of script) store → r.history ≡ store.history → (rows : List Row) → ListsRows rows (rows_held store.rows) → ListsRows rows (state_at (rows_of script.rows) r.history)
-final_rows script store r is history rows lists = subst (ListsRows rows) (held (setting_of script) store is ∙ ap (state_at (rows_of script.rows)) (sym history)) lists
+final_rows : (script : Script) (store : Store) (r : Report) → IsStore (setting_of script) store
+    → r.history ≡ store.history → (rows : List Row) → ListsRows rows (rows_held store.rows)
+    → ListsRows rows (state_at (rows_of script.rows) r.history)
+final_rows script store r is history rows lists =
+    subst (ListsRows rows) (held (setting_of script) store is ∙ ap (state_at (rows_of script.rows)) (sym history)) lists
 
 -- there are as many owners as transactions
 owners_length : (script : Script) → length (setting_of script).owners ≡ length (setting_of script).jobs
@@ -48,7 +53,8 @@ returns-clause-run c =
     (λ r h l a.
     let history = h ∙ c.in_ok-logs.ensures.history ∙ ap (λ z. end_after s 1 z s.workers) none in
     let logs = l ∙ c.in_ok-logs.ensures.logs ∙ ap (λ z. logs_after s 1 z s.workers) none in
-    serial_is_run s r a.0 (owners_length script) history logs a.1 (final_rows script store r c.in_ok-logs.ensures.store h a.0 a.2))
+    serial_is_run s r a.0 (owners_length script) history logs a.1
+    (final_rows script store r c.in_ok-logs.ensures.store h a.0 a.2))
     c.close.ensures.history c.close.ensures.logs c.close.ensures.audit
 
 pub returns-clause-fits : goal.returns-clause-fits
@@ -61,5 +67,6 @@ returns-clause-fits c =
     (λ r h l a.
     let history = h ∙ c.in_ok-logs.ensures.history ∙ ap (λ z. end_after s 1 z s.workers) none in
     let logs = l ∙ c.in_ok-logs.ensures.logs ∙ ap (λ z. logs_after s 1 z s.workers) none in
-    serial_fits script r a.0 (in_range c.args.script.now c.requires) history logs a.1 (final_rows script store r c.in_ok-logs.ensures.store h a.0 a.2))
+    serial_fits script r a.0 (in_range c.args.script.now c.requires) history logs a.1
+    (final_rows script store r c.in_ok-logs.ensures.store h a.0 a.2))
     c.close.ensures.history c.close.ensures.logs c.close.ensures.audit

@@ -1,5 +1,5 @@
 use Rattle.std.proofs.Common.{◌≡◌, ◌+◌, ◌-◌, suc, ◌∙◌, arith}
-use Rattle.namdb.specs.ScriptSetting.{setting_of}
+use Rattle.nam_script.specs.ScriptSetting.{setting_of}
 use Rattle.namdb.proofs.ServeLemmas.{end_next, logs_next}
 use Rattle.namdb.proofs.serial.run_workers.Goals as goal
 
@@ -15,5 +15,6 @@ loop-before-preserved c =
     record {
       store = c.in_ok-log.ensures.store;
       history = end_next s b history next m n left c.in_ok-log.ensures.history ∙ c.loop-before.invariant.history;
-      logs = logs_next s b history next m n c.loop-before.logs c.push.new.self c.in_ok-log.log left c.in_ok-log.ensures.history c.in_ok-log.ensures.log c.in_ok-push.ensures.ok ∙ c.loop-before.invariant.logs;
+      logs = logs_next s b history next m n c.loop-before.logs c.push.new.self c.in_ok-log.log left
+          c.in_ok-log.ensures.history c.in_ok-log.ensures.log c.in_ok-push.ensures.ok ∙ c.loop-before.invariant.logs;
     }

@@ -7,4 +7,6 @@ use Rattle.namdb.proofs.stamps.note.Given as goal
 
 -- what is noted so far, and the writes to come
 abbrev pub invariant-loop-item : goal.invariant-loop-item
-invariant-loop-item l = (key : Key) → (if writes_key (drop l.item-index l.writes) key then l.stamp else stamp_held l.stamps key) ≡ (if writes_key l.writes key then l.stamp else stamp_held l.initial.stamps key)
+invariant-loop-item l =
+    (key : Key) → (if writes_key (drop l.item-index l.writes) key then l.stamp else stamp_held l.stamps key)
+    ≡ (if writes_key l.writes key then l.stamp else stamp_held l.initial.stamps key)

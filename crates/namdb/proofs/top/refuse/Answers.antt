@@ -12,4 +12,6 @@ pub returns-in-TooLong-clause-line : goal.returns-in-TooLong-clause-line
 returns-in-TooLong-clause-line g c = rw (ap line_of c.in-TooLong.is) (λ _. inl c.end_with-in-TooLong.ensures)
 
 pub returns-in-Ok-clause-line : goal.returns-in-Ok-clause-line
-returns-in-Ok-clause-line g c = rw (ap line_of c.in-BadScript.is, ← c.in-Ok.ensures, ← c.as_bytes.ensures.value, c.in-BadScript.is) (λ _. inl c.end_with-in-Ok.ensures)
+returns-in-Ok-clause-line g c =
+    rw (ap line_of c.in-BadScript.is, ← c.in-Ok.ensures, ← c.as_bytes.ensures.value, c.in-BadScript.is)
+    (λ _. inl c.end_with-in-Ok.ensures)

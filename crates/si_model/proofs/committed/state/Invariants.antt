@@ -6,4 +6,5 @@ use Rattle.si_model.proofs.committed.state.Given as goal
 
 -- the entries from here on give what all give
 abbrev pub invariant-loop-line : goal.invariant-loop-line
-invariant-loop-line l = state_at (held_at l.held) (drop l.line-index (take l.p l.history)) ≡ state_at (rows_of l.rows) (take l.p l.history)
+invariant-loop-line l = state_at (held_at l.held) (drop l.line-index (take l.p l.history))
+    ≡ state_at (rows_of l.rows) (take l.p l.history)

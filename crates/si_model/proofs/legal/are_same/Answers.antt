@@ -5,4 +5,5 @@ use Rattle.si_model.proofs.ItemLemmas.{item_eq-Decides}
 use Rattle.si_model.proofs.legal.are_same.Goals as goal
 
 pub returns : goal.returns
-returns c = slice_eq-Decides (item_eq-Decides _ (λ x y. slice_eq-Decides Decides-eqb x y _ refl)) c.args.a.now c.args.b.now c.eq.result c.eq.ensures
+returns c = slice_eq-Decides (item_eq-Decides _ (λ x y. slice_eq-Decides Decides-eqb x y _ refl)) c.args.a.now
+    c.args.b.now c.eq.result c.eq.ensures

@@ -10,9 +10,11 @@ abbrev pub invariant-loop-place : goal.invariant-loop-place
 invariant-loop-place l = record {
   written : AllByRecursion (λ e. AllByRecursion (IsWide l.widths) e.writes) (take l.place l.history);
   on :
-      IsLegalAfter l.widths (rows_of l.rows) (map (λ job. job.items) l.jobs) (take l.place l.history) (drop l.place l.history)
+      IsLegalAfter l.widths (rows_of l.rows) (map (λ job. job.items) l.jobs) (take l.place l.history)
+      (drop l.place l.history)
       → IsLegal l.fn.widths (rows_of l.fn.rows) (map (λ job. job.items) l.fn.jobs) l.fn.history;
   back :
       IsLegal l.fn.widths (rows_of l.fn.rows) (map (λ job. job.items) l.fn.jobs) l.fn.history
-      → IsLegalAfter l.widths (rows_of l.rows) (map (λ job. job.items) l.jobs) (take l.place l.history) (drop l.place l.history);
+      → IsLegalAfter l.widths (rows_of l.rows) (map (λ job. job.items) l.jobs) (take l.place l.history)
+      (drop l.place l.history);
 }

@@ -8,5 +8,7 @@ use Rattle.si_model.proofs.lookup.add_row_keys.Given as goal
 -- with the keys of the rows from here on, all are there
 abbrev pub invariant-loop-row : goal.invariant-loop-row
 invariant-loop-row l =
-    (key : ℕ) → contains nat_cmp l.keys key || nat_le l.low key && nat_le key l.high && is_some (rows_of (drop l.row-index l.rows) (key_at l.table key))
-    ≡ contains nat_cmp l.fn.keys key || nat_le l.low key && nat_le key l.high && is_some (rows_of l.rows (key_at l.table key))
+    (key : ℕ) → contains nat_cmp l.keys key || nat_le l.low key && nat_le key l.high
+    && is_some (rows_of (drop l.row-index l.rows) (key_at l.table key))
+    ≡ contains nat_cmp l.fn.keys key || nat_le l.low key && nat_le key l.high
+    && is_some (rows_of l.rows (key_at l.table key))

@@ -38,5 +38,7 @@ returns-clause-fits c =
     let shape = c.self.inside.shape in
     let is : IsPosition shape.tables c.args.table c.args.position = rw (← c.self.view_is) at c.requires in
     let row = position_is_row shape.tables c.args.table c.args.position is in
-    subst FitsPlace (sym (c.place_in.ensures ∙ place_is _ _ _ _ _ c.self.invariant c.args.table c.args.position c.at.result.now is c.at.ensures))
+    subst FitsPlace
+    (sym (c.place_in.ensures
+    ∙ place_is _ _ _ _ _ c.self.invariant c.args.table c.args.position c.at.result.now is c.at.ensures))
     (place_within_limits shape (row_of shape.tables c.args.table c.args.position) c.self.invariant.fits row.within)

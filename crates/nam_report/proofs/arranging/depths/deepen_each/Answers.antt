@@ -20,11 +20,15 @@ loop-commit-preserved c =
     let done : now ≡ mapped_front f i xs = c.loop-commit.invariant.done in
     let new : c.deepen-changed.new.commit ≡ f (get_or now i d) = c.deepen-changed.ensures.after in
     record {
-      done = ap (set now i) new ∙ ap (λ ys. set ys i (f (get_or ys i d))) done ∙ front_more f xs i d c.loop-commit-test.true;
+      done = ap (set now i) new ∙ ap (λ ys. set ys i (f (get_or ys i d))) done
+          ∙ front_more f xs i d c.loop-commit-test.true;
       same = λ none.
           let both = neither c.loop-commit.changed c.deepen-changed.result none in
-          ap (set now i) (c.deepen-changed.ensures.same both.1) ∙ set-get_or now i d ∙ c.loop-commit.invariant.same both.0;
+          ap (set now i) (c.deepen-changed.ensures.same both.1) ∙ set-get_or now i d
+          ∙ c.loop-commit.invariant.same both.0;
     }
 
 pub returns-clause-after : goal.returns-clause-after
-returns-clause-after c = c.loop-commit.invariant.done ∙ front_all (λ (p : Placed). at_depth (deepest (reach_in c.args.reached.now) p.level p.line.writes) p) c.args.placed.now c.loop-commit.commit-index (omega arith)
+returns-clause-after c = c.loop-commit.invariant.done
+    ∙ front_all (λ (p : Placed). at_depth (deepest (reach_in c.args.reached.now) p.level p.line.writes) p)
+    c.args.placed.now c.loop-commit.commit-index (omega arith)

@@ -5,6 +5,7 @@ use Rattle.nam_report.proofs.arranging.depths.deepen_each.Given as goal
 
 abbrev pub invariant-loop-commit : goal.invariant-loop-commit
 invariant-loop-commit l = record {
-  done : l.placed ≡ mapped_front (λ p. at_depth (deepest (reach_in l.reached) p.level p.line.writes) p) l.commit-index l.fn.placed;
+  done : l.placed ≡ mapped_front (λ p. at_depth (deepest (reach_in l.reached) p.level p.line.writes) p) l.commit-index
+      l.fn.placed;
   same : l.changed ≡ false → l.placed ≡ l.fn.placed;
 }

@@ -6,4 +6,5 @@ use Rattle.nam_report.proofs.arranging.depths.reached_by.Given as goal
 
 -- with the commits from here on, all are counted
 abbrev pub invariant-loop-commit : goal.invariant-loop-commit
-invariant-loop-commit l = (k : LevelKey) → max (reach (drop l.commit-index l.placed) k) (reach_in l.reached k) ≡ reach l.placed k
+invariant-loop-commit l = (k : LevelKey)
+    → max (reach (drop l.commit-index l.placed) k) (reach_in l.reached k) ≡ reach l.placed k

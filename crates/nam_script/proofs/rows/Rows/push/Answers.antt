@@ -2,7 +2,10 @@ use Rattle.std.proofs.Common.{ℕ, length, List, Bool, true, cond, sym, ap, ◌�
 use Rattle.std.specs.Ordering.{is_eq}
 use Rattle.std.specs.Prelude.{slice_index}
 use Rattle.si_model.specs.declared.row.Row.{Row}
-use Rattle.nam_script.specs.Keys.{key_cmp}
+use Rattle.std.specs.BTreeSet.{contains}
+use Rattle.si_model.specs.declared.row.Key.{Key}
+use Rattle.si_model.specs.Rows.{key_at}
+use Rattle.si_model.specs.Held.{key_cmp}
 use Rattle.nam_script.specs.Checks.{is_given, rows_in}
 use Rattle.nam_script.proofs.LoadedRows.{given_push, set_length, counts_push}
 use Rattle.nam_script.proofs.rows.Rows.push.Goals as goal
@@ -15,7 +18,13 @@ invariant_of-self-2 c =
     let known = c.self.invariant in
     let now = c.set.ensures in
     let is = sym c.in_ok-push.ensures.items in (
-      λ t k. c.in_default.ensures.updates.0 (t, k) ∙ ap (λ (b : Bool). cond (is_eq (key_cmp (row.table, row.key) (t, k))) true b) (known.0 t k) ∙ sym (given_push old row t k) ∙ ap (λ (rs : List Row). is_given rs t k) is,
+      λ t k. c.in_default.ensures.updates.0 (key_at t k)
+          ∙ ap (λ (q : Key). cond (is_eq (key_cmp q (key_at t k))) true
+          (contains key_cmp c.self.inside.keys (key_at t k))) c.key-key.ensures
+          ∙ ap (λ (b : Bool). cond (is_eq (key_cmp (key_at row.table row.key) (key_at t k))) true b) (known.0 t k)
+          ∙ sym (given_push old row t k) ∙ ap (λ (rs : List Row). is_given rs t k) is,
       ap length now ∙ set_length c.self.inside.counts row.table _ ∙ known.1,
-      λ t lt. ap (λ (xs : List ℕ). slice_index xs t) now ∙ counts_push c.self.inside.counts old row _ known.1 c.requires.table c.at-count.ensures known.2 t lt ∙ ap (λ (rs : List Row). rows_in rs t) is,
+      λ t lt. ap (λ (xs : List ℕ). slice_index xs t) now
+          ∙ counts_push c.self.inside.counts old row _ known.1 c.requires.table c.at-count.ensures known.2 t lt
+          ∙ ap (λ (rs : List Row). rows_in rs t) is,
     )

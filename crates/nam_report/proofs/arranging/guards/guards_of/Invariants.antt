@@ -1,8 +1,0 @@
-use Rattle.std.proofs.Common.{◌≡◌, ◌++◌, drop, not}
-use Rattle.std.specs.Prelude.{filter}
-use Rattle.si_model.specs.Evaluation.{ops_write, guard_keys}
-use Rattle.nam_report.proofs.arranging.guards.guards_of.Given as goal
-
--- with the unwritten keys from here on, all are there
-abbrev pub invariant-loop-guard : goal.invariant-loop-guard
-invariant-loop-guard l = l.unwritten ++ filter (λ key. not (ops_write key l.ops)) (drop l.guard-index l.guard-items) ≡ guard_keys l.ops

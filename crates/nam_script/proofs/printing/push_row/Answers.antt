@@ -1,0 +1,12 @@
+use Rattle.std.proofs.Common.{ap, arith}
+use Rattle.std.proofs.lemmas.Grind.{common_steps}
+use Rattle.nam_text.specs.Kinds.{behind_spaces}
+use Rattle.nam_script.specs.Lines.{spelt_line}
+use Rattle.nam_script.proofs.Wording.{numbers_are}
+use Rattle.nam_script.proofs.printing.push_row.Goals as goal
+
+pub returns : goal.returns
+unfolding spelt_line
+returns c =
+    let words = ap behind_spaces (numbers_are c.args.row.now.value) in
+    grind (arith, common_steps, words)

@@ -1,3 +1,0 @@
-pub mod TakenLemmas
-pub mod ReadingLemmas
-pub mod WritingLemmas

@@ -1,6 +1,0 @@
-use Rattle.std.proofs.Common.{◌≡◌, ◌++◌, drop}
-use Rattle.namdb.proofs.store.copied.Given as goal
-
--- the copies so far, and the items to come
-abbrev pub invariant-loop-item : goal.invariant-loop-item
-invariant-loop-item l = l.copies ++ drop l.item-index l.items ≡ l.items

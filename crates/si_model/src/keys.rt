@@ -1,0 +1,68 @@
+//! The keys that a transaction writes and guards.
+
+ghost use Rattle.std.specs.Prelude.{◌≡◌, [], OnOk, IfOk};
+ghost use Rattle.si_model.specs.Evaluation.{guarded, key_guarded, ops_write, keys_from, guard_keys};
+ghost use Rattle.si_model.specs.History.{keys_of};
+
+use crate::op::Op;
+use crate::row::{Item, Key};
+use lists::List;
+use std::alloc::{AllocError, Global};
+
+/// Notes a key: each stands once, in the order of first notes.
+pub fn note_key(keys: &mut List<Key>, key: Key) -> Result<(), AllocError>
+    ensures { OnOk result (keys.new ≡ guarded keys.old key) }
+{
+    if keys.as_slice().contains(&key) {
+        return Ok(());
+    }
+    keys.push(key)
+}
+
+/// Does one of the operations write the key?
+fn ops_write(ops: &[Op], key: Key) -> bool
+    ensures { result ≡ ops_write key ops.now }
+{
+    ops.iter().any(|op| op.key_written() == Some(key))
+}
+
+/// The keys that the operations guard, also those that they write.
+fn keys_guarded(alloc: Global, ops: &[Op]) -> Result<List<Key>, AllocError>
+    ensures { IfOk result (λ keys. keys ≡ keys_from key_guarded [] ops.now) }
+{
+    let mut keys = List::new(alloc);
+    for op in ops {
+        if let Some(key) = op.key_guarded() {
+            note_key(&mut keys, key)?;
+        }
+    }
+    Ok(keys)
+}
+
+/// The keys that the operations guard and do not write, each once, in the order of first guards.
+pub fn guard_keys(alloc: Global, ops: &[Op]) -> Result<List<Key>, AllocError>
+    ensures { IfOk result (λ keys. keys ≡ guard_keys ops.now) }
+{
+    let guards = keys_guarded(alloc, ops)?;
+    let mut keys = List::new(alloc);
+    for guard in guards.as_slice() {
+        if !ops_write(ops, *guard) {
+            keys.push(*guard)?;
+        }
+    }
+    Ok(keys)
+}
+
+/// The keys that a transaction writes, and then those that it guards.
+pub fn keys_of(alloc: Global, writes: &[Item], guards: &[Key]) -> Result<List<Key>, AllocError>
+    ensures { IfOk result (λ keys. keys ≡ keys_of writes.now guards.now) }
+{
+    let mut keys = List::new(alloc);
+    for item in writes {
+        keys.push(item.key())?;
+    }
+    for key in guards {
+        keys.push(*key)?;
+    }
+    Ok(keys)
+}

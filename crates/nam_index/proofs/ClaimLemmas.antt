@@ -64,12 +64,12 @@ module _ (path : Path) (some : 1 ≤ path.capacity) where
       rw (test, none) refl
 
   taken_goes : (nth word : ℕ) → (word ≡ 0) ⊎ (word ≡ key_word path.key) → after (KeyTake nth) word ≡ there nth
-  taken_goes nth word why = let test : ((word == 0) || (word == key_word path.key)) ≡ true = grind (arith, nat_tests) in rw
-      test refl
+  taken_goes nth word why =
+      let test : ((word == 0) || (word == key_word path.key)) ≡ true = grind (arith, nat_tests) in rw test refl
 
   lost_goes : (nth word : ℕ) → word ≢ 0 → word ≢ key_word path.key → after (KeyTake nth) word ≡ next nth
-  lost_goes nth word not_free other = let test : ((word == 0) || (word == key_word path.key)) ≡ false = grind
-      (arith, nat_tests) in rw test refl
+  lost_goes nth word not_free other =
+      let test : ((word == 0) || (word == key_word path.key)) ≡ false = grind (arith, nat_tests) in rw test refl
 
   -- the end at a position, by what was found there
   there_stops : (nth : ℕ) (done : List (Step Field))
@@ -179,7 +179,8 @@ module _ (path : Path) (some : 1 ≤ path.capacity) where
             (key_goes nth (key_word path.key) refl) refl,
       )
   stopped nth steps (At position) (is_claimed here is) = rw (is, here) (exchange_stops nth 0 (inl refl))
-  stopped nth steps (At position) (was_claimed here is) = rw (is, here) (exchange_stops nth (key_word path.key) (inr refl))
+  stopped nth steps (At position) (was_claimed here is) =
+      rw (is, here) (exchange_stops nth (key_word path.key) (inr refl))
 
   -- position after position
   goes_on : (nth : ℕ) → nth + 1 < path.capacity → next nth ≡ now.At (KeyLook (nth + 1))

@@ -97,7 +97,8 @@ module _ (path : Path) (some : 1 ≤ path.capacity) where
       rw bears.steps_are
       (refl, subst (λ now. EndsFrom now rest end) (sym (other_goes nth bears.word bears.not_free bears.other)) ends)
 
-  stopped : (nth : ℕ) (steps : List (Step Field)) (end : FindEnd) → Stops end nth steps → EndsFrom (now.At nth) steps end
+  stopped : (nth : ℕ) (steps : List (Step Field)) (end : FindEnd) → Stops end nth steps
+      → EndsFrom (now.At nth) steps end
   stopped nth steps (At position) bears =
       rw (bears.steps_are, bears.position_is) (
         refl,

@@ -63,7 +63,8 @@ module _ (shape : Shape) (rows : List ℕ) (are : All (IsRow shape) rows) where
       → Always (λ at. IsAtField shape (lock_verb_by (λ place. place) worker places at) (lock_verb worker places at))
       (lock.running (lock.locking worker places seen))
   locks_at_fields worker seen =
-      holds_always (LockFits (length places)) (LockEnds (length places)) (lock.running (lock.locking worker places seen))
+      holds_always (LockFits (length places)) (LockEnds (length places))
+      (lock.running (lock.locking worker places seen))
       (λ at fits found. word_falls places seen found at fits) _ lock_begins (lock_at_field worker)
 
   -- 2. Writing back

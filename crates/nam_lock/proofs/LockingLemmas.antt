@@ -20,7 +20,8 @@ use Rattle.nam_calls.specs.declared.lock.LockEnd.{LockEnd}
 use Rattle.nam_calls.specs.declared.lock.LockEnd.TheVariants.{Held, Locked, Newer}
 use Rattle.nam_calls.specs.Lock.{lock_verb_by, lock_next, lock_after, loss_of, give_back}
 use Rattle.nam_lock.specs.LockingLaw.{header_of, form_at, IsLocked, IsUnlocked, IsUnseen, IsFree, AreFree}
-use Rattle.nam_lock.specs.LockingLaw.{tried_lock, locks_from, ReadsTaken, LosesExchange, MissesLock, IsLockingOf}
+use Rattle.nam_lock.specs.LockingLaw.{tried_lock, locks_from, ReadsTaken, LosesExchange, GivesBack, MissesLock}
+use Rattle.nam_lock.specs.LockingLaw.{IsLockingOf}
 
 module _ {W : Type 0} (name : Place → W) (worker : ℕ) (places : List Place) (seen : List ℕ) where
   abbrev verb : LockPlace → VerbAt W
@@ -50,6 +51,9 @@ module _ {W : Type 0} (name : Place → W) (worker : ℕ) (places : List Place) 
   abbrev Misses : ℕ → ℕ → List (Step W) → Type 0
   Misses nth found steps =
       ReadsTaken name worker places seen nth found steps ⊎ LosesExchange name worker places seen nth found steps
+
+  abbrev Given : List ℕ → ℕ → ℕ → List (Step W) → Type 0
+  Given = GivesBack name worker places seen
 
   -- where it begins to give back, what it writes then, and how it ends
   abbrev missed_by : List ℕ → ℕ → Now LockPlace LockEnd
@@ -107,21 +111,11 @@ module _ {W : Type 0} (name : Place → W) (worker : ℕ) (places : List Place) 
 
   -- 2. What steps tell of the end
 
-  -- the record after those that were locked was missed, and these were given back
-  record GivenBack (held : List ℕ) (nth found : ℕ) (steps : List (Step W)) : Type 0 where
-    within : nth < length places
-    before : length held ≡ nth
-    last : List (Step W)
-    missed : Misses nth found last
-    back : List (Step W)
-    gives_back : verbs_of back ≡ writes held
-    steps_are : steps ≡ last ++ back
-
   -- the steps after the last lock
   abbrev Finish : List ℕ → List (Step W) → LockEnd → Type 0
   Finish held steps (Held all) = (steps ≡ []) × (all ≡ held) × (length held ≡ length places)
-  Finish held steps (Locked nth found) = GivenBack held nth found steps × IsLocked places nth found
-  Finish held steps (Newer nth found) = GivenBack held nth found steps × IsUnlocked places nth found
+  Finish held steps (Locked nth found) = Given held nth found steps × IsLocked places nth found
+  Finish held steps (Newer nth found) = Given held nth found steps × IsUnlocked places nth found
 
   -- the steps with some locks held
   record From (held : List ℕ) (nth : ℕ) (steps : List (Step W)) (end : LockEnd) : Type 0 where
@@ -137,13 +131,13 @@ module _ {W : Type 0} (name : Place → W) (worker : ℕ) (places : List Place) 
       → Misses (length held) found last → verbs_of back ≡ writes held → Finish held (last ++ back) (loss held found)
   finish_of held found last back within missed written =
       let n = length held in
-      let given : GivenBack held n found (last ++ back) = record {
+      let given : Given held n found (last ++ back) = record {
         within = within;
         before = refl;
         last = last;
         missed = missed;
         back = back;
-        gives_back = written;
+        written = written;
         steps_are = refl;
       } in
       by_test (Finish held (last ++ back)) (is_locked (form_at places n) found) (Locked n found) (Newer n found)
@@ -182,7 +176,8 @@ module _ {W : Type 0} (name : Place → W) (worker : ℕ) (places : List Place) 
   -- what follows from the steps after a lock
   abbrev Continues : List ℕ → Type 0
   Continues held =
-      (rest : List (Step W)) (end : LockEnd) → EndsFrom (lock_next places held) rest end → From held (length held) rest end
+      (rest : List (Step W)) (end : LockEnd) → EndsFrom (lock_next places held) rest end
+      → From held (length held) rest end
 
   from_seize : (held : List ℕ) (header : ℕ) (steps : List (Step W)) (end : LockEnd) → length held < length places
       → Free (length held) header → Continues (held ++ header ∷ []) → EndsFrom (At (Seize held header)) steps end
@@ -205,7 +200,8 @@ module _ {W : Type 0} (name : Place → W) (worker : ℕ) (places : List Place) 
       ends.1
 
   from_peek : (held : List ℕ) → length held < length places → ((header : ℕ) → Continues (held ++ header ∷ []))
-      → (steps : List (Step W)) (end : LockEnd) → EndsFrom (At (Peek held)) steps end → From held (length held) steps end
+      → (steps : List (Step W)) (end : LockEnd) → EndsFrom (At (Peek held)) steps end
+      → From held (length held) steps end
   from_peek held within continues [] end ends = absurd ends
   from_peek held within continues (step ∷ steps) end ends =
       let n = length held in
@@ -231,7 +227,8 @@ module _ {W : Type 0} (name : Place → W) (worker : ℕ) (places : List Place) 
       subst (λ e. From held (length held) [] e) ends
       (record { headers = []; free = tt; later = []; steps_are = refl; finish = finish })
 
-  from_more : (more : ℕ) (held : List ℕ) → length held + suc more ≡ length places → (steps : List (Step W)) (end : LockEnd)
+  from_more : (more : ℕ) (held : List ℕ) → length held + suc more ≡ length places
+      → (steps : List (Step W)) (end : LockEnd)
       → EndsFrom (At (Peek held)) steps end → From held (length held) steps end
   from_more zero held count =
       from_peek held (omega arith) (λ header rest end goes.
@@ -253,7 +250,8 @@ module _ {W : Type 0} (name : Place → W) (worker : ℕ) (places : List Place) 
 
   -- 4. By steps it ends so
 
-  ends_missed : (held : List ℕ) (found : ℕ) (last back : List (Step W)) (end : LockEnd) → Misses (length held) found last
+  ends_missed : (held : List ℕ) (found : ℕ) (last back : List (Step W)) (end : LockEnd)
+      → Misses (length held) found last
       → verbs_of back ≡ writes held → end ≡ loss held found → EndsFrom (At (Peek held)) (last ++ back) end
   ends_missed held found last back end missed written ending =
       let ends = does_verbs verb after (missed_by held found) (writes held) (loss held found) (gives_back held found)
@@ -272,11 +270,11 @@ module _ {W : Type 0} (name : Place → W) (worker : ℕ) (places : List Place) 
             )
       ]
 
-  ends_given : (held : List ℕ) (nth found : ℕ) (steps : List (Step W)) (end : LockEnd) → GivenBack held nth found steps
+  ends_given : (held : List ℕ) (nth found : ℕ) (steps : List (Step W)) (end : LockEnd) → Given held nth found steps
       → end ≡ loss_of (form_at places nth) nth found → EndsFrom (At (Peek held)) steps end
   ends_given held nth found steps end given ending =
       let missed = subst (λ n. Misses n found given.last) (sym given.before) given.missed in
-      rw given.steps_are (ends_missed held found given.last given.back end missed given.gives_back
+      rw given.steps_are (ends_missed held found given.last given.back end missed given.written
       (rw given.before ending))
 
   -- no more are locked than there are
@@ -297,7 +295,8 @@ module _ {W : Type 0} (name : Place → W) (worker : ℕ) (places : List Place) 
   ends_over headers held later (Newer nth found) full finish =
       let given = finish.0 in absurd (omega (arith, given.before, given.within, length-append held headers))
 
-  ends_peek : (held : List ℕ) (later : List (Step W)) (end : LockEnd) → length held < length places → Finish held later end
+  ends_peek : (held : List ℕ) (later : List (Step W)) (end : LockEnd) → length held < length places
+      → Finish held later end
       → EndsFrom (At (Peek held)) later end
   ends_peek held later (Held all) within finish = absurd (omega (arith, finish.2))
   ends_peek held later (Locked nth found) within finish =
@@ -335,22 +334,8 @@ module _ {W : Type 0} (name : Place → W) (worker : ℕ) (places : List Place) 
 
   -- 5. Both
 
-  misses_lock : (nth found : ℕ) (steps : List (Step W)) (headers : List ℕ) (later : List (Step W))
-      → AreFree places seen 0 headers → steps ≡ locks 0 headers ++ later → GivenBack headers nth found later
-      → Missed nth found steps
-  misses_lock nth found steps headers later free steps_are given = record {
-    within = given.within;
-    held = headers;
-    before = given.before;
-    free = free;
-    last = given.last;
-    missed = given.missed;
-    back = given.back;
-    gives_back = given.gives_back;
-    steps_are = steps_are ∙ ap (λ rest. locks 0 headers ++ rest) given.steps_are;
-  }
-
-  law_of : (steps : List (Step W)) (end : LockEnd) (headers : List ℕ) (later : List (Step W)) → AreFree places seen 0 headers
+  law_of : (steps : List (Step W)) (end : LockEnd) (headers : List ℕ) (later : List (Step W))
+      → AreFree places seen 0 headers
       → steps ≡ locks 0 headers ++ later → Finish headers later end → IsLockingOf name worker places seen end steps
   law_of steps (Held held) headers later free steps_are finish =
       let none = finish.0 in
@@ -360,34 +345,27 @@ module _ {W : Type 0} (name : Place → W) (worker : ℕ) (places : List Place) 
         free = rw same free;
         steps_are = steps_are ∙ rw (none, same) (append-nil (locks 0 headers));
       }
-  law_of steps (Locked nth found) headers later free steps_are finish =
-      (misses_lock nth found steps headers later free steps_are finish.0, finish.1)
-  law_of steps (Newer nth found) headers later free steps_are finish =
-      (misses_lock nth found steps headers later free steps_are finish.0, finish.1)
-
-  given_of : (nth found : ℕ) (steps : List (Step W)) (missed : Missed nth found steps)
-      → GivenBack missed.held nth found (missed.last ++ missed.back)
-  given_of nth found steps missed = record {
-    within = missed.within;
-    before = missed.before;
-    last = missed.last;
-    missed = missed.missed;
-    back = missed.back;
-    gives_back = missed.gives_back;
-    steps_are = refl;
-  }
+  law_of steps (Locked nth found) headers later free steps_are finish = (
+    record { held = headers; free = free; rest = later; missed = finish.0; steps_are = steps_are },
+    finish.1,
+  )
+  law_of steps (Newer nth found) headers later free steps_are finish = (
+    record { held = headers; free = free; rest = later; missed = finish.0; steps_are = steps_are },
+    finish.1,
+  )
 
   from_missed : (nth found : ℕ) (steps : List (Step W)) (end : LockEnd) (missed : Missed nth found steps)
-      → Finish missed.held (missed.last ++ missed.back) end → From [] 0 steps end
+      → Finish missed.held missed.rest end → From [] 0 steps end
   from_missed nth found steps end missed finish = record {
     headers = missed.held;
     free = missed.free;
-    later = missed.last ++ missed.back;
+    later = missed.rest;
     steps_are = missed.steps_are;
     finish = finish;
   }
 
-  from_law : (steps : List (Step W)) (end : LockEnd) → IsLockingOf name worker places seen end steps → From [] 0 steps end
+  from_law : (steps : List (Step W)) (end : LockEnd) → IsLockingOf name worker places seen end steps
+      → From [] 0 steps end
   from_law steps (Held held) all = record {
     headers = held;
     free = all.free;
@@ -396,9 +374,9 @@ module _ {W : Type 0} (name : Place → W) (worker : ℕ) (places : List Place) 
     finish = (refl, refl, all.whole);
   }
   from_law steps (Locked nth found) both =
-      from_missed nth found steps (Locked nth found) both.0 (given_of nth found steps both.0, both.1)
+      from_missed nth found steps (Locked nth found) both.0 (both.0.missed, both.1)
   from_law steps (Newer nth found) both =
-      from_missed nth found steps (Newer nth found) both.0 (given_of nth found steps both.0, both.1)
+      from_missed nth found steps (Newer nth found) both.0 (both.0.missed, both.1)
 
   pub locking_ends : (steps : List (Step W)) (end : LockEnd)
       → EndsFrom (lock_next places []) steps end ↔ IsLockingOf name worker places seen end steps

@@ -69,7 +69,8 @@ module _ {W : Type 0} (name : Place → W) (worker : ℕ) (places : List Place) 
   -- the header that was read is locked, or the snapshot doesn't see it
   abbrev pub ReadsTaken : ℕ → ℕ → List (Step W) → Type 0
   ReadsTaken nth found steps =
-      (steps ≡ saw (header_of name places nth) found ∷ []) × (IsLocked places nth found ⊎ IsUnseen places seen nth found)
+      (steps ≡ saw (header_of name places nth) found ∷ [])
+      × (IsLocked places nth found ⊎ IsUnseen places seen nth found)
 
   -- the record was free, but the exchange found another word than the read
   pub record LosesExchange (nth found : ℕ) (steps : List (Step W)) : Type 0 where
@@ -78,18 +79,24 @@ module _ {W : Type 0} (name : Place → W) (worker : ℕ) (places : List Place) 
     pub differs : found ≢ header
     pub steps_are : steps ≡ saw (header_of name places nth) header ∷ tried_lock name places worker nth header found ∷ []
 
-  -- The records before this one were free, and were locked in order; this one was missed, by the word that was found.
-  -- Then each header that was exchanged was written back as it was, in order, and nothing else was done.
-  pub record MissesLock (nth found : ℕ) (steps : List (Step W)) : Type 0 where
+  -- With these locks held this record was missed, by the word that was found. Then each header that was exchanged was
+  -- written back as it was, in order, and nothing else was done.
+  pub record GivesBack (held : List ℕ) (nth found : ℕ) (steps : List (Step W)) : Type 0 where
     pub within : nth < length places
-    pub held : List ℕ
     pub before : length held ≡ nth
-    pub free : AreFree places seen 0 held
     pub last : List (Step W)
     pub missed : ReadsTaken nth found last ⊎ LosesExchange nth found last
     pub back : List (Step W)
-    pub gives_back : verbs_of back ≡ writes_of (header_of name places) held
-    pub steps_are : steps ≡ locks_from name places worker 0 held ++ (last ++ back)
+    pub written : verbs_of back ≡ writes_of (header_of name places) held
+    pub steps_are : steps ≡ last ++ back
+
+  -- the records before this one were free and were locked in order, and this one was missed
+  pub record MissesLock (nth found : ℕ) (steps : List (Step W)) : Type 0 where
+    pub held : List ℕ
+    pub free : AreFree places seen 0 held
+    pub rest : List (Step W)
+    pub missed : GivesBack held nth found rest
+    pub steps_are : steps ≡ locks_from name places worker 0 held ++ rest
 
   -- 4. The ends
 

@@ -27,8 +27,8 @@ pub fn unlocking_law()
     ensures fields { UnlockingAtFields }
 {}
 
-/// Whatever words are found, each verb of a machine over places of rows is the one of the protocol's call, at the header
-/// field of such a row.
+/// Whatever words are found, each verb of a machine over places of rows is the one of the protocol's call, at the
+/// header field of such a row.
 pub fn field_law()
     ensures locking { LockingFieldLaw }
     ensures unlocking { UnlockingFieldLaw }

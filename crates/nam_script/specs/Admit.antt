@@ -2,6 +2,8 @@
 use Rattle.std.specs.Prelude.{◌≡◌, ℕ, List, [], ◌∷◌, ◌++◌, length, Option, Some, None, Result, Ok, Err, Bool, true, false, not, is_ok, is_some, nat_lt, nat_le, ◌==◌}
 use Rattle.si_model.specs.declared.op.Op.{Op}
 use Rattle.si_model.specs.declared.op.Op.TheVariants as op
+use Rattle.nam_catalog.specs.declared.bounds.TheConstants.{MOST_WORKERS, MOST_TRIES, MOST_BUCKETS, MOST_CELLS, MOST_TABLES, MOST_WIDTH}
+use Rattle.nam_catalog.specs.declared.bounds.TheConstants.{MOST_CAPACITY, MOST_RING, MOST_TXNS, MOST_TXN_OPS, MOST_OPS, MOST_TURNS, MOST_PICKS}
 use Rattle.nam_catalog.specs.declared.form.Form.{Form}
 use Rattle.nam_catalog.specs.declared.form.Form.TheVariants.{Narrow, Wide, Held}
 use Rattle.nam_catalog.specs.declared.shape.Shape.{Shape}
@@ -59,13 +61,13 @@ admit_header d form = do
 abbrev pub admit_workers : Draft → Option ℕ → Result Draft Kind
 admit_workers d number = do
   _ ← must (is_at d.stage stage.Header) kind.Word
-  n ← within 1 16 number
+  n ← within 1 MOST_WORKERS number
   Ok (record d { stage = stage.Workers; shape = record d.shape { workers = n } })
 
 abbrev pub admit_tries : Draft → Option ℕ → Result Draft Kind
 admit_tries d number = do
   _ ← must (is_at d.stage stage.Workers) kind.Word
-  n ← within 1 16 number
+  n ← within 1 MOST_TRIES number
   Ok (record d { stage = stage.Tries; policy = record d.policy { tries = n } })
 
 abbrev pub admit_tidy : Draft → Bool → Result Draft Kind
@@ -83,8 +85,8 @@ admit_start d number = do
 abbrev pub admit_overflow : Draft → Option ℕ → Option ℕ → Result Draft Kind
 admit_overflow d buckets cells = do
   _ ← must (is_at d.stage stage.Start) kind.Word
-  b ← within 1 256 buckets
-  c ← within 1 64 cells
+  b ← within 1 MOST_BUCKETS buckets
+  c ← within 1 MOST_CELLS cells
   Ok (record d { stage = stage.Overflow; shape = record d.shape { buckets = b; cells = c } })
 
 abbrev pub with_table : Shape → Table → Shape
@@ -95,10 +97,10 @@ abbrev pub admit_table : Draft → List ℕ → Option ℕ → Option ℕ → Op
 admit_table d name width capacity ring = do
   _ ← must (takes_table d.stage) kind.Word
   _ ← must (not (is_ok (place_of d.shape.tables name))) kind.Name
-  w ← within 1 8 width
-  k ← within 1 4096 capacity
-  r ← within 1 16 ring
-  _ ← must (nat_lt (length d.shape.tables) 8) kind.Size
+  w ← within 1 MOST_WIDTH width
+  k ← within 1 MOST_CAPACITY capacity
+  r ← within 1 MOST_RING ring
+  _ ← must (nat_lt (length d.shape.tables) MOST_TABLES) kind.Size
   _ ← must (not (is_some (fault_of (with_table d.shape (record { name = name; width = w; capacity = k; ring = r })))))
       kind.Size
   Ok (record d
@@ -123,14 +125,14 @@ abbrev pub admit_txn : Draft → Option ℕ → Result Draft Kind
 admit_txn d worker = do
   _ ← must (is_loaded d.stage) kind.Word
   w ← within 1 d.shape.workers worker
-  _ ← must (nat_lt (length d.body.txns) 8192) kind.Size
+  _ ← must (nat_lt (length d.body.txns) MOST_TXNS) kind.Size
   Ok (record d { stage = stage.Open; body = record d.body { worker = w } })
 
 -- an operation that counts so much of the operations in all
 abbrev pub push_op : Draft → Op → ℕ → Result Draft Kind
 push_op d o cost = do
-  _ ← must (nat_lt (length d.body.ops) 32) kind.Size
-  sum ← total_within d.body.cost cost 65536
+  _ ← must (nat_lt (length d.body.ops) MOST_TXN_OPS) kind.Size
+  sum ← total_within d.body.cost cost MOST_OPS
   keys ← keys_after d.body.keys o
   Ok (record d { body = record d.body { ops = d.body.ops ++ o ∷ []; keys = keys; cost = sum } })
 
@@ -206,14 +208,14 @@ abbrev pub admit_turns : Draft → List SpeltStint → Result Draft Kind
 admit_turns d spelt = do
   _ ← must (takes_turns d.stage) kind.Word
   stints ← all_stints d.shape.workers spelt
-  sum ← total_within d.body.steps (steps_of stints) 10000000
+  sum ← total_within d.body.steps (steps_of stints) MOST_TURNS
   Ok (record d { stage = stage.Turns; body = record d.body { stints = d.body.stints ++ stints; steps = sum } })
 
 abbrev pub admit_seed : Draft → Option ℕ → Option ℕ → Result Draft Kind
 admit_seed d seed picks = do
   _ ← must (is_loaded d.stage) kind.Word
   s ← small seed
-  n ← within 0 1000000 picks
+  n ← within 0 MOST_PICKS picks
   Ok (record d { stage = stage.Seed; body = record d.body { seed = s; picks = n } })
 
 unfoldable pub admit : Draft → Line → Result Draft Kind

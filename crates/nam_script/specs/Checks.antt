@@ -8,6 +8,7 @@ use Rattle.si_model.specs.declared.op.Op.{Op}
 use Rattle.si_model.specs.declared.op.Op.TheVariants.{Scan}
 use Rattle.si_model.specs.Rows.{has_key}
 use Rattle.si_model.specs.Evaluation.{key_claimed}
+use Rattle.nam_catalog.specs.declared.bounds.TheConstants.{MOST_KEYS, MOST_STEPS}
 use Rattle.nam_catalog.specs.declared.shape.Table.{Table}
 use Rattle.nam_script.specs.declared.refusal.Kind.{Kind}
 use Rattle.nam_script.specs.declared.refusal.Kind.TheVariants as kind
@@ -50,7 +51,7 @@ key_of n = within 0 (2 ^ 64 - 2) n
 abbrev pub stint_within : ℕ → SpeltStint → Result Stint Kind
 stint_within workers s = do
   worker ← within 1 workers s.worker
-  steps ← within 1 1000000 s.steps
+  steps ← within 1 MOST_STEPS s.steps
   Ok (record { worker = worker; steps = steps })
 
 -- the stints, each within its limits
@@ -97,11 +98,11 @@ txns_cost capacities (x ∷ xs) = ops_cost capacities x.ops + txns_cost capaciti
 abbrev pub total_within : ℕ → ℕ → ℕ → Result ℕ Kind
 total_within so_far more most = if nat_le (so_far + more) most then Ok (so_far + more) else Err kind.Size
 
--- the keys with one more, each once and 16 at the most
+-- the keys with one more, each once and so many at the most
 abbrev pub keys_with : List Key → Option Key → Result (List Key) Kind
 keys_with keys None = Ok keys
 keys_with keys (Some key) =
-    if has_key keys key then Ok keys else if nat_lt (length keys) 16 then Ok (keys ++ key ∷ []) else Err kind.Size
+    if has_key keys key then Ok keys else if nat_lt (length keys) MOST_KEYS then Ok (keys ++ key ∷ []) else Err kind.Size
 
 -- the keys with the one that an operation writes or guards
 abbrev pub keys_after : List Key → Op → Result (List Key) Kind

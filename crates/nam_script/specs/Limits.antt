@@ -6,6 +6,8 @@ use Rattle.si_model.specs.declared.op.Op.{Op}
 use Rattle.si_model.specs.declared.op.Op.TheVariants.{Get, Put, Add, Del, Need, Guard, Scan}
 use Rattle.si_model.specs.Rows.{same_key, row_key}
 use Rattle.si_model.specs.Evaluation.{IsTable, OpFits, key_claimed, keys_from}
+use Rattle.nam_catalog.specs.declared.bounds.TheConstants.{MOST_TRIES, MOST_TXNS, MOST_TXN_OPS, MOST_OPS}
+use Rattle.nam_catalog.specs.declared.bounds.TheConstants.{MOST_KEYS, MOST_TURNS, MOST_STEPS, MOST_PICKS}
 use Rattle.nam_catalog.specs.declared.shape.Table.{Table}
 use Rattle.nam_catalog.specs.Tables.{widths_of, capacities_of}
 use Rattle.nam_catalog.specs.Limits.{fault_of}
@@ -47,12 +49,12 @@ OpHasKeys (Need t k f least) = IsKey k
 OpHasKeys (Guard t k) = IsKey k
 OpHasKeys (Scan t low high) = (low ≤ high) × IsKey high
 
--- the operations of one transaction fit the tables, are no more than 32, and write or guard no more than 16 keys
+-- the operations of one transaction fit the tables, are as few as one transaction may have, and so are the keys that they write or guard
 pub record OpsFit (tables : List Table) (ops : List Op) : Type 0 where
   pub fit : AllByRecursion (OpFits (widths_of tables)) ops
   pub keys : AllByRecursion OpHasKeys ops
-  pub few : length ops ≤ 32
-  pub claims : length (keys_from key_claimed [] ops) ≤ 16
+  pub few : length ops ≤ MOST_TXN_OPS
+  pub claims : length (keys_from key_claimed [] ops) ≤ MOST_KEYS
 
 -- the transaction is of one of the workers, and has operations that fit the tables
 pub record TxnFits (workers : ℕ) (tables : List Table) (x : ScriptTxn) : Type 0 where
@@ -62,21 +64,21 @@ pub record TxnFits (workers : ℕ) (tables : List Table) (x : ScriptTxn) : Type 
 
 -- 1 to 1,000,000 turns of one of the workers
 abbrev pub StintFits : ℕ → Stint → Type 0
-StintFits workers s = (1 ≤ s.worker) × (s.worker ≤ workers) × (1 ≤ s.steps) × (s.steps ≤ 1000000)
+StintFits workers s = (1 ≤ s.worker) × (s.worker ≤ workers) × (1 ≤ s.steps) × (s.steps ≤ MOST_STEPS)
 
 -- 10,000,000 turns at the most, or 1,000,000 picks
 abbrev pub TurnsFit : ℕ → Turns → Type 0
-TurnsFit workers (turns.List stints) = AllByRecursion (StintFits workers) stints × (steps_of stints ≤ 10000000)
-TurnsFit workers (turns.Seed seed picks) = picks ≤ 1000000
+TurnsFit workers (turns.List stints) = AllByRecursion (StintFits workers) stints × (steps_of stints ≤ MOST_TURNS)
+TurnsFit workers (turns.Seed seed picks) = picks ≤ MOST_PICKS
 
 -- The script keeps to all limits: `fits_law` of nam_catalog says what it means that its shape has no fault. A scan counts
 -- as its table's capacity of the operations in all.
 pub record IsScript (s : Script) : Type 0 where
   pub shape : fault_of s.shape ≡ None
   pub form : is_held s.shape.form ≡ false
-  pub tries : (1 ≤ s.policy.tries) × (s.policy.tries ≤ 16)
+  pub tries : (1 ≤ s.policy.tries) × (s.policy.tries ≤ MOST_TRIES)
   pub rows : RowsFit s.shape.tables s.rows
-  pub few : length s.txns ≤ 8192
+  pub few : length s.txns ≤ MOST_TXNS
   pub txns : AllByRecursion (TxnFits s.shape.workers s.shape.tables) s.txns
-  pub cost : txns_cost (capacities_of s.shape.tables) s.txns ≤ 65536
+  pub cost : txns_cost (capacities_of s.shape.tables) s.txns ≤ MOST_OPS
   pub turns : TurnsFit s.shape.workers s.turns

@@ -1,6 +1,7 @@
 -- The lines of a script: how each kind of line is spelt, and which line a list of fields spells.
 use Rattle.std.specs.Prelude.{◌≡◌, ℕ, ◌+◌, List, [], ◌∷◌, ◌++◌, take, drop, Option, Some, None, Bool, true, false, if◌then◌else◌, codes, ◌==◌}
 use Rattle.std.specs.List.{position}
+use Rattle.nam_catalog.specs.declared.bounds.TheConstants.{MOST_WIDTH}
 use Rattle.nam_catalog.specs.declared.form.Form.{Form}
 use Rattle.nam_catalog.specs.declared.form.Form.TheVariants.{Narrow, Wide, Held}
 use Rattle.nam_text.specs.Token.{number_of, number_text}
@@ -115,7 +116,7 @@ table_line =
     (λ (t, (w, (k, r))). Table t w k r)
 
 abbrev pub row_line : LineKind Line
-row_line = kind (codes "row") (next name (next number (some 8 number))) (λ (t, (k, vs)). Row t k vs)
+row_line = kind (codes "row") (next name (next number (some MOST_WIDTH number))) (λ (t, (k, vs)). Row t k vs)
 
 abbrev pub txn_line : LineKind Line
 txn_line = kind (codes "txn") (last number) (λ w. Txn w)
@@ -124,7 +125,7 @@ abbrev pub get_line : LineKind Line
 get_line = kind (codes "get") (next name (last number)) (λ (t, k). Get t k)
 
 abbrev pub put_line : LineKind Line
-put_line = kind (codes "put") (next name (next number (some 8 number))) (λ (t, (k, vs)). Put t k vs)
+put_line = kind (codes "put") (next name (next number (some MOST_WIDTH number))) (λ (t, (k, vs)). Put t k vs)
 
 abbrev pub add_line : LineKind Line
 add_line = kind (codes "add") (next name (next number (next number (last change)))) (λ (t, (k, (f, c))). Add t k f c)

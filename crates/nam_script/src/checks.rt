@@ -9,6 +9,7 @@ use crate::refusal::{Kind, LineEnd};
 use crate::script::Stint;
 use lists::{List, ShortList};
 use nam_catalog::Table;
+use nam_catalog::bounds::{MOST_KEYS, MOST_STEPS};
 use nam_text::Number;
 use si_model::{Key, Op, Value};
 
@@ -22,10 +23,6 @@ pub struct Found {
 
 /// The stints of a line.
 pub type Stints = ShortList<Stint, 64>;
-
-const MAX_STEPS: u32 = 1_000_000;
-
-const MAX_KEYS: usize = 16;
 
 /// A number from `low` to `high`.
 pub fn within(low: u64, high: u64, number: Number) -> Result<u64, Kind>
@@ -76,7 +73,7 @@ fn stint_within(workers: u32, spelt: SpeltStint) -> Result<Stint, Kind>
     ensures { result ≡ stint_within workers spelt }
 {
     let worker = within_u32(1, workers, spelt.worker)?;
-    let steps = within_u32(1, MAX_STEPS, spelt.steps)?;
+    let steps = within_u32(1, MOST_STEPS, spelt.steps)?;
     Ok(Stint { worker, steps })
 }
 
@@ -141,7 +138,7 @@ pub fn claim(keys: &mut List<Key>, op: &Op) -> Result<(), LineEnd>
     if keys.as_slice().contains(&key) {
         return Ok(());
     }
-    if keys.len() >= MAX_KEYS {
+    if keys.len() >= MOST_KEYS {
         return Err(LineEnd::Bad(Kind::Size));
     }
     keys.push(key)?;

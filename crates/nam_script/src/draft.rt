@@ -11,26 +11,14 @@ use crate::rows::Rows;
 use crate::script::{ScriptTxn, Stint};
 use crate::stage::Stage;
 use lists::{List, ShortList};
+use nam_catalog::bounds::{
+    MOST_BUCKETS, MOST_CAPACITY, MOST_CELLS, MOST_RING, MOST_TABLES, MOST_TRIES, MOST_WIDTH,
+    MOST_WORKERS,
+};
 use nam_catalog::{Form, Shape, Table, TableName, check, greatest};
 use nam_text::Number;
 use si_model::{Key, Op, Policy, Row};
 use std::alloc::Global;
-
-const MAX_WORKERS: u32 = 16;
-
-const MAX_TRIES: u32 = 16;
-
-const MAX_BUCKETS: u32 = 256;
-
-const MAX_CELLS: u32 = 64;
-
-const MAX_TABLES: usize = 8;
-
-const MAX_WIDTH: u32 = 8;
-
-const MAX_CAPACITY: u32 = 4_096;
-
-const MAX_RING: u32 = 16;
 
 /// What is loaded and run. `worker` and `ops` are those of the open transaction, and `keys` those that it writes or
 /// guards; `cost` counts the operations so far, and `steps` the turns.
@@ -133,7 +121,7 @@ impl Draft {
         if !self.stage.is_at(Stage::Header) {
             return Err(LineEnd::Bad(Kind::Word));
         }
-        self.shape.workers = within_u32(1, MAX_WORKERS, workers)?;
+        self.shape.workers = within_u32(1, MOST_WORKERS, workers)?;
         self.stage = Stage::Workers;
         Ok(())
     }
@@ -144,7 +132,7 @@ impl Draft {
         if !self.stage.is_at(Stage::Workers) {
             return Err(LineEnd::Bad(Kind::Word));
         }
-        self.policy.tries = within_u32(1, MAX_TRIES, tries)?;
+        self.policy.tries = within_u32(1, MOST_TRIES, tries)?;
         self.stage = Stage::Tries;
         Ok(())
     }
@@ -177,8 +165,8 @@ impl Draft {
         if !self.stage.is_at(Stage::Start) {
             return Err(LineEnd::Bad(Kind::Word));
         }
-        self.shape.buckets = within_u32(1, MAX_BUCKETS, buckets)?;
-        self.shape.cells = within_u32(1, MAX_CELLS, cells)?;
+        self.shape.buckets = within_u32(1, MOST_BUCKETS, buckets)?;
+        self.shape.cells = within_u32(1, MOST_CELLS, cells)?;
         self.stage = Stage::Overflow;
         Ok(())
     }
@@ -206,10 +194,10 @@ impl Draft {
         if self.find(&name).is_ok() {
             return Err(LineEnd::Bad(Kind::Name));
         }
-        let width = within_u32(1, MAX_WIDTH, width)?;
-        let capacity = within_u32(1, MAX_CAPACITY, capacity)?;
-        let ring = within_u32(1, MAX_RING, ring)?;
-        if self.shape.tables.len() >= MAX_TABLES {
+        let width = within_u32(1, MOST_WIDTH, width)?;
+        let capacity = within_u32(1, MOST_CAPACITY, capacity)?;
+        let ring = within_u32(1, MOST_RING, ring)?;
+        if self.shape.tables.len() >= MOST_TABLES {
             return Err(LineEnd::Bad(Kind::Size));
         }
         self.shape.tables.push(Table {

@@ -13,20 +13,11 @@ use crate::script::{ScriptTxn, Stint};
 use crate::stage::Stage;
 use lists::List;
 use nam_catalog::TableName;
+use nam_catalog::bounds::{MOST_OPS, MOST_PICKS, MOST_TURNS, MOST_TXN_OPS, MOST_TXNS};
 use nam_text::Number;
 use si_model::Op;
 use std::alloc::{AllocError, Global};
 use std::mem;
-
-const MAX_TXNS: usize = 8_192;
-
-const MAX_TXN_OPS: usize = 32;
-
-const MAX_OPS: u64 = 65_536;
-
-const MAX_TURNS: u64 = 10_000_000;
-
-const MAX_PICKS: u32 = 1_000_000;
 
 fn push_stints(stints: &mut List<Stint>, more: &[Stint]) -> Result<(), AllocError>
     ensures { OnOk result (stints.new ≡ stints.old ++ more.now) }
@@ -45,7 +36,7 @@ impl Draft {
             return Err(LineEnd::Bad(Kind::Word));
         }
         self.body.worker = within_u32(1, self.shape.workers, worker)?;
-        if self.body.txns.len() >= MAX_TXNS {
+        if self.body.txns.len() >= MOST_TXNS {
             return Err(LineEnd::Bad(Kind::Size));
         }
         self.stage = Stage::Open;
@@ -56,10 +47,10 @@ impl Draft {
     fn push_op(&mut self, op: Op, cost: u32) -> Result<(), LineEnd>
         ensures { Takes result self.new (push_op self.old op cost) }
     {
-        if self.body.ops.len() >= MAX_TXN_OPS {
+        if self.body.ops.len() >= MOST_TXN_OPS {
             return Err(LineEnd::Bad(Kind::Size));
         }
-        self.body.cost = total_within(self.body.cost, cost as u64, MAX_OPS)?;
+        self.body.cost = total_within(self.body.cost, cost as u64, MOST_OPS)?;
         claim(&mut self.body.keys, &op)?;
         self.body.ops.push(op)?;
         Ok(())
@@ -228,7 +219,7 @@ impl Draft {
         }
         let stints = all_stints(self.shape.workers, &spelt)?;
         let steps = steps_of(stints.as_slice());
-        self.body.steps = total_within(self.body.steps, steps, MAX_TURNS)?;
+        self.body.steps = total_within(self.body.steps, steps, MOST_TURNS)?;
         push_stints(&mut self.body.stints, stints.as_slice())?;
         self.stage = Stage::Turns;
         Ok(())
@@ -241,7 +232,7 @@ impl Draft {
             return Err(LineEnd::Bad(Kind::Word));
         }
         self.body.seed = small(seed)?;
-        self.body.picks = within_u32(0, MAX_PICKS, picks)?;
+        self.body.picks = within_u32(0, MOST_PICKS, picks)?;
         self.stage = Stage::Seed;
         Ok(())
     }

@@ -1,5 +1,7 @@
 //! The current version of a record: reading it, and installing the next one.
 
+ghost use Rattle.std.specs.Prelude.{◌≡◌};
+
 use si_model::Value;
 
 /// Where the reading of a current version stands.
@@ -22,6 +24,23 @@ pub enum CurrentEnd {
     Unsure { value: Value, header: u64 },
     /// It is not visible, or another took its place: older versions are to be searched.
     GoOld,
+}
+
+impl CurrentEnd {
+    /// An equal end, made without memory.
+    pub fn copy(&self) -> CurrentEnd
+        ensures { result ≡ self.now }
+    {
+        match self {
+            CurrentEnd::Found(None) => CurrentEnd::Found(None),
+            CurrentEnd::Found(Some(value)) => CurrentEnd::Found(Some(value.copy())),
+            CurrentEnd::Unsure { value, header } => CurrentEnd::Unsure {
+                value: value.copy(),
+                header: *header,
+            },
+            CurrentEnd::GoOld => CurrentEnd::GoOld,
+        }
+    }
 }
 
 /// Where an install stands.

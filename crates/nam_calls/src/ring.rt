@@ -1,5 +1,7 @@
 //! Old versions in a record's ring of slots.
 
+ghost use Rattle.std.specs.Prelude.{◌≡◌};
+
 use si_model::Value;
 
 /// Where the look at the slot stands that the next version needs.
@@ -66,4 +68,17 @@ pub enum SearchEnd {
     Found(Option<Value>),
     /// It does not stand here.
     NotThere,
+}
+
+impl SearchEnd {
+    /// An equal end, made without memory.
+    pub fn copy(&self) -> SearchEnd
+        ensures { result ≡ self.now }
+    {
+        match self {
+            SearchEnd::Found(None) => SearchEnd::Found(None),
+            SearchEnd::Found(Some(value)) => SearchEnd::Found(Some(value.copy())),
+            SearchEnd::NotThere => SearchEnd::NotThere,
+        }
+    }
 }

@@ -98,21 +98,6 @@ pub fn current_left(place: &Place, at: &CurrentPlace) -> u64
     }
 }
 
-/// An equal end, made without memory.
-fn copied(end: &CurrentEnd) -> CurrentEnd
-    ensures { result ≡ end.now }
-{
-    match end {
-        CurrentEnd::Found(None) => CurrentEnd::Found(None),
-        CurrentEnd::Found(Some(value)) => CurrentEnd::Found(Some(value.copy())),
-        CurrentEnd::Unsure { value, header } => CurrentEnd::Unsure {
-            value: value.copy(),
-            header: *header,
-        },
-        CurrentEnd::GoOld => CurrentEnd::GoOld,
-    }
-}
-
 /// The reading of a record's current version: its header, its data words, and its header again. The words are those of
 /// one version where both headers bear its stamp and neither is locked.
 #[derive(Debug, Drop)]
@@ -183,7 +168,7 @@ impl Machine for ReadCurrent {
     fn end(&self) -> Option<CurrentEnd> {
         match &self.state {
             Now::At(_) => None,
-            Now::Over(end) => Some(copied(end)),
+            Now::Over(end) => Some(end.copy()),
         }
     }
 }

@@ -148,17 +148,6 @@ pub fn ring_left(place: &Place, at: &RingPlace) -> u64
     }
 }
 
-/// An equal end, made without memory.
-fn copied(end: &SearchEnd) -> SearchEnd
-    ensures { result ≡ end.now }
-{
-    match end {
-        SearchEnd::Found(None) => SearchEnd::Found(None),
-        SearchEnd::Found(Some(value)) => SearchEnd::Found(Some(value.copy())),
-        SearchEnd::NotThere => SearchEnd::NotThere,
-    }
-}
-
 /// The search of a record's ring for the version that a snapshot sees: slot after slot its header, its end, its data
 /// words, and its header again.
 #[derive(Debug, Drop)]
@@ -229,7 +218,7 @@ impl Machine for SearchRing {
     fn end(&self) -> Option<SearchEnd> {
         match &self.state {
             Now::At(_) => None,
-            Now::Over(end) => Some(copied(end)),
+            Now::Over(end) => Some(end.copy()),
         }
     }
 }

@@ -107,7 +107,8 @@ groups_most (g ∷ gs) h = omega (arith, length-append g (flat_map (λ g. g) gs)
 
 stints_most : (workers : ℕ) (ss : List Stint) → AllByRecursion (StintFits workers) ss → length ss ≤ steps_of ss
 stints_most workers [] h = omega arith
-stints_most workers (s ∷ ss) h = omega (arith, sum_by-cons (λ (x : Stint). x.steps) s ss, h.0.2, stints_most workers ss h.1)
+stints_most workers (s ∷ ss) h =
+    omega (arith, sum_by-cons (λ (x : Stint). x.steps) s ss, h.0.2, stints_most workers ss h.1)
 
 length_if : (b : Bool) (x : List Line) → length (cond b x []) ≤ length x
 length_if true x = omega arith

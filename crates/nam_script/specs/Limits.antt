@@ -71,8 +71,8 @@ abbrev pub TurnsFit : ℕ → Turns → Type 0
 TurnsFit workers (turns.List stints) = AllByRecursion (StintFits workers) stints × (steps_of stints ≤ MOST_TURNS)
 TurnsFit workers (turns.Seed seed picks) = picks ≤ MOST_PICKS
 
--- The script keeps to all limits: `fits_law` of nam_catalog says what it means that its shape has no fault. A scan counts
--- as its table's capacity of the operations in all.
+-- The script keeps to all limits: `fits_law` of nam_catalog says what it means that its shape has no fault. A scan
+-- counts as its table's capacity of the operations in all.
 pub record IsScript (s : Script) : Type 0 where
   pub shape : fault_of s.shape ≡ None
   pub form : is_held s.shape.form ≡ false

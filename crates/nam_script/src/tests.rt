@@ -414,7 +414,7 @@ fn rows_and_tables_have_limits(rt: HostRuntime) -> Result<(), Fail> {
 }
 
 #[test]
-fn turns_and_scans_have_limits(rt: HostRuntime) -> Result<(), Fail> {
+fn turns_have_limits(rt: HostRuntime) -> Result<(), Fail> {
     let alloc = rt.alloc();
     let mut turns = String::from_str(alloc, LARGE)?;
     for _ in 0..10 {
@@ -423,17 +423,22 @@ fn turns_and_scans_have_limits(rt: HostRuntime) -> Result<(), Fail> {
     parse(alloc, turns.as_bytes())?;
     write!(&mut turns, "turns 1*1\n")?;
     assert!(rt; refuses(alloc, turns.as_str(), 19, Kind::Size));
+    Ok(())
+}
+
+#[test]
+fn scans_have_limits(rt: HostRuntime) -> Result<(), Fail> {
+    let alloc = rt.alloc();
     let mut scans = String::from_str(alloc, LARGE)?;
     for _ in 0..3_855 {
         write!(&mut scans, "txn 1\nscan t 0 1\nend\n")?;
     }
     write!(&mut scans, "txn 1\nget t 0\n")?;
-    let whole = scans.len();
+    let mut over = String::from_str(alloc, scans.as_str())?;
+    write!(&mut over, "get t 0\n")?;
+    assert!(rt; refuses(alloc, over.as_str(), 11_576, Kind::Size));
     write!(&mut scans, "end\n")?;
     parse(alloc, scans.as_bytes())?;
-    scans.truncate(whole);
-    write!(&mut scans, "get t 0\n")?;
-    assert!(rt; refuses(alloc, scans.as_str(), 11_576, Kind::Size));
     Ok(())
 }
 

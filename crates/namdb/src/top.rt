@@ -159,7 +159,8 @@ fn script_line(alloc: Global, line: u32, kind: Kind) -> Result<String, AllocErro
 
 /// Writes a text, and ends with the status, or with `WriteFault` where the text did not go out whole.
 fn end_with<K: Sink>(sink: &mut K, status: Status, text: &[u8]) -> Status
-    ensures { Sends (K.taken sink.old) (K.taken sink.new) (K.faults sink.old) (K.faults sink.new) status text.now result }
+    ensures { Sends (K.taken sink.old) (K.taken sink.new) (K.faults sink.old) (K.faults sink.new)
+        status text.now result }
 {
     match nam_io::write_all(sink, text) {
         Ok(()) => status,

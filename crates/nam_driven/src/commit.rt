@@ -5,6 +5,7 @@ ghost use Rattle.nam_layout.specs.PlaceFits.{FitsPlace};
 
 use lists::ShortList;
 use nam_catalog::Form;
+use nam_header::version_word;
 use nam_layout::Place;
 use nam_lock::{LockAll, LockEnd};
 use nam_record::{Install, ReadWords};
@@ -12,7 +13,6 @@ use nam_ring::{CheckSlot, CopyOld, SlotEnd};
 use nam_trial::PlainStore;
 use nam_vector::Publish;
 use nam_verbs::Machine;
-use nam_words::version_word;
 use si_model::{Snapshot, Stamp};
 use std::alloc::{AllocError, Global};
 
@@ -100,19 +100,11 @@ pub fn commit(
             _ => return Ok(None),
         }
     }
-    for nth in 0..places.len() {
-        if nth < counts.len() && nth < headers.len() {
-            match put(
-                store,
-                places[nth],
-                puts,
-                *counts.at(nth),
-                *headers.at(nth),
-                alloc,
-            )? {
-                Some(verbs) => total = total.saturating_add(verbs),
-                None => return Ok(None),
-            }
+    let records = places.iter().zip(counts.as_slice()).zip(headers.as_slice());
+    for ((place, count), header) in records {
+        match put(store, *place, puts, *count, *header, alloc)? {
+            Some(verbs) => total = total.saturating_add(verbs),
+            None => return Ok(None),
         }
     }
     let mut publish = Publish::new(1, puts.number);

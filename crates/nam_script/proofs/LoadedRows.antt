@@ -38,7 +38,8 @@ or_cond false true = refl
 or_cond false false = refl
 
 pub given_push : (rows : List Row) (r : Row) (t k : ℕ)
-    → is_given (rows ++ r ∷ []) t k ≡ cond (is_eq (key_cmp (key_at r.table r.key) (key_at t k))) true (is_given rows t k)
+    → is_given (rows ++ r ∷ []) t k ≡ cond (is_eq (key_cmp (key_at r.table r.key) (key_at t k))) true
+    (is_given rows t k)
 given_push rows r t k =
     list_any-append (λ r. eqb r.table t && eqb r.key k) rows (r ∷ [])
     ∙ or_cond (is_given rows t k) (eqb r.table t && eqb r.key k)

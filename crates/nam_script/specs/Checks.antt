@@ -102,7 +102,8 @@ total_within so_far more most = if nat_le (so_far + more) most then Ok (so_far +
 abbrev pub keys_with : List Key → Option Key → Result (List Key) Kind
 keys_with keys None = Ok keys
 keys_with keys (Some key) =
-    if has_key keys key then Ok keys else if nat_lt (length keys) MOST_KEYS then Ok (keys ++ key ∷ []) else Err kind.Size
+    if has_key keys key then Ok keys else if nat_lt (length keys) MOST_KEYS then Ok (keys ++ key ∷ [])
+    else Err kind.Size
 
 -- the keys with the one that an operation writes or guards
 abbrev pub keys_after : List Key → Op → Result (List Key) Kind

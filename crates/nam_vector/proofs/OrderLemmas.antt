@@ -26,7 +26,8 @@ module _ (workers : ℕ) where
   IsAfter n (Over end) = n ≤ workers + workers
 
   -- one more word is taken
-  one_word : (n : ℕ) (place : SnapPlace) (word : ℕ) → IsAfter n (At place) → IsAfter (n + 1) (snap_after workers place word)
+  one_word : (n : ℕ) (place : SnapPlace) (word : ℕ) → IsAfter n (At place)
+      → IsAfter (n + 1) (snap_after workers place word)
   one_word n (First got) word is =
       let long = length-append got (word ∷ []) in
       subst (IsAfter (n + 1)) (sym (if_in {B = Now SnapPlace SnapEnd} At (length (got ++ word ∷ []) == workers)
@@ -36,7 +37,9 @@ module _ (workers : ℕ) where
       (λ last. (omega arith, omega arith, omega arith))
       (λ more. (omega arith, omega arith)))
   one_word n (Second seen at) word is =
-      by_equal (IsAfter (n + 1)) word (slice_index seen at) (if at + 1 == workers then Over (Done seen) else At (Second seen (at + 1))) (Over (Again (at + 1) (slice_index seen at) word))
+      by_equal (IsAfter (n + 1)) word (slice_index seen at)
+      (if at + 1 == workers then Over (Done seen) else At (Second seen (at + 1)))
+      (Over (Again (at + 1) (slice_index seen at) word))
       (λ same. by_equal (IsAfter (n + 1)) (at + 1) workers (Over (Done seen)) (At (Second seen (at + 1)))
       (λ last. omega arith)
       (λ more. (omega arith, is.1, omega arith)))
@@ -46,14 +49,16 @@ module _ (workers : ℕ) where
   all_words : (n : ℕ) (state : Now SnapPlace SnapEnd) (words : List ℕ) → IsAfter n state
       → Takes (running (record { workers = workers; state = state })) words
       → IsAfter (n + length words) (after_words (running (record { workers = workers; state = state })) words).state
-  all_words n state [] is takes = let same : n ≡ n + length {A = ℕ} [] = omega arith in subst (λ n. IsAfter n state) same is
+  all_words n state [] is takes =
+      let same : n ≡ n + length {A = ℕ} [] = omega arith in subst (λ n. IsAfter n state) same is
   all_words n (At place) (word ∷ words) is takes =
       let same : n + 1 + length words ≡ n + length (word ∷ words) = omega arith in
       rw (← same) (all_words (n + 1) (snap_after workers place word) words (one_word n place word is) takes.1)
   all_words n (Over end) (word ∷ words) is takes = let none = takes.0 in absurd (cc)
 
   -- where a new snapshot stands after the words that it takes
-  pub stands_after : 1 ≤ workers → (words : List ℕ) → SnapTakes workers words → IsAfter (length words) (after_words (running (snapping workers)) words).state
+  pub stands_after : 1 ≤ workers → (words : List ℕ) → SnapTakes workers words
+      → IsAfter (length words) (after_words (running (snapping workers)) words).state
   stands_after least words takes = rw zero-add at (all_words 0 (At snap_begin) words (refl, least) takes)
 
   -- no snapshot takes more than two words for each entry
@@ -63,7 +68,8 @@ module _ (workers : ℕ) where
   is_bounded n (Over end) is = omega arith
 
   -- the verb that stands reads the next entry
-  pub reads_next : (n : ℕ) (state : Now SnapPlace SnapEnd) → IsAfter n state → IfSome (verb_now (verb_from (running (snapping workers))) state) (λ verb. verb ≡ Read (n % workers))
+  pub reads_next : (n : ℕ) (state : Now SnapPlace SnapEnd) → IsAfter n state
+      → IfSome (verb_now (verb_from (running (snapping workers))) state) (λ verb. verb ≡ Read (n % workers))
   reads_next n (At (First got)) is = let same : n % workers ≡ n = mod-eq_of_lt is.1 in ap Read (omega arith)
   reads_next n (At (Second seen at)) is =
       let same : n % workers ≡ at = rw is.0 (add-mod_left workers at) ∙ mod-eq_of_lt is.2 in ap Read (omega arith)

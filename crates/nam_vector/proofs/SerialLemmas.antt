@@ -59,9 +59,11 @@ module _ (workers : ℕ) (words : List ℕ) (within : workers ≤ length words) 
       let longer : seen ≡ take (length got + 1) words =
       ap (λ (g : List ℕ). g ++ word ∷ []) front ∙ ap (λ w. take (length got) words ++ w ∷ []) here
       ∙ sym (take_more words (length got) 0 (omega arith)) in
-      subst (IsDoneFrom fuel) (sym (if_in {B = Now SnapPlace SnapEnd} At (length seen == workers) (Second seen 0) (First seen)))
+      subst (IsDoneFrom fuel)
+      (sym (if_in {B = Now SnapPlace SnapEnd} At (length seen == workers) (Second seen 0) (First seen)))
       (by_equal (IsDoneFrom fuel) (length seen) workers (At (Second seen 0)) (At (First seen))
-      (λ last. second_is_done fuel seen 0 (longer ∙ ap (λ n. take n words) (sym long ∙ last)) (omega arith) (omega arith))
+      (λ last. second_is_done fuel seen 0 (longer ∙ ap (λ n. take n words) (sym long ∙ last)) (omega arith)
+      (omega arith))
       (λ more. first_is_done fuel seen (rw long longer) (omega arith) (omega arith)))
 
   -- a new snapshot that is driven to its end

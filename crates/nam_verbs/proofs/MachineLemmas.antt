@@ -50,7 +50,8 @@ module _ {W P E : Type 0} where
 
   -- a run goes on after its first verb, with fewer verbs to come, and leads where the whole run leads
   pub driven-verb : (fuel rest rest' : ℕ) (words : List ℕ) (verb : Verb) (call : Running W P E)
-      {later : Running W P E} {words' : List ℕ} {all : Running W P E × List ℕ} → rest ≤ fuel → rest' < rest → next_verb call ≡ Some verb
+      {later : Running W P E} {words' : List ℕ} {all : Running W P E × List ℕ} → rest ≤ fuel → rest' < rest
+      → next_verb call ≡ Some verb
       → later ≡ after_found call (found_by words verb) → words' ≡ after_verb words verb
       → driven fuel call words ≡ all → (fuel' : ℕ) × (rest' ≤ fuel') × (driven fuel' later words' ≡ all)
   driven-verb zero rest rest' words verb call enough falls stands taken changed run = absurd (omega arith)

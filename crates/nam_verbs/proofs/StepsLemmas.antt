@@ -66,17 +66,21 @@ module _ {P E : Type 0} (Holds : P → Type 0) where
   fits_after after keeps (At place) fits found = keeps place fits found
   fits_after after keeps (Over end) fits found = tt
 
-  pub always : {W : Type 0} (call : Running W P E) → ((place : P) → Holds place → (found : ℕ) → FitsNow Holds (call.after place found))
+  pub always : {W : Type 0} (call : Running W P E)
+      → ((place : P) → Holds place → (found : ℕ) → FitsNow Holds (call.after place found))
       → FitsNow Holds call.state → Always Holds call
   always call keeps fits [] = fits
-  always call keeps fits (word ∷ words) = always (after_found call word) keeps (fits_after call.after keeps call.state fits word) words
+  always call keeps fits (word ∷ words) =
+      always (after_found call word) keeps (fits_after call.after keeps call.state fits word) words
 
   -- and what follows from it
-  also_fits : (Also : P → Type 0) → ((place : P) → Holds place → Also place) → (now : Now P E) → FitsNow Holds now → FitsNow Also now
+  also_fits : (Also : P → Type 0) → ((place : P) → Holds place → Also place) → (now : Now P E) → FitsNow Holds now
+      → FitsNow Also now
   also_fits Also follows (At place) fits = follows place fits
   also_fits Also follows (Over end) fits = tt
 
-  pub always_also : (Also : P → Type 0) → ((place : P) → Holds place → Also place) → {W : Type 0} (call : Running W P E) → Always Holds call
+  pub always_also : (Also : P → Type 0) → ((place : P) → Holds place → Also place)
+      → {W : Type 0} (call : Running W P E) → Always Holds call
       → Always Also call
   always_also Also follows call holds words = also_fits Also follows _ (holds words)
 
@@ -85,7 +89,8 @@ module _ {P E : Type 0} (Holds : P → Type 0) where
 pub law_of_steps : (W P E : Type 0) → StepsLaw W P E
 law_of_steps W P E call words end = (
   steps_by call.verb call.after call.address call.reach call.left call.state words end,
-  λ steps. rw (← steps.1) (words_by call.verb call.after call.address call.reach call.left call.state steps.0 end steps.2),
+  λ steps. rw (← steps.1)
+      (words_by call.verb call.after call.address call.reach call.left call.state steps.0 end steps.2),
 )
 
 pub law_of_verbs : (W P E : Type 0) → VerbsLaw W P E

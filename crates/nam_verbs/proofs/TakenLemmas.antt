@@ -29,6 +29,7 @@ module _ {W P E : Type 0} (Fits : P → Type 0) (Ends : E → Type 0) (call : Ru
   fits_on n (At at) falls = falls.0
   fits_on n (Over end) falls = tt
 
-  pub holds_always : (Holds : P → Type 0) → FitsNow Fits call.state → ((at : P) → Fits at → Holds at) → Always Holds call
+  pub holds_always : (Holds : P → Type 0) → FitsNow Fits call.state → ((at : P) → Fits at → Holds at)
+      → Always Holds call
   holds_always Holds fits follows =
       always_also Fits Holds follows call (always Fits call (λ at here found. fits_on _ _ (law at here found)) fits)

@@ -83,7 +83,8 @@ module _ {W : Type 0} where
   abbrev pub Stretches : (ℕ → List (Step W) → Type 0) → ℕ → ℕ → List (Step W) → Type 0
   Stretches Passed from zero steps = steps ≡ []
   Stretches Passed from (suc count) steps =
-      (first rest : List (Step W)) × (steps ≡ first ++ rest) × Passed from first × Stretches Passed (from + 1) count rest
+      (first rest : List (Step W)) × (steps ≡ first ++ rest) × Passed from first
+      × Stretches Passed (from + 1) count rest
 
   -- one of so many numbered items stops a search, after each before it was passed
   pub record StopsAt (Passed Stops : ℕ → List (Step W) → Type 0) (count : ℕ) (steps : List (Step W)) : Type 0 where

@@ -6,4 +6,5 @@ pub returns-clause-falls : goal.returns-clause-falls
 returns-clause-falls c = read_falls
 
 pub returns-clause-begins : goal.returns-clause-begins
-returns-clause-begins c = λ shape limits table position is l. (sight_fits shape limits table position is l, read_figure shape limits table position is l)
+returns-clause-begins c = λ shape limits table position is l.
+    (sight_fits shape limits table position is l, read_figure shape limits table position is l)

@@ -3,4 +3,5 @@ use Rattle.nam_vector.proofs.SnapLemmas.{snap_ends, ends_snap}
 use Rattle.nam_vector.proofs.laws.done_law.Goals as goal
 
 pub returns : goal.returns
-returns c workers least steps seen = (snap_ends workers least steps (Done seen), ends_snap workers least steps (Done seen))
+returns c workers least steps seen =
+    (snap_ends workers least steps (Done seen), ends_snap workers least steps (Done seen))

@@ -24,7 +24,8 @@ returns-clause-taken g c =
     let first = g.M.Machine.running c.args.machine.now in
     let run = c.loop-verb.invariant.1 in
     let over : next_verb (g.M.Machine.running c.loop-verb.machine) ≡ None = sym c.verb.ensures.verb ∙ search rules in
-    rw (driven_at_end run.0 words over run.2).0 (driven-leads (verbs_left first) first (g.R.Region.words c.args.region.now))
+    rw (driven_at_end run.0 words over run.2).0
+    (driven-leads (verbs_left first) first (g.R.Region.words c.args.region.now))
 
 pub returns-clause-machine : goal.returns-clause-machine
 returns-clause-machine g c =

@@ -111,17 +111,6 @@ fn value_of(form: Form, header: u64, value: Value) -> SearchEnd
     }
 }
 
-// An equal end, made without memory.
-fn copy(end: &SearchEnd) -> SearchEnd
-    ensures { result ≡ end.now }
-{
-    match end {
-        SearchEnd::Found(Some(value)) => SearchEnd::Found(Some(value.copy())),
-        SearchEnd::Found(None) => SearchEnd::Found(None),
-        SearchEnd::NotThere => SearchEnd::NotThere,
-    }
-}
-
 /// What follows the word that the verb of a place found.
 pub fn cell_after(
     cells: &Cells,
@@ -284,7 +273,7 @@ impl Machine for SearchCells {
     fn end(&self) -> Option<SearchEnd> {
         match &self.state {
             Now::At(_) => None,
-            Now::Over(end) => Some(copy(end)),
+            Now::Over(end) => Some(end.copy()),
         }
     }
 }

@@ -1,4 +1,5 @@
-//! A plain store for trying calls: the words of a shape as they stand at the opening, on which calls are run verb by verb.
+//! A plain store for trying calls: the words of a shape as they stand at the opening, on which calls are run verb by
+//! verb.
 //!
 //! The tests of the crates above use it. No other actor reaches its words.
 #![tactic(auto)]

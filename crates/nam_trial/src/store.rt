@@ -76,8 +76,8 @@ impl Model for PlainStore {
 }
 
 impl PlainStore {
-    /// The store of a shape, without rows: blank positions, empty slots and free cells. There is none where the shape has a
-    /// fault.
+    /// The store of a shape, without rows: blank positions, empty slots and free cells. There is none where the shape
+    /// has a fault.
     pub fn new(alloc: Global, shape: Shape) -> Result<Option<PlainStore>, AllocError>
         ensures { IfOk result (λ store. IsSome store ↔ (fault_of shape ≡ None)) }
     {

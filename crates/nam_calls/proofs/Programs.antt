@@ -1,4 +1,5 @@
--- When a call does what a program says: words one after another, parts of composed calls, and that there is one such program.
+-- When a call does what a program says: words one after another, parts of composed calls, and that there is one such
+-- program.
 use Rattle.std.proofs.Common.{◌≡◌, ℕ, zero, suc, ◌+◌, ◌<◌, Bool, true, false, not, List, [], ◌∷◌, ◌++◌, length, refl}
 use Rattle.std.proofs.Common.{sym, ◌∙◌, ap, subst, arith, length-append}
 use Rattle.std.proofs.Math.Path.{fun_ext}

@@ -16,7 +16,7 @@ use Rattle.nam_calls.specs.declared.horizon.CollectPlace.TheVariants.{CollectEnd
 use Rattle.nam_calls.specs.declared.horizon.OldEnd.{OldEnd}
 use Rattle.nam_calls.specs.declared.horizon.OldEnd.TheVariants.{TooOld, NotPassed}
 
--- 1. Collect: the horizon entries are raised to the snapshot's, then the cells within the horizon that is known are freed
+-- 1. Collect: the horizon entries are raised to the snapshot's, then the cells within the known horizon are freed
 
 abbrev pub collect_begin : CollectPlace
 collect_begin = HorizonLook []

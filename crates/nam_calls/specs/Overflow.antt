@@ -40,7 +40,8 @@ cell_verb cells (CellAgain cell tag header value) = ReadAt (field.Tag cells.buck
 abbrev pub next_cell : Cells → ℕ → Now CellPlace SearchEnd
 next_cell cells cell = if cell + 1 == cells.cells then Over NotThere else At (CellTag (cell + 1))
 
--- a full cell of the row, with a version that the snapshot sees, whose successor it does not see, and which is still there
+-- a full cell of the row, with a version that the snapshot sees, whose successor it does not see, and which is still
+-- there
 abbrev pub cell_after : Cells → Place → List ℕ → CellPlace → ℕ → Now CellPlace SearchEnd
 cell_after cells place seen (CellTag cell) found =
     if is_full found then At (CellOwner cell found) else next_cell cells cell

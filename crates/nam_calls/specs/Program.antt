@@ -47,7 +47,8 @@ write_words at word (suc rest) nth = do
   write (at nth) (word nth)
   write_words at word rest (nth + 1)
 
--- 4. A call does what a program says: where the program returns, the call is over, with that answer; where it has a verb,
+-- 4. A call does what a program says: where the program returns, the call is over, with that answer; where it has a
+-- verb,
 -- that verb stands, and whatever word it finds, the call goes on as the program does
 
 module _ {S A : Type 0} (stands : S → Now (VerbAt Field) A) (after : S → ℕ → S) where

@@ -76,7 +76,7 @@ module _ (sight : Sight) (seen : List ℕ) where
       show_old sight.workers seen sight.workers 1 >>= λ end.
       Ret (reading_end end)))
 
-  -- steps 1 to 5: the header, the words, the header, and where one of the two looks found a lock, the ring and the header
+  -- steps 1 to 5: the header, the words, the header; where one of the two looks found a lock, the ring and the header
   abbrev pub read_program : Prog ReadingEnd
   read_program =
       read (field.Header sight.place.row) >>= λ header.

@@ -8,11 +8,12 @@ use Rattle.si_model.specs.declared.row.Item.{Item}
 use Rattle.si_model.specs.declared.op.Op.{Op}
 use Rattle.si_model.specs.declared.op.Op.TheVariants.{Get, Put, Add, Del, Need, Guard, Scan}
 use Rattle.si_model.specs.Rows.{Rows, key_at, same_key, item_key, item_at, writes_key}
-use Rattle.si_model.specs.Evaluation.{field_of, with_field, changed, wrote, guarded, passes, writes_after}
+use Rattle.si_model.specs.Evaluation.{field_of, with_field, changed, wrote, guarded, passes, writes_after, op_key}
 use Rattle.si_model.specs.Evaluation.{guards_after, unwritten, key_written, key_guarded, ops_write, keys_from}
 use Rattle.si_model.specs.Evaluation.{written_keys, guard_keys}
 use Rattle.si_model.specs.EvaluationLaws.{writes_from}
 use Rattle.si_model.proofs.EvaluationLemmas.{same_key_says, map-writes_from, writes_key-writes_from}
+use Rattle.si_model.specs.Operations.{op_reads, op_claims}
 use Rattle.nam_verbs.specs.declared.now.Now.{Now}
 use Rattle.nam_verbs.specs.declared.now.Now.TheVariants.{At, Over}
 use Rattle.nam_verbs.proofs.TestLemmas.{by_test}
@@ -33,7 +34,7 @@ use Rattle.nam_protocol.specs.declared.txn.TxnState.{TxnState}
 use Rattle.nam_protocol.specs.declared.txn.TxnPlace.{TxnPlace}
 use Rattle.nam_protocol.specs.declared.txn.TxnPlace.TheVariants.{Finding, Reading, Claiming, Committing}
 use Rattle.nam_protocol.specs.declared.txn.TxnAnswer.TheVariants.{Declined}
-use Rattle.nam_protocol.specs.Operations.{key_of, reads, claims, holding, own_value, read_of, value_in, answer_of}
+use Rattle.nam_protocol.specs.Operations.{holding, own_value, read_of, value_in, answer_of}
 use Rattle.nam_protocol.specs.Operations.{op_path}
 use Rattle.nam_protocol.specs.Txn.{at, answered, with_op, with_own, ask_op, valued, on_find, on_read, record_of}
 use Rattle.nam_protocol.specs.Txn.{with_claim, on_claim}
@@ -132,7 +133,7 @@ module _ (ws : List Item) (gs : List Key) (ops : List Op) (asked : KeysAsked ws 
   one_more widths (Scan t low high) value = unchanged (Scan t low high) refl refl
 
   -- an operation that claims nothing changes nothing
-  unclaimed : (op : Op) → claims op ≡ false → KeysAsked ws gs (ops ++ op ∷ [])
+  unclaimed : (op : Op) → op_claims op ≡ false → KeysAsked ws gs (ops ++ op ∷ [])
   unclaimed (Get t k) e = unchanged (Get t k) refl refl
   unclaimed (Put t k v) e = absurd (false≢true (sym e))
   unclaimed (Add t k f up by) e = absurd (false≢true (sym e))
@@ -163,9 +164,9 @@ module _ (shape : Shape) where
         let state' = record state { read = read_of op value } in
         let claiming = at state' (Claiming op claim_key_begin) in
         either (Asks ops op) (not (passes op (holding value))) (answered state' Declined)
-        (if claims op then claiming else answered state' (answer_of op value))
+        (if op_claims op then claiming else answered state' (answer_of op value))
         asked
-        (by_test (Asks ops op) (claims op) claiming (answered state' (answer_of op value)) (λ e. asked)
+        (by_test (Asks ops op) (op_claims op) claiming (answered state' (answer_of op value)) (λ e. asked)
         (λ e. passed state' ops op value (unclaimed state.writes state.guards ops asked op e)))
 
     on_find_asks : (now : Now ℕ FindEnd) → Asks ops op (on_find shape state op now)
@@ -189,18 +190,18 @@ module _ (shape : Shape) where
 
     pub ask_asks : Asks ops op (ask_op shape state op)
     ask_asks =
-        let own = own_value state.writes (key_of op) in
+        let own = own_value state.writes (op_key op) in
         let state' = record state { read = read_of op own } in
         let none = record state { read = None } in
         let finding = at none (Finding op find_begin) in
         let claiming = at none (Claiming op claim_key_begin) in
-        either (Asks ops op) (writes_key state.writes (key_of op)) (with_own shape state' op own)
-        (if reads op then finding else claiming)
+        either (Asks ops op) (writes_key state.writes (op_key op)) (with_own shape state' op own)
+        (if op_reads op then finding else claiming)
         (either (Asks ops op) (not (passes op (holding own))) (answered state' Declined)
         (answered (with_op shape state' op own) (answer_of op own))
         asked (passed (with_op shape state' op own) ops op own
         (one_more state.writes state.guards ops asked (widths_of shape.tables) op own)))
-        (either (Asks ops op) (reads op) finding claiming asked asked)
+        (either (Asks ops op) (op_reads op) finding claiming asked asked)
 
   pub take_asks : (state : TxnState) (ops : List Op) (op : Op) (place : TxnPlace) (found : ℕ) → HasAsked state ops
       → IsOfOp op place
@@ -211,7 +212,7 @@ module _ (shape : Shape) where
   take_asks state ops op (Reading o position at) found asked e =
       subst (λ p. Asks ops p (txn_after shape state (Reading o position at) found)) e
       (on_read_asks state ops o asked position
-      (read_after (sight_of shape (key_of o).table position) state.seen at found))
+      (read_after (sight_of shape (op_key o).table position) state.seen at found))
   take_asks state ops op (Claiming o at) found asked e =
       subst (λ p. Asks ops p (txn_after shape state (Claiming o at) found)) e
       (on_claim_asks state ops o asked (claim_key_after (op_path shape o) at found))

@@ -10,7 +10,7 @@ use Rattle.si_model.specs.declared.row.Item.{Item}
 use Rattle.si_model.specs.declared.op.Op.{Op}
 use Rattle.si_model.specs.declared.op.Op.TheVariants.{Get, Put, Add, Del, Need, Guard, Scan}
 use Rattle.si_model.specs.Rows.{key_at, same_key, item_key, item_at, writes_key}
-use Rattle.si_model.specs.Evaluation.{field_of, with_field, changed, wrote, guarded, writes_after, guards_after}
+use Rattle.si_model.specs.Evaluation.{field_of, with_field, changed, wrote, guarded, writes_after, guards_after, op_key}
 use Rattle.si_model.specs.Evaluation.{unwritten}
 use Rattle.si_model.specs.EvaluationLaws.{IsWide}
 use Rattle.si_model.proofs.EvaluationLemmas.{same_key-refl, same_key_says}
@@ -28,7 +28,7 @@ use Rattle.nam_calls.proofs.FallsTests.{either}
 use Rattle.nam_calls.proofs.FallsTables.{place_fits}
 use Rattle.nam_protocol.specs.declared.txn.Record.{Record}
 use Rattle.nam_protocol.specs.declared.txn.TxnState.{TxnState}
-use Rattle.nam_protocol.specs.Operations.{key_of, holding, own_value}
+use Rattle.nam_protocol.specs.Operations.{holding, own_value}
 use Rattle.nam_protocol.specs.Txn.{with_claim}
 use Rattle.nam_protocol.specs.Commit.{record_in, commit_keys, records_of, places, record_place, no_record, record_at}
 use Rattle.nam_protocol.specs.TxnFits.{is_claimed, IsPlaced, KeysFit, StateFits, OpStands}
@@ -56,7 +56,7 @@ place_of_nth (r ∷ rs) (suc nth) = place_of_nth rs nth
 -- 2. Tables of operations
 
 module _ (shape : Shape) (limits : FitsLimits shape) where
-  pub op_table : (op : Op) → OpStands shape op → IsTableOf shape (key_of op).table
+  pub op_table : (op : Op) → OpStands shape op → IsTableOf shape (op_key op).table
   op_table (Get t k) s = let e = length-map shape.tables (λ (t : Table). t.width) in let l = s.0.0 in omega arith
   op_table (Put t k v) s = let e = length-map shape.tables (λ (t : Table). t.width) in let l = s.0.0.0 in omega arith
   op_table (Add t k f up by) s =
@@ -175,8 +175,8 @@ module _ (shape : Shape) where
     }
 
     -- an operation's write and guard, of a claimed key
-    pub op_fits : (op : Op) (value : Option (List ℕ)) → OpStands shape op → is_claimed cs (key_of op) ≡ true
-        → HasWidth (width_of shape (key_of op).table) value
+    pub op_fits : (op : Op) (value : Option (List ℕ)) → OpStands shape op → is_claimed cs (op_key op) ≡ true
+        → HasWidth (width_of shape (op_key op).table) value
         → KeysFit shape worker cs (writes_after (widths_of shape.tables) op (holding value) ws) (guards_after op gs)
     op_fits (Get t k) value stands claimed wide = fits
     op_fits (Put t k v) value stands claimed wide = write_fits (key_at t k) (Some v) claimed stands.0.1

@@ -5,8 +5,9 @@ use Rattle.std.specs.Prelude.{if◌then◌else◌}
 use Rattle.std.proofs.lemmas.Bool.{false≢true}
 use Rattle.si_model.specs.declared.op.Op.{Op}
 use Rattle.si_model.specs.Rows.{writes_key}
-use Rattle.si_model.specs.Evaluation.{passes}
+use Rattle.si_model.specs.Evaluation.{passes, op_key}
 use Rattle.si_model.specs.declared.op.Op.TheVariants as op
+use Rattle.si_model.specs.Operations.{op_reads, op_claims}
 use Rattle.nam_verbs.specs.declared.now.Now.{Now}
 use Rattle.nam_verbs.specs.declared.now.Now.TheVariants.{At, Over}
 use Rattle.nam_verbs.proofs.TestLemmas.{by_test}
@@ -32,7 +33,7 @@ use Rattle.nam_protocol.specs.declared.txn.TxnState.{TxnState}
 use Rattle.nam_protocol.specs.declared.txn.TxnPlace.{TxnPlace}
 use Rattle.nam_protocol.specs.declared.txn.TxnPlace.TheVariants.{Finding, Reading, Claiming, Committing}
 use Rattle.nam_protocol.specs.declared.txn.TxnAnswer.TheVariants.{Declined}
-use Rattle.nam_protocol.specs.Operations.{key_of, reads, claims, holding, own_value, read_of, value_in, answer_of}
+use Rattle.nam_protocol.specs.Operations.{holding, own_value, read_of, value_in, answer_of}
 use Rattle.nam_protocol.specs.Operations.{op_path}
 use Rattle.nam_protocol.specs.Txn.{at, answered, with_claim, with_op, with_own, ask_op, valued, on_find, on_read}
 use Rattle.nam_protocol.specs.Txn.{record_of, on_claim}
@@ -44,8 +45,8 @@ use Rattle.nam_protocol.proofs.FallsCommit.{commit_falls}
 
 -- what an operation reads has its table's width
 read_wide : (shape : Shape) (op : Op) (value : Option (List ℕ)) → OpStands shape op
-    → HasWidth (width_of shape (key_of op).table) value
-    → HasWidth (width_of shape (key_of op).table) (value_in (read_of op value))
+    → HasWidth (width_of shape (op_key op).table) value
+    → HasWidth (width_of shape (op_key op).table) (value_in (read_of op value))
 read_wide shape (op.Get t k) value stands wide = wide
 read_wide shape (op.Put t k v) value stands wide = tt
 read_wide shape (op.Add t k f up by) value stands wide = wide
@@ -55,14 +56,14 @@ read_wide shape (op.Guard t k) value stands wide = wide
 read_wide shape (op.Scan t low high) value stands wide = absurd (false≢true (sym stands.1))
 
 claims_take : (shape : Shape) (op : Op) (b : Bool) → b ≡ true
-    → (if b then 2 * capacity_of shape (key_of op).table else 0) ≡ 2 * capacity_of shape (key_of op).table
+    → (if b then 2 * capacity_of shape (op_key op).table else 0) ≡ 2 * capacity_of shape (op_key op).table
 claims_take shape op true e = refl
 claims_take shape op false e = absurd (false≢true e)
 
 module _ (shape : Shape) (limits : FitsLimits shape) where
   module _ (state : TxnState) (fits : StateFits shape state) (op : Op) (stands : OpStands shape op) where
     abbrev table : ℕ
-    table = (key_of op).table
+    table = (op_key op).table
 
     is_table : IsTableOf shape table
     is_table = op_table shape limits op stands
@@ -75,11 +76,11 @@ module _ (shape : Shape) (limits : FitsLimits shape) where
     valued_falls n value wide l =
         let state' = record state { read = read_of op value } in
         either (TxnFalls shape n) (not (passes op (holding value))) (answered state' Declined)
-        (if claims op then at state' (Claiming op claim_key_begin) else answered state' (answer_of op value))
+        (if op_claims op then at state' (Claiming op claim_key_begin) else answered state' (answer_of op value))
         (fits, (tt, omega arith))
-        (by_test (TxnFalls shape n) (claims op) (at state' (Claiming op claim_key_begin))
+        (by_test (TxnFalls shape n) (op_claims op) (at state' (Claiming op claim_key_begin))
         (answered state' (answer_of op value))
-        (λ e. let m = claims_take shape op (claims op) e in let c = least in
+        (λ e. let m = claims_take shape op (op_claims op) e in let c = least in
         (fits, ((stands, c, read_wide shape op value stands wide), omega arith)))
         (λ e. (fits, (tt, omega arith))))
 
@@ -124,14 +125,14 @@ module _ (shape : Shape) (limits : FitsLimits shape) where
       on_find_falls state fits op p.0 _ _ (find_falls (op_path shape op) passed found p.1)
   txn_falls state (Reading op position at) found fits p =
       on_read_falls state fits op p.0 position _ _ p.1
-      (read_falls (sight_of shape (key_of op).table position)
-      (sight_fits shape limits (key_of op).table position (is_table state fits op p.0) p.1) state.seen at found p.2)
+      (read_falls (sight_of shape (op_key op).table position)
+      (sight_fits shape limits (op_key op).table position (is_table state fits op p.0) p.1) state.seen at found p.2)
   txn_falls state (Claiming op at) found fits p =
       on_claim_falls state fits op p.0 _ _ p.2 (claim_key_falls (op_path shape op) at found p.1)
   txn_falls state (Committing at) found fits p = commit_falls shape limits state fits at found p
 
   -- an operation is asked
-  op_begins_at : (state : TxnState) (op : Op) → StateFits shape state → OpStands shape op → (e : reads op ≡ true)
+  op_begins_at : (state : TxnState) (op : Op) → StateFits shape state → OpStands shape op → (e : op_reads op ≡ true)
       → TxnBegins shape (op_bound shape op) (at state (Finding op find_begin))
   op_begins_at state (op.Get t k) fits stands e =
       let c = least state fits (op.Get t k) stands in (fits, ((stands, c), omega arith))
@@ -145,7 +146,7 @@ module _ (shape : Shape) (limits : FitsLimits shape) where
       let c = least state fits (op.Guard t k) stands in (fits, ((stands, c), omega arith))
   op_begins_at state (op.Scan t low high) fits stands e = absurd (false≢true e)
 
-  op_claims_at : (state : TxnState) (op : Op) → StateFits shape state → OpStands shape op → reads op ≡ false
+  op_claims_at : (state : TxnState) (op : Op) → StateFits shape state → OpStands shape op → op_reads op ≡ false
       → TxnBegins shape (op_bound shape op) (at (record state { read = None }) (Claiming op claim_key_begin))
   op_claims_at state (op.Get t k) fits stands e = absurd (false≢true (sym e))
   op_claims_at state (op.Put t k v) fits stands e =
@@ -159,29 +160,29 @@ module _ (shape : Shape) (limits : FitsLimits shape) where
 
   own_begins : (n : ℕ) (state : TxnState) (op : Op) (value : Option (List ℕ)) → StateFits shape state
       → OpStands shape op
-      → writes_key state.writes (key_of op) ≡ true
-      → HasWidth (width_of shape (key_of op).table) value → TxnBegins shape n (with_own shape state op value)
+      → writes_key state.writes (op_key op) ≡ true
+      → HasWidth (width_of shape (op_key op).table) value → TxnBegins shape n (with_own shape state op value)
   own_begins n state op value fits stands e wide =
       either (TxnBegins shape n) (not (passes op (holding value))) (answered state Declined)
       (answered (with_op shape state op value) (answer_of op value))
       (fits, tt) (
         op_fits shape state.worker state.claims state.writes state.guards fits op value stands
-            (own_claimed shape state.worker state.claims state.writes state.guards fits (key_of op) e) wide,
+            (own_claimed shape state.worker state.claims state.writes state.guards fits (op_key op) e) wide,
         tt,
       )
 
   pub op_begins : (state : TxnState) (op : Op) → StateFits shape state → OpStands shape op
       → TxnBegins shape (op_bound shape op) (ask_op shape state op)
   op_begins state op fits stands =
-      let own = own_value state.writes (key_of op) in
+      let own = own_value state.writes (op_key op) in
       let n = op_bound shape op in
       let state' = record state { read = None } in
       let finding = at state' (Finding op find_begin) in
       let claiming = at state' (Claiming op claim_key_begin) in
-      by_test (TxnBegins shape n) (writes_key state.writes (key_of op))
+      by_test (TxnBegins shape n) (writes_key state.writes (op_key op))
       (with_own shape (record state { read = read_of op own }) op own)
-      (if reads op then finding else claiming)
+      (if op_reads op then finding else claiming)
       (λ e. own_begins n (record state { read = read_of op own }) op own fits stands e
-      (own_wide shape state.writes (key_of op) fits.wide))
-      (λ e. by_test (TxnBegins shape n) (reads op) finding claiming (λ f. op_begins_at state' op fits stands f)
+      (own_wide shape state.writes (op_key op) fits.wide))
+      (λ e. by_test (TxnBegins shape n) (op_reads op) finding claiming (λ f. op_begins_at state' op fits stands f)
       (λ f. op_claims_at state op fits stands f))

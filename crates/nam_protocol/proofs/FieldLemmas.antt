@@ -2,6 +2,7 @@
 use Rattle.std.proofs.Common.{◌≡◌, ℕ, ◌<◌, List, Option, Some, None, length, refl, sym, ◌∙◌, subst, arith}
 use Rattle.std.specs.Prelude.{slice_index}
 use Rattle.std.proofs.lemmas.Option.{none-some, same_Some}
+use Rattle.si_model.specs.Evaluation.{op_key}
 use Rattle.nam_verbs.specs.declared.now.Now.{Now}
 use Rattle.nam_verbs.specs.declared.now.Now.TheVariants.{At, Over}
 use Rattle.nam_verbs.specs.VerbAt.{VerbAt, target}
@@ -54,7 +55,6 @@ use Rattle.nam_protocol.specs.declared.client.CallPlace.TheVariants.{Beginning, 
 use Rattle.nam_protocol.specs.declared.client.CallPlace.TheVariants.{Snapping, Collecting}
 use Rattle.nam_protocol.specs.declared.client.Open.{Open}
 use Rattle.nam_protocol.specs.declared.client.ClientState.{ClientState}
-use Rattle.nam_protocol.specs.Operations.{key_of}
 use Rattle.nam_protocol.specs.Commit.{places, record_place, record_at, records_of, value_at, own_stamp, new_header}
 use Rattle.nam_protocol.specs.Commit.{commit_verb}
 use Rattle.nam_protocol.specs.TxnCalls.{txn_verb}
@@ -163,11 +163,11 @@ module _ (shape : Shape) (limits : FitsLimits shape) where
 
     pub txn_at : (place : TxnPlace) → TxnPlaceFits shape state place → IsAtField shape (txn_verb shape state place)
     txn_at (Finding op passed) p =
-        key_at_field (key_of op).table (op_table shape limits op p.0) (key_of op).key passed p.1
+        key_at_field (op_key op).table (op_table shape limits op p.0) (op_key op).key passed p.1
     txn_at (Reading op position at) p =
-        read_at (key_of op).table (op_table shape limits op p.0) position at p.1 p.2
+        read_at (op_key op).table (op_table shape limits op p.0) position at p.1 p.2
     txn_at (Claiming op at) p =
-        claim_key_at (key_of op).table (op_table shape limits op p.0) (key_of op).key at p.1
+        claim_key_at (op_key op).table (op_table shape limits op p.0) (op_key op).key at p.1
     txn_at (Committing at) p = commit_at at p
 
   -- 5. A client

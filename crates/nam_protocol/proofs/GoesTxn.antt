@@ -6,8 +6,9 @@ use Rattle.std.specs.Prelude.{if◌then◌else◌}
 use Rattle.std.proofs.lemmas.Bool.{cond_both}
 use Rattle.si_model.specs.declared.op.Op.{Op}
 use Rattle.si_model.specs.declared.op.Op.TheVariants.{Get, Put, Add, Del, Need, Guard, Scan}
-use Rattle.si_model.specs.Evaluation.{passes}
+use Rattle.si_model.specs.Evaluation.{passes, op_key}
 use Rattle.si_model.specs.Rows.{writes_key}
+use Rattle.si_model.specs.Operations.{op_reads, op_claims}
 use Rattle.nam_verbs.specs.declared.now.Now.{Now}
 use Rattle.nam_verbs.specs.declared.now.Now.TheVariants.{At, Over}
 use Rattle.nam_catalog.specs.declared.shape.Shape.{Shape}
@@ -25,7 +26,7 @@ use Rattle.nam_protocol.specs.declared.txn.TxnState.{TxnState}
 use Rattle.nam_protocol.specs.declared.txn.TxnPlace.TheVariants.{Finding, Reading, Claiming}
 use Rattle.nam_protocol.specs.declared.txn.TxnAnswer.{TxnAnswer}
 use Rattle.nam_protocol.specs.declared.txn.TxnAnswer.TheVariants.{Committed, TooOld, NoSpace, Declined, Astray}
-use Rattle.nam_protocol.specs.Operations.{key_of, reads, claims, holding, own_value, read_of, value_in, answer_of}
+use Rattle.nam_protocol.specs.Operations.{holding, own_value, read_of, value_in, answer_of}
 use Rattle.nam_protocol.specs.Txn.{Stepped, at, answered, with_op, ask_op, decided, valued, on_find, on_read}
 use Rattle.nam_protocol.specs.Txn.{on_claim, claimed}
 use Rattle.nam_protocol.specs.TxnCalls.{txn_after}
@@ -58,15 +59,15 @@ module _ (shape : Shape) (P : Stepped → Type 0) (op : Op) where
 
   pub decided_goes : (state : TxnState) (value : Option (List ℕ))
       → (passes op (holding value) ≡ false → P (answered state Declined))
-      → (passes op (holding value) ≡ true → claims op ≡ true → P (at state (Claiming op (KeyLook 0))))
-      → (passes op (holding value) ≡ true → claims op ≡ false → P (answered state (answer_of op value)))
+      → (passes op (holding value) ≡ true → op_claims op ≡ true → P (at state (Claiming op (KeyLook 0))))
+      → (passes op (holding value) ≡ true → op_claims op ≡ false → P (answered state (answer_of op value)))
       → P (decided shape state op value)
   decided_goes state value declined claiming answer =
-      by_not P (passes op (holding value)) _ _ declined (λ e. cond_both (claims op) _ _ P (claiming e) (answer e))
+      by_not P (passes op (holding value)) _ _ declined (λ e. cond_both (op_claims op) _ _ P (claiming e) (answer e))
 
   -- the same, whatever the answer
   pub valued_goes : (state : TxnState) (value : Option (List ℕ))
-      → (claims op ≡ true → P (at (knowing state op value) (Claiming op (KeyLook 0))))
+      → (op_claims op ≡ true → P (at (knowing state op value) (Claiming op (KeyLook 0))))
       → ((answer : TxnAnswer) → IsSilent answer → P (answered (knowing state op value) answer))
       → P (valued shape state op value)
   valued_goes state value claiming answer =
@@ -76,19 +77,19 @@ module _ (shape : Shape) (P : Stepped → Type 0) (op : Op) where
   -- 2. An operation is asked
 
   pub ask_goes : (state : TxnState)
-      → (writes_key state.writes (key_of op) ≡ true → let own = own_value state.writes (key_of op) in
+      → (writes_key state.writes (op_key op) ≡ true → let own = own_value state.writes (op_key op) in
       passes op (holding own) ≡ false → P (answered (knowing state op own) Declined))
-      → (writes_key state.writes (key_of op) ≡ true → let own = own_value state.writes (key_of op) in
+      → (writes_key state.writes (op_key op) ≡ true → let own = own_value state.writes (op_key op) in
       passes op (holding own) ≡ true → P (answered (with_op shape (knowing state op own) op own) (answer_of op own)))
-      → (writes_key state.writes (key_of op) ≡ false → reads op ≡ true
+      → (writes_key state.writes (op_key op) ≡ false → op_reads op ≡ true
       → P (at (record state { read = None }) (Finding op 0)))
-      → (writes_key state.writes (key_of op) ≡ false → reads op ≡ false
+      → (writes_key state.writes (op_key op) ≡ false → op_reads op ≡ false
       → P (at (record state { read = None }) (Claiming op (KeyLook 0))))
       → P (ask_op shape state op)
   ask_goes state declined own finding claiming =
-      cond_both (writes_key state.writes (key_of op)) _ _ P
-      (λ e. by_not P (passes op (holding (own_value state.writes (key_of op)))) _ _ (declined e) (own e))
-      (λ e. cond_both (reads op) _ _ P (finding e) (claiming e))
+      cond_both (writes_key state.writes (op_key op)) _ _ P
+      (λ e. by_not P (passes op (holding (own_value state.writes (op_key op)))) _ _ (declined e) (own e))
+      (λ e. cond_both (op_reads op) _ _ P (finding e) (claiming e))
 
   -- 3. By what the part has come to
 
@@ -116,7 +117,7 @@ module _ (shape : Shape) (P : Stepped → Type 0) (op : Op) where
 
   pub on_claim_goes : (state : TxnState) (now : Now ClaimKeyPlace ClaimKeyEnd)
       → ((place : ClaimKeyPlace) → now ≡ At place → P (at state (Claiming op place)))
-      → (now ≡ Over claimed_key.NoSpace → P (answered state (NoSpace (key_of op).table)))
+      → (now ≡ Over claimed_key.NoSpace → P (answered state (NoSpace (op_key op).table)))
       → ((position : ℕ) → now ≡ Over (claimed_key.At position)
       → P (answered (claimed shape state op position) (answer_of op (value_in state.read))))
       → P (on_claim shape state op now)
@@ -129,7 +130,7 @@ module _ (shape : Shape) (P : Stepped → Type 0) (op : Op) where
   pub finding_goes : (state : TxnState) (passed found : ℕ)
       → ((next : ℕ) → P (at state (Finding op next)))
       → ((position : ℕ) → P (at state (Reading op position read_begin)))
-      → (claims op ≡ true → P (at (knowing state op None) (Claiming op (KeyLook 0))))
+      → (op_claims op ≡ true → P (at (knowing state op None) (Claiming op (KeyLook 0))))
       → ((answer : TxnAnswer) → IsSilent answer → P (answered (knowing state op None) answer))
       → P (txn_after shape state (Finding op passed) found)
   finding_goes state passed found stays reading claiming answer =
@@ -138,7 +139,7 @@ module _ (shape : Shape) (P : Stepped → Type 0) (op : Op) where
 
   pub reading_goes : (state : TxnState) (position : ℕ) (place : ReadPlace) (found : ℕ)
       → ((next : ReadPlace) → P (at state (Reading op position next)))
-      → ((value : Option (List ℕ)) → claims op ≡ true → P (at (knowing state op value) (Claiming op (KeyLook 0))))
+      → ((value : Option (List ℕ)) → op_claims op ≡ true → P (at (knowing state op value) (Claiming op (KeyLook 0))))
       → ((value : Option (List ℕ)) (answer : TxnAnswer) → IsSilent answer
       → P (answered (knowing state op value) answer))
       → ((answer : TxnAnswer) → IsSilent answer → P (answered state answer))
@@ -150,7 +151,7 @@ module _ (shape : Shape) (P : Stepped → Type 0) (op : Op) where
 
   pub claiming_goes : (state : TxnState) (place : ClaimKeyPlace) (found : ℕ)
       → ((next : ClaimKeyPlace) → P (at state (Claiming op next)))
-      → P (answered state (NoSpace (key_of op).table))
+      → P (answered state (NoSpace (op_key op).table))
       → ((position : ℕ) → P (answered (claimed shape state op position) (answer_of op (value_in state.read))))
       → P (txn_after shape state (Claiming op place) found)
   claiming_goes state place found stays none done =

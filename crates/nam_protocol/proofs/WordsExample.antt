@@ -2,6 +2,7 @@
 use Rattle.std.proofs.Common.{◌≡◌, ◌+◌, ◌*◌, false, [], ◌∷◌, refl}
 use Rattle.std.specs.Prelude.{length}
 use Rattle.si_model.specs.declared.op.Op.TheVariants.{Need, Add, Scan}
+use Rattle.si_model.specs.Generator.{next_state, pick}
 use Rattle.nam_catalog.specs.declared.form.Form.TheVariants.{Narrow}
 use Rattle.nam_catalog.specs.declared.shape.Shape.{Shape}
 use Rattle.nam_catalog.specs.Words.{words_of}
@@ -9,7 +10,6 @@ use Rattle.nam_header.specs.Tag.{freed}
 use Rattle.nam_layout.specs.declared.field.Field.TheVariants.{Header, SlotHeader, Tag}
 use Rattle.nam_layout.specs.Address.{address}
 use Rattle.nam_protocol.specs.Opening.{copies, load_from, blank_words, opening_words}
-use Rattle.nam_protocol.specs.Schedule.{next_state, pick}
 use Rattle.nam_protocol.specs.Bound.{verb_bound}
 use Rattle.nam_protocol.proofs.Shown.{shape, table, loaded}
 

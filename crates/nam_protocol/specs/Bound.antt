@@ -3,7 +3,8 @@ use Rattle.std.specs.Prelude.{ℕ, ◌+◌, ◌-◌, ◌*◌, if◌then◌else�
 use Rattle.si_model.specs.declared.row.Key.{Key}
 use Rattle.si_model.specs.declared.op.Op.{Op}
 use Rattle.si_model.specs.declared.op.Op.TheVariants.{Get, Put, Add, Del, Need, Guard, Scan}
-use Rattle.si_model.specs.Evaluation.{written_keys, guard_keys}
+use Rattle.si_model.specs.Evaluation.{written_keys, guard_keys, op_key}
+use Rattle.si_model.specs.Operations.{op_claims}
 use Rattle.nam_catalog.specs.declared.shape.Shape.{Shape}
 use Rattle.nam_layout.specs.declared.field.Place.{Place}
 use Rattle.nam_calls.specs.Words.{width_of, capacity_of}
@@ -18,7 +19,7 @@ use Rattle.nam_protocol.specs.declared.txn.CommitPlace.TheVariants.{Locking, Che
 use Rattle.nam_protocol.specs.declared.txn.CommitPlace.TheVariants.{Installing, Publishing, Freeing}
 use Rattle.nam_protocol.specs.declared.txn.TxnPlace.{TxnPlace}
 use Rattle.nam_protocol.specs.declared.txn.TxnPlace.TheVariants.{Finding, Reading, Claiming, Committing}
-use Rattle.nam_protocol.specs.Operations.{key_of, claims, op_path}
+use Rattle.nam_protocol.specs.Operations.{op_path}
 use Rattle.nam_protocol.specs.Commit.{places, record_place}
 
 -- 1. What is to come of a commit
@@ -57,12 +58,12 @@ module _ (shape : Shape) where
   -- 2. What is to come of an operation
 
   abbrev pub claim_most : Op → ℕ
-  claim_most op = if claims op then 2 * capacity_of shape (key_of op).table else 0
+  claim_most op = if op_claims op then 2 * capacity_of shape (op_key op).table else 0
 
   abbrev pub txn_left : TxnState → TxnPlace → ℕ
   txn_left state (Finding op passed) =
-      find_left (op_path shape op) passed + (read_most shape (key_of op).table + claim_most op)
-  txn_left state (Reading op position at) = read_left (sight_of shape (key_of op).table position) at + claim_most op
+      find_left (op_path shape op) passed + (read_most shape (op_key op).table + claim_most op)
+  txn_left state (Reading op position at) = read_left (sight_of shape (op_key op).table position) at + claim_most op
   txn_left state (Claiming op at) = claim_key_left (op_path shape op) at
   txn_left state (Committing at) = commit_left state at
 

@@ -1,37 +1,20 @@
 -- The operations of a transaction, on what the transaction has at hand.
-use Rattle.std.specs.Prelude.{ℕ, Bool, List, Option, Some, None, is_some, slice_get}
+use Rattle.std.specs.Prelude.{ℕ, List, Option, Some, None, slice_get}
 use Rattle.si_model.specs.declared.row.Key.{Key}
 use Rattle.si_model.specs.declared.row.Item.{Item}
 use Rattle.si_model.specs.declared.op.Op.{Op}
 use Rattle.si_model.specs.declared.op.Op.TheVariants.{Get, Put, Add, Del, Need, Guard, Scan}
-use Rattle.si_model.specs.Rows.{Rows, key_at, overlay}
-use Rattle.si_model.specs.Evaluation.{found, field_of, changed, key_read, key_claimed}
+use Rattle.si_model.specs.Rows.{Rows, overlay}
+use Rattle.si_model.specs.Evaluation.{found, field_of, changed, op_key}
 use Rattle.nam_catalog.specs.declared.shape.Shape.{Shape}
 use Rattle.nam_calls.specs.Words.{path_of}
 use Rattle.nam_calls.specs.declared.index.Path.{Path}
 use Rattle.nam_protocol.specs.declared.txn.TxnAnswer.{TxnAnswer}
 use Rattle.nam_protocol.specs.declared.txn.TxnAnswer.TheVariants.{Value, Written, Added, Met}
 
--- the key of an operation; of a scan its lowest
-abbrev pub key_of : Op → Key
-key_of (Get t k) = key_at t k
-key_of (Put t k v) = key_at t k
-key_of (Add t k f up by) = key_at t k
-key_of (Del t k) = key_at t k
-key_of (Need t k f least) = key_at t k
-key_of (Guard t k) = key_at t k
-key_of (Scan t low high) = key_at t low
-
 -- the path of its key
 abbrev pub op_path : Shape → Op → Path
-op_path shape op = path_of shape (key_of op).table (key_of op).key
-
--- does it read its key, and does it write or guard it
-abbrev pub reads : Op → Bool
-reads op = is_some (key_read op)
-
-abbrev pub claims : Op → Bool
-claims op = is_some (key_claimed op)
+op_path shape op = path_of shape (op_key op).table (op_key op).key
 
 -- rows as far as an operation looks at them, which is its own key
 abbrev pub holding : Option (List ℕ) → Rows

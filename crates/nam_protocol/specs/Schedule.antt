@@ -1,5 +1,5 @@
 -- Lines that refuse verbs by a plan, and the schedule of a simulated run.
-use Rattle.std.specs.Prelude.{ℕ, zero, suc, ◌+◌, ◌-◌, ◌*◌, ◌/◌, ◌%◌, ◌^◌, ◌≡◌, ◌==◌, ◌||◌, nat_le, Bool, true, false}
+use Rattle.std.specs.Prelude.{ℕ, zero, suc, ◌+◌, ◌-◌, ◌^◌, ◌≡◌, ◌==◌, ◌||◌, nat_le, Bool, true, false}
 use Rattle.std.specs.Prelude.{if◌then◌else◌, List, [], ◌∷◌, ◌++◌, map, replicate, Option, Some, None, is_some}
 use Rattle.std.specs.Prelude.{slice_get, slice_set}
 use Rattle.std.specs.List.{list_any}
@@ -7,6 +7,7 @@ use Rattle.si_model.specs.declared.row.Row.{Row}
 use Rattle.si_model.specs.declared.op.Op.{Op}
 use Rattle.si_model.specs.declared.op.Policy.{Policy}
 use Rattle.si_model.specs.declared.log.Log.{Log}
+use Rattle.si_model.specs.Generator.{next_state, pick}
 use Rattle.nam_verbs.specs.declared.verb.Verb.{Verb}
 use Rattle.nam_catalog.specs.declared.shape.Shape.{Shape}
 use Rattle.nam_protocol.specs.declared.session.Job.{Job}
@@ -95,13 +96,6 @@ pub record Stint : Type 0 where
 pub data Schedule : Type 0 where
   Stints : (stints : List Stint) → Schedule
   Picks : (seed picks : ℕ) → Schedule
-
--- the generator's next state, and what it picks below a number
-abbrev pub next_state : ℕ → ℕ
-next_state state = (state * 6364136223846793005 + 1442695040888963407) % 2 ^ 64
-
-abbrev pub pick : ℕ → ℕ → ℕ
-pick state below = state / 2 ^ 33 % below
 
 -- workers picked one after another, from the state before the first pick
 unfoldable pub picked : ℕ → ℕ → ℕ → List ℕ

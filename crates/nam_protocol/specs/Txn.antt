@@ -2,7 +2,8 @@
 use Rattle.std.specs.Prelude.{ℕ, not, if◌then◌else◌, List, [], ◌∷◌, Option, None}
 use Rattle.si_model.specs.declared.op.Op.{Op}
 use Rattle.si_model.specs.Rows.{same_key, writes_key}
-use Rattle.si_model.specs.Evaluation.{passes, writes_after, guards_after}
+use Rattle.si_model.specs.Evaluation.{passes, writes_after, guards_after, op_key}
+use Rattle.si_model.specs.Operations.{op_reads, op_claims}
 use Rattle.nam_verbs.specs.declared.now.Now.{Now}
 use Rattle.nam_verbs.specs.declared.now.Now.TheVariants.{At, Over}
 use Rattle.nam_catalog.specs.declared.shape.Shape.{Shape}
@@ -24,7 +25,7 @@ use Rattle.nam_protocol.specs.declared.txn.TxnPlace.{TxnPlace}
 use Rattle.nam_protocol.specs.declared.txn.TxnPlace.TheVariants.{Finding, Reading, Claiming}
 use Rattle.nam_protocol.specs.declared.txn.TxnAnswer.{TxnAnswer}
 use Rattle.nam_protocol.specs.declared.txn.TxnAnswer.TheVariants.{TooOld, NoSpace, Declined, Astray}
-use Rattle.nam_protocol.specs.Operations.{key_of, reads, claims, holding, own_value, read_of, value_in, answer_of}
+use Rattle.nam_protocol.specs.Operations.{holding, own_value, read_of, value_in, answer_of}
 
 -- a transaction, and where its call stands or how it was answered
 pub record Stepped : Type 0 where
@@ -75,9 +76,9 @@ module _ (shape : Shape) where
 
   abbrev pub ask_op : TxnState → Op → Stepped
   ask_op state op =
-      if writes_key state.writes (key_of op)
-      then (let own = own_value state.writes (key_of op) in with_own (record state { read = read_of op own }) op own)
-      else if reads op then at (record state { read = None }) (Finding op find_begin)
+      if writes_key state.writes (op_key op)
+      then (let own = own_value state.writes (op_key op) in with_own (record state { read = read_of op own }) op own)
+      else if op_reads op then at (record state { read = None }) (Finding op find_begin)
       else at (record state { read = None }) (Claiming op claim_key_begin)
 
   -- 2. The value is known: a decline stands before any claim
@@ -85,7 +86,7 @@ module _ (shape : Shape) where
   abbrev pub decided : TxnState → Op → Option (List ℕ) → Stepped
   decided state op value =
       if not (passes op (holding value)) then answered state Declined
-      else if claims op then at state (Claiming op claim_key_begin)
+      else if op_claims op then at state (Claiming op claim_key_begin)
       else answered state (answer_of op value)
 
   abbrev pub valued : TxnState → Op → Option (List ℕ) → Stepped
@@ -105,7 +106,7 @@ module _ (shape : Shape) where
   -- 3. The key has its position
 
   abbrev pub record_of : Op → ℕ → Record
-  record_of op position = record { key = key_of op; place = place_of shape (key_of op).table position }
+  record_of op position = record { key = op_key op; place = place_of shape (op_key op).table position }
 
   -- the operation on the value that it read
   abbrev pub claimed : TxnState → Op → ℕ → TxnState
@@ -114,6 +115,6 @@ module _ (shape : Shape) where
 
   abbrev pub on_claim : TxnState → Op → Now ClaimKeyPlace ClaimKeyEnd → Stepped
   on_claim state op (At place) = at state (Claiming op place)
-  on_claim state op (Over claimed_key.NoSpace) = answered state (NoSpace (key_of op).table)
+  on_claim state op (Over claimed_key.NoSpace) = answered state (NoSpace (op_key op).table)
   on_claim state op (Over (claimed_key.At position)) =
       answered (claimed state op position) (answer_of op (value_in state.read))

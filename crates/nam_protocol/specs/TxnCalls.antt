@@ -1,6 +1,7 @@
 -- The calls of a transaction: what is asked, the verb that stands, and what follows a found word.
 use Rattle.std.specs.Prelude.{ℕ, List, []}
 use Rattle.si_model.specs.declared.op.Op.TheVariants as op
+use Rattle.si_model.specs.Evaluation.{op_key}
 use Rattle.nam_verbs.specs.declared.now.Now.{Now}
 use Rattle.nam_verbs.specs.declared.now.Now.TheVariants.{At, Over}
 use Rattle.nam_verbs.specs.VerbAt.{VerbAt}
@@ -14,7 +15,7 @@ use Rattle.nam_protocol.specs.declared.txn.TxnState.{TxnState}
 use Rattle.nam_protocol.specs.declared.txn.TxnPlace.{TxnPlace}
 use Rattle.nam_protocol.specs.declared.txn.TxnPlace.TheVariants.{Finding, Reading, Claiming, Committing}
 use Rattle.nam_protocol.specs.declared.txn.TxnAnswer.{TxnAnswer}
-use Rattle.nam_protocol.specs.Operations.{key_of, op_path}
+use Rattle.nam_protocol.specs.Operations.{op_path}
 use Rattle.nam_protocol.specs.Txn.{Stepped, ask_op, on_find, on_read, on_claim}
 use Rattle.nam_protocol.specs.Commit.{ask_commit, commit_verb, commit_after, locks_taken}
 
@@ -30,7 +31,7 @@ module _ (shape : Shape) where
 
   abbrev pub txn_verb : TxnState → TxnPlace → VerbAt Field
   txn_verb state (Finding op passed) = find_verb (op_path shape op) passed
-  txn_verb state (Reading op position at) = read_verb (sight_of shape (key_of op).table position) at
+  txn_verb state (Reading op position at) = read_verb (sight_of shape (op_key op).table position) at
   txn_verb state (Claiming op at) = claim_key_verb (op_path shape op) at
   txn_verb state (Committing at) = commit_verb state at
 
@@ -38,7 +39,7 @@ module _ (shape : Shape) where
   txn_after state (Finding op passed) found =
       on_find shape state op (find_after (op_path shape op) passed found)
   txn_after state (Reading op position at) found =
-      on_read shape state op position (read_after (sight_of shape (key_of op).table position) state.seen at found)
+      on_read shape state op position (read_after (sight_of shape (op_key op).table position) state.seen at found)
   txn_after state (Claiming op at) found =
       on_claim shape state op (claim_key_after (op_path shape op) at found)
   txn_after state (Committing at) found = commit_after state at found

@@ -6,7 +6,7 @@ use Rattle.si_model.specs.declared.row.Key.{Key}
 use Rattle.si_model.specs.declared.row.Item.{Item}
 use Rattle.si_model.specs.declared.op.Op.{Op}
 use Rattle.si_model.specs.Rows.{same_key, item_key}
-use Rattle.si_model.specs.Evaluation.{OpFits, unwritten}
+use Rattle.si_model.specs.Evaluation.{OpFits, unwritten, op_key}
 use Rattle.si_model.specs.EvaluationLaws.{IsWide, is_scan}
 use Rattle.si_model.specs.declared.op.Op.TheVariants as op
 use Rattle.nam_verbs.specs.declared.now.Now.{Now}
@@ -33,7 +33,7 @@ use Rattle.nam_protocol.specs.declared.txn.CommitPlace.{CommitPlace}
 use Rattle.nam_protocol.specs.declared.txn.CommitPlace.TheVariants.{Locking, Checking, Returning, Saving, Copying}
 use Rattle.nam_protocol.specs.declared.txn.CommitPlace.TheVariants.{Installing, Publishing, Freeing}
 use Rattle.nam_protocol.specs.Txn.{Stepped}
-use Rattle.nam_protocol.specs.Operations.{key_of, value_in}
+use Rattle.nam_protocol.specs.Operations.{value_in}
 use Rattle.nam_protocol.specs.Commit.{records_of, record_place}
 use Rattle.nam_protocol.specs.Scan.{positions_left, scan_left}
 use Rattle.nam_protocol.specs.Bound.{txn_left, op_bound, writes_bound}
@@ -105,13 +105,13 @@ module _ (shape : Shape) where
   OpStands op = OpFits (widths_of shape.tables) op × (is_scan op ≡ false)
 
   abbrev pub TxnPlaceFits : TxnState → TxnPlace → Type 0
-  TxnPlaceFits state (Finding op passed) = OpStands op × FindFits (capacity_of shape (key_of op).table) passed
+  TxnPlaceFits state (Finding op passed) = OpStands op × FindFits (capacity_of shape (op_key op).table) passed
   TxnPlaceFits state (Reading op position at) =
-      OpStands op × (position < capacity_of shape (key_of op).table)
-      × ReadFits (sight_of shape (key_of op).table position) at
+      OpStands op × (position < capacity_of shape (op_key op).table)
+      × ReadFits (sight_of shape (op_key op).table position) at
   TxnPlaceFits state (Claiming op at) =
-      OpStands op × ClaimKeyFits (capacity_of shape (key_of op).table) at
-      × HasWidth (width_of shape (key_of op).table) (value_in state.read)
+      OpStands op × ClaimKeyFits (capacity_of shape (op_key op).table) at
+      × HasWidth (width_of shape (op_key op).table) (value_in state.read)
   TxnPlaceFits state (Committing at) = CommitFits state at
 
   -- a transaction has stepped: what it has at hand fits, and its call goes on with fewer verbs to come or was answered

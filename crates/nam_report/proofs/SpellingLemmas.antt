@@ -1,13 +1,16 @@
 -- Each kind of line of a report keeps both laws: what is written is read, and only what is written is read.
-use Rattle.std.proofs.Common.{◌≡◌, ℕ, suc, ◌+◌, ◌^◌, Bool, cond, true, false, List, [], ◌∷◌, ◌++◌, map, Option, Some, None, refl, sym, ap, ◌∙◌, subst, inl, inr, arith, add-zero}
+use Rattle.std.proofs.Common.{◌≡◌, ℕ, suc, ◌+◌, ◌^◌, Bool, cond, true, false, List, [], ◌∷◌, ◌++◌, map, Option, Some}
+use Rattle.std.proofs.Common.{None, refl, sym, ap, ◌∙◌, subst, inl, inr, arith, add-zero}
 use Rattle.std.specs.Prelude.{codes, bytes_eq}
 use Rattle.std.specs.List.{AllByRecursion, position_from}
 use Rattle.si_model.specs.declared.log.Event.{Event}
-use Rattle.si_model.specs.declared.log.Event.TheVariants.{Tried, NoRoom, Moved, Collected, CollectAgain, CollectCut, TidyCut, TailCut, Finished}
+use Rattle.si_model.specs.declared.log.Event.TheVariants.{Tried, NoRoom, Moved, Collected, CollectAgain, CollectCut}
+use Rattle.si_model.specs.declared.log.Event.TheVariants.{TidyCut, TailCut, Finished}
 use Rattle.std.proofs.lemmas.Option.{cond_some, same_Some}
 use Rattle.std.proofs.lemmas.Slice.Eq.{bytes_eq-Decides}
 use Rattle.si_model.specs.declared.log.Outcome.{Outcome}
-use Rattle.si_model.specs.declared.log.Outcome.TheVariants.{Commit, ReadOnly, Declined, NoSpace, Spent, Again, Locked, Newer, TooOld, Full, Cut, Left}
+use Rattle.si_model.specs.declared.log.Outcome.TheVariants.{Commit, ReadOnly, Declined, NoSpace, Spent, Again, Locked}
+use Rattle.si_model.specs.declared.log.Outcome.TheVariants.{Newer, TooOld, Full, Cut, Left}
 use Rattle.si_model.specs.declared.log.MoveEnd.{MoveEnd}
 use Rattle.si_model.specs.declared.log.MoveEnd.TheVariants.{Done, Back, Cut as MoveCut}
 use Rattle.si_model.specs.declared.log.Finish.{Finish}
@@ -20,9 +23,18 @@ use Rattle.nam_text.specs.Spelling.{IsPlain, IsField, IsSpelling, among, some}
 use Rattle.nam_text.specs.Kinds.{of, fields, IsKind}
 use Rattle.nam_text.proofs.Takes.{if_then}
 use Rattle.nam_text.proofs.Again.{name_plain}
-use Rattle.nam_text.proofs.Spellings.{below_is, or_dash_is, choice_is, nothing_is, word_is, last_is, next_is, some_is, before_is, with_mark_is, or_lone_dash_is, through_is}
+use Rattle.nam_text.proofs.Spellings.{below_is, or_dash_is, choice_is, nothing_is, word_is, last_is, next_is, some_is}
+use Rattle.nam_text.proofs.Spellings.{before_is, with_mark_is, or_lone_dash_is, through_is}
 use Rattle.nam_text.proofs.KindLemmas.{Takes, none_takes, or_takes, line_again, line_plain, by_word_is}
-use Rattle.nam_report.specs.Spelling.{u32, u64, table, value, lock_in, lock_parts, lock, move_end_word, move_end, collect_end_word, collect_end, finish_word, finish, commit_kind, read_only_kind, declined_kind, no_space_kind, spent_kind, again_kind, locked_kind, newer_kind, too_old_kind, full_kind, cut_kind, left_kind, spelt_outcome, outcome_of, outcome, attempt_kind, no_room_kind, move_kind, Collect, collect_done_kind, collect_again_kind, collect_cut_kind, spelt_collect, collect_of, collect_in, collect_kind, tidy_cut_kind, tail_cut_kind, medic_kind, spelt_event, event_of, item_kind, lock_kind, history_kind, entry_kind, worker_kind, audit_kind, audit_row_kind}
+use Rattle.nam_report.specs.Spelling.{u32, u64, table, value, lock_in, lock_parts, lock, move_end_word, move_end}
+use Rattle.nam_report.specs.Spelling.{collect_end_word, collect_end, finish_word, finish, commit_kind, read_only_kind}
+use Rattle.nam_report.specs.Spelling.{declined_kind, no_space_kind, spent_kind, again_kind, locked_kind, newer_kind}
+use Rattle.nam_report.specs.Spelling.{too_old_kind, full_kind, cut_kind, left_kind, spelt_outcome, outcome_of}
+use Rattle.nam_report.specs.Spelling.{outcome, attempt_kind, no_room_kind, move_kind, Collect, collect_done_kind}
+use Rattle.nam_report.specs.Spelling.{collect_again_kind, collect_cut_kind, spelt_collect, collect_of, collect_in}
+use Rattle.nam_report.specs.Spelling.{collect_kind, tidy_cut_kind, tail_cut_kind, medic_kind, spelt_event, event_of}
+use Rattle.nam_report.specs.Spelling.{item_kind, lock_kind, history_kind, entry_kind, worker_kind, audit_kind}
+use Rattle.nam_report.specs.Spelling.{audit_row_kind}
 
 -- ---- parts of lines
 

@@ -1,22 +1,26 @@
 -- How the lines of a report are spelt, where its tables go by their names.
-use Rattle.std.specs.Prelude.{◌≡◌, ◌^◌, ℕ, List, [], ◌∷◌, codes, Bool, true, false, ◌⊎◌, Option, Some, None, if◌then◌else◌}
+use Rattle.std.specs.Prelude.{◌≡◌, ◌^◌, ℕ, List, [], ◌∷◌, codes, Bool, true, false, ◌⊎◌, Option, Some, None}
+use Rattle.std.specs.Prelude.{if◌then◌else◌}
 use Rattle.std.proofs.Common.{inl, inr}
 use Rattle.si_model.specs.declared.row.Item.{Item}
 use Rattle.si_model.specs.declared.log.Lock.{Lock}
 use Rattle.si_model.specs.declared.log.Outcome.{Outcome}
-use Rattle.si_model.specs.declared.log.Outcome.TheVariants.{Commit, ReadOnly, Declined, NoSpace, Spent, Again, Locked, Newer, TooOld, Full, Cut, Left}
+use Rattle.si_model.specs.declared.log.Outcome.TheVariants.{Commit, ReadOnly, Declined, NoSpace, Spent, Again, Locked}
+use Rattle.si_model.specs.declared.log.Outcome.TheVariants.{Newer, TooOld, Full, Cut, Left}
 use Rattle.si_model.specs.declared.log.MoveEnd.{MoveEnd}
 use Rattle.si_model.specs.declared.log.MoveEnd.TheVariants.{Done, Back, Cut as MoveCut}
 use Rattle.si_model.specs.declared.log.Finish.{Finish}
 use Rattle.si_model.specs.declared.log.Finish.TheVariants.{Clean, Undone, RolledOn}
 use Rattle.si_model.specs.declared.log.Event.{Event}
-use Rattle.si_model.specs.declared.log.Event.TheVariants.{Tried, NoRoom, Moved, Collected, CollectAgain, CollectCut, TidyCut, TailCut, Finished}
+use Rattle.si_model.specs.declared.log.Event.TheVariants.{Tried, NoRoom, Moved, Collected, CollectAgain, CollectCut}
+use Rattle.si_model.specs.declared.log.Event.TheVariants.{TidyCut, TailCut, Finished}
 use Rattle.si_model.specs.declared.report.CommitLine.{CommitLine}
 use Rattle.si_model.specs.declared.report.AuditRow.{AuditRow}
 use Rattle.nam_catalog.specs.declared.shape.Table.{Table}
 use Rattle.nam_catalog.specs.Tables.{name_of, first_named}
 use Rattle.nam_text.specs.Token.{is_name}
-use Rattle.nam_text.specs.Spelling.{Field, Spelling, below, or_dash, choice, nothing, word, last, next, some, before, with_mark, or_lone_dash, through}
+use Rattle.nam_text.specs.Spelling.{Field, Spelling, below, or_dash, choice, nothing, word, last, next, some, before}
+use Rattle.nam_text.specs.Spelling.{with_mark, or_lone_dash, through}
 use Rattle.nam_text.specs.Kinds.{LineKind, kind, Spelt, of, Reader, no_line, or, by_word}
 
 -- ---- parts of lines

@@ -1,5 +1,6 @@
 -- The one text of a report.
-use Rattle.std.specs.Prelude.{ℕ, ◌+◌, List, [], ◌∷◌, ◌++◌, codes, Bool, true, false, Option, Some, None, length, take, drop}
+use Rattle.std.specs.Prelude.{ℕ, ◌+◌, List, [], ◌∷◌, ◌++◌, codes, Bool, true, false, Option, Some, None, length, take}
+use Rattle.std.specs.Prelude.{drop}
 use Rattle.std.specs.Fmt.{decimal}
 use Rattle.si_model.specs.declared.row.Item.{Item}
 use Rattle.si_model.specs.declared.log.Lock.{Lock}
@@ -8,7 +9,8 @@ use Rattle.si_model.specs.declared.log.Attempt.{Attempt}
 use Rattle.si_model.specs.declared.log.Outcome.{Outcome}
 use Rattle.si_model.specs.declared.log.MoveEnd.{MoveEnd}
 use Rattle.si_model.specs.declared.log.Event.{Event}
-use Rattle.si_model.specs.declared.log.Event.TheVariants.{Tried, NoRoom, Moved, Collected, CollectAgain, CollectCut, TidyCut, TailCut, Finished}
+use Rattle.si_model.specs.declared.log.Event.TheVariants.{Tried, NoRoom, Moved, Collected, CollectAgain, CollectCut}
+use Rattle.si_model.specs.declared.log.Event.TheVariants.{TidyCut, TailCut, Finished}
 use Rattle.si_model.specs.declared.log.Log.{Log}
 use Rattle.si_model.specs.declared.report.CommitLine.{CommitLine}
 use Rattle.si_model.specs.declared.report.AuditRow.{AuditRow}
@@ -17,7 +19,9 @@ use Rattle.si_model.specs.Tells.{reads_in, locks_in}
 use Rattle.nam_catalog.specs.declared.shape.Table.{Table}
 use Rattle.nam_catalog.specs.Tables.{name_of}
 use Rattle.nam_text.specs.Kinds.{of, behind_spaces, text, line_text}
-use Rattle.nam_report.specs.Spelling.{lock, spelt_outcome, attempt_kind, move_kind, collect_kind, tidy_cut_kind, item_kind, lock_kind, spelt_event, history_kind, entry_kind, worker_kind, audit_kind, audit_row_kind}
+use Rattle.nam_report.specs.Spelling.{lock, spelt_outcome, attempt_kind, move_kind, collect_kind, tidy_cut_kind}
+use Rattle.nam_report.specs.Spelling.{item_kind, lock_kind, spelt_event, history_kind, entry_kind, worker_kind}
+use Rattle.nam_report.specs.Spelling.{audit_kind, audit_row_kind}
 
 -- a key: the name of its table and its number, each behind a space
 abbrev pub key_text : List Table → ℕ → ℕ → List ℕ

@@ -1,5 +1,6 @@
 -- Each kind of line, admitted.
-use Rattle.std.proofs.Common.{◌≡◌, ℕ, ◌-◌, ◌^◌, ◌<◌, ◌≤◌, Bool, true, eqb, ltb, leb, not, List, [], ◌∷◌, ◌++◌, length, Option, Some, None, Ok, refl, sym, ap, ◌∙◌, subst, arith}
+use Rattle.std.proofs.Common.{◌≡◌, ℕ, ◌-◌, ◌^◌, ◌<◌, ◌≤◌, Bool, true, eqb, ltb, leb, not, List, [], ◌∷◌, ◌++◌, length}
+use Rattle.std.proofs.Common.{Option, Some, None, Ok, refl, sym, ap, ◌∙◌, subst, arith}
 use Rattle.std.specs.Prelude.{is_some, is_ok, slice_index}
 use Rattle.std.proofs.lemmas.Bool.{leb-true, ltb-true, eqb-true}
 use Rattle.std.proofs.lemmas.List.{length-map}
@@ -17,14 +18,18 @@ use Rattle.nam_script.specs.declared.draft.Draft.{Draft}
 use Rattle.nam_script.specs.declared.stage.Stage.{Stage}
 use Rattle.nam_script.specs.declared.stage.Stage.TheVariants as stage
 use Rattle.nam_script.specs.Stages.{is_at, takes_table, takes_row, is_loaded, takes_turns}
-use Rattle.nam_script.specs.Checks.{within, small, all_small, key_of, all_stints, place_of, is_given, rows_in, total_within, steps_of}
+use Rattle.nam_script.specs.Checks.{within, small, all_small, key_of, all_stints, place_of, is_given, rows_in}
+use Rattle.nam_script.specs.Checks.{total_within, steps_of}
 use Rattle.nam_script.specs.Admit.{is_held, with_table, admit}
 use Rattle.nam_script.specs.Limits.{RowsFit, RowFits, IsKey}
 use Rattle.nam_script.specs.Lines.{spelt_line}
 use Rattle.nam_script.specs.Spelling.{IsGood, LineIsSmall, somes, spelt}
-use Rattle.nam_script.proofs.Chains.{ok_then, must_then, same_Ok, within_fits, total_is, all_small_is, all_stints_are, found_is, at_is}
+use Rattle.nam_script.proofs.Chains.{ok_then, must_then, same_Ok, within_fits, total_is, all_small_is, all_stints_are}
+use Rattle.nam_script.proofs.Chains.{found_is, at_is}
 use Rattle.nam_script.proofs.Kept.{InOrder, before_row, all_more, distinct_more, rows_in_more, loaded_at}
-use Rattle.nam_script.proofs.Steps.{Stands, Follows, setting_follows, not_true, none_some, table_follows, row_follows, txn_follows, all_somes, all_spelt, table_is, pushes, end_follows, turns_follow, seed_follows}
+use Rattle.nam_script.proofs.Steps.{Stands, Follows, setting_follows, not_true, none_some, table_follows, row_follows}
+use Rattle.nam_script.proofs.Steps.{txn_follows, all_somes, all_spelt, table_is, pushes, end_follows, turns_follow}
+use Rattle.nam_script.proofs.Steps.{seed_follows}
 
 version_line : (d e : Draft) → Stands d → admit d line.Version ≡ Ok e → Follows d line.Version e
 unfolding admit spelt_line

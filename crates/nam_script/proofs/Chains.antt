@@ -1,5 +1,7 @@
 -- What follows from a line's tests, one after the other.
-use Rattle.std.proofs.Common.{◌≡◌, ℕ, zero, suc, ◌+◌, ◌<◌, ◌≤◌, Bool, true, false, cond, ◌&&◌, ◌||◌, leb, List, [], ◌∷◌, map, length, Option, Some, None, Result, Ok, Err, refl, sym, ap, ◌∙◌, subst, arith, ◌⊎◌, inl, inr, add-zero}
+use Rattle.std.proofs.Common.{◌≡◌, ℕ, zero, suc, ◌+◌, ◌<◌, ◌≤◌, Bool, true, false, cond, ◌&&◌, ◌||◌, leb, List, []}
+use Rattle.std.proofs.Common.{◌∷◌, map, length, Option, Some, None, Result, Ok, Err, refl, sym, ap, ◌∙◌, subst, arith}
+use Rattle.std.proofs.Common.{◌⊎◌, inl, inr, add-zero}
 use Rattle.std.specs.Prelude.{slice_index}
 use Rattle.std.specs.List.{AllByRecursion}
 use Rattle.std.specs.Str.{bytes_eq}
@@ -13,9 +15,11 @@ use Rattle.nam_script.specs.declared.checks.Found.{Found}
 use Rattle.nam_script.specs.declared.script.Stint.{Stint}
 use Rattle.nam_script.specs.declared.line.SpeltStint.{SpeltStint}
 use Rattle.nam_script.specs.declared.stage.Stage.{Stage}
-use Rattle.nam_script.specs.declared.stage.Stage.TheVariants.{Empty, Version, Header, Workers, Tries, Tidy, Start, Overflow, Tables, Rows, Open, Between, Turns, Seed}
+use Rattle.nam_script.specs.declared.stage.Stage.TheVariants.{Empty, Version, Header, Workers, Tries, Tidy, Start}
+use Rattle.nam_script.specs.declared.stage.Stage.TheVariants.{Overflow, Tables, Rows, Open, Between, Turns, Seed}
 use Rattle.nam_script.specs.Stages.{rank, is_at}
-use Rattle.nam_script.specs.Checks.{◌>>=◌, must, within, stint_within, all_small, all_stints, place_from, place_of, total_within}
+use Rattle.nam_script.specs.Checks.{◌>>=◌, must, within, stint_within, all_small, all_stints, place_from, place_of}
+use Rattle.nam_script.specs.Checks.{total_within}
 use Rattle.nam_script.specs.Limits.{StintFits}
 use Rattle.nam_script.specs.Spelling.{somes, spelt}
 

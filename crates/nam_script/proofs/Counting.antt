@@ -1,5 +1,6 @@
 -- The lines of a script are fewer than 2^32 by its limits, so that a bad line's number can be told.
-use Rattle.std.proofs.Common.{◌≡◌, ℕ, zero, suc, ◌+◌, ◌*◌, ◌<◌, ◌≤◌, Bool, true, false, cond, eqb, List, [], ◌∷◌, ◌++◌, map, length, take, refl, sym, ap, arith, inl, inr, length-append}
+use Rattle.std.proofs.Common.{◌≡◌, ℕ, zero, suc, ◌+◌, ◌*◌, ◌<◌, ◌≤◌, Bool, true, false, cond, eqb, List, [], ◌∷◌}
+use Rattle.std.proofs.Common.{◌++◌, map, length, take, refl, sym, ap, arith, inl, inr, length-append}
 use Rattle.std.specs.Prelude.{slice_index, Ok, Some}
 use Rattle.std.specs.List.{AllByRecursion, flat_map}
 use Rattle.std.proofs.lemmas.List.Sums.{sum_by-cons}
@@ -19,7 +20,8 @@ use Rattle.nam_script.specs.Stages.{rank, is_at}
 use Rattle.nam_script.specs.Checks.{rows_in, steps_of}
 use Rattle.nam_script.specs.Admit.{start, admit_text}
 use Rattle.nam_script.specs.Limits.{RowFits, TxnFits, StintFits}
-use Rattle.nam_script.specs.Spelling.{setting_lines, table_line, row_line, op_line, txn_lines, turns_line, open_lines, seed_lines, lines_of_draft}
+use Rattle.nam_script.specs.Spelling.{setting_lines, table_line, row_line, op_line, txn_lines, turns_line, open_lines}
+use Rattle.nam_script.specs.Spelling.{seed_lines, lines_of_draft}
 use Rattle.nam_script.proofs.Steps.{AreGroups, Stands}
 use Rattle.nam_script.proofs.Texts.{text_step, start_stands}
 

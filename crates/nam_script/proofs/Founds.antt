@@ -1,5 +1,6 @@
 -- What is read is the text of the script, and the script keeps to its limits.
-use Rattle.std.proofs.Common.{◌≡◌, ℕ, ◌≤◌, Bool, true, false, cond, List, [], ◌∷◌, ◌++◌, map, Some, Result, Ok, Err, refl, sym, ap, ◌∙◌, subst, append_assoc, arith, inl, inr}
+use Rattle.std.proofs.Common.{◌≡◌, ℕ, ◌≤◌, Bool, true, false, cond, List, [], ◌∷◌, ◌++◌, map, Some, Result, Ok, Err}
+use Rattle.std.proofs.Common.{refl, sym, ap, ◌∙◌, subst, append_assoc, arith, inl, inr}
 use Rattle.std.specs.Prelude.{IfOk, None}
 use Rattle.std.specs.List.{flat_map}
 use Rattle.std.proofs.lemmas.List.{append-nil}
@@ -23,7 +24,8 @@ use Rattle.nam_script.specs.Stages.{rank, is_at, takes_turns}
 use Rattle.nam_script.specs.Text.{settings_text, table_text, row_text, txn_text, group_text, IsSpelt}
 use Rattle.nam_script.specs.Limits.{IsScript, TurnsFit}
 use Rattle.nam_script.specs.Parse.{Fault, draft_of, turns_of, whole_script, script_if, script_of, Gives}
-use Rattle.nam_script.specs.Spelling.{line_text, text_of, opening_lines, store_lines, setting_lines, table_line, row_line, txn_lines, turns_line}
+use Rattle.nam_script.specs.Spelling.{line_text, text_of, opening_lines, store_lines, setting_lines, table_line}
+use Rattle.nam_script.specs.Spelling.{row_line, txn_lines, turns_line}
 use Rattle.nam_script.proofs.Chains.{at_is, either}
 use Rattle.nam_script.proofs.Concat.{joined, same_parts}
 use Rattle.nam_script.proofs.Kept.{InOrder, before_turns}

@@ -1,5 +1,6 @@
 -- Stints that stand 64 to a line are printed so.
-use Rattle.std.proofs.Common.{◌≡◌, ℕ, ◌-◌, ◌≤◌, false, eqb, List, [], ◌∷◌, ◌++◌, length, refl, sym, ap, ◌∙◌, arith, append_assoc}
+use Rattle.std.proofs.Common.{◌≡◌, ℕ, ◌-◌, ◌≤◌, false, eqb, List, [], ◌∷◌, ◌++◌, length, refl, sym, ap, ◌∙◌, arith}
+use Rattle.std.proofs.Common.{append_assoc}
 use Rattle.std.specs.Prelude.{codes}
 use Rattle.std.specs.List.{flat_map, AllByRecursion}
 use Rattle.std.proofs.lemmas.Bool.{ne_eqb}
@@ -7,7 +8,8 @@ use Rattle.std.proofs.lemmas.List.{append-nil}
 use Rattle.nam_script.specs.declared.script.Stint.{Stint}
 use Rattle.nam_script.specs.declared.script.Turns.{Turns}
 use Rattle.nam_script.specs.declared.script.Turns.TheVariants as turns
-use Rattle.nam_script.specs.Text.{settings_text, table_text, row_text, txn_text, stint_text, stints_text, turns_text, group_text, grouped_turns, stints_in}
+use Rattle.nam_script.specs.Text.{settings_text, table_text, row_text, txn_text, stint_text, stints_text, turns_text}
+use Rattle.nam_script.specs.Text.{group_text, grouped_turns, stints_in}
 use Rattle.nam_script.proofs.Wording.{group_is}
 use Rattle.nam_script.specs.Grouping.{AreFull, GroupingLaw}
 

@@ -1,5 +1,6 @@
 -- Each kind of line keeps both laws: what is written is read, and only what is written is read.
-use Rattle.std.proofs.Common.{◌≡◌, ℕ, ◌+◌, Bool, true, false, cond, eqb, leb, List, [], ◌∷◌, ◌++◌, length, take, drop, Option, Some, None, refl, sym, ap, ◌∙◌, subst, add-one}
+use Rattle.std.proofs.Common.{◌≡◌, ℕ, ◌+◌, Bool, true, false, cond, eqb, leb, List, [], ◌∷◌, ◌++◌, length, take, drop}
+use Rattle.std.proofs.Common.{Option, Some, None, refl, sym, ap, ◌∙◌, subst, add-one}
 use Rattle.std.specs.Prelude.{codes}
 use Rattle.std.specs.List.{AllByRecursion, list_all, position}
 use Rattle.std.proofs.lemmas.Bool.{eqb-true, ne_eqb, and_from, and_parts}
@@ -11,13 +12,21 @@ use Rattle.nam_text.specs.Spelling.{IsPlain, IsField, FitsWord, IsWord, among}
 use Rattle.nam_text.specs.Kinds.{fields, IsKind}
 use Rattle.nam_text.proofs.Takes.{bind_then, if_then, number_takes}
 use Rattle.nam_text.proofs.Again.{number_again, decimal_starless}
-use Rattle.nam_text.proofs.Spellings.{number_plain, number_reads, number_is, name_is, choice_is, nothing_is, word_is, last_is, next_is, some_is}
+use Rattle.nam_text.proofs.Spellings.{number_plain, number_reads, number_is, name_is, choice_is, nothing_is, word_is}
+use Rattle.nam_text.proofs.Spellings.{last_is, next_is, some_is}
 use Rattle.nam_text.proofs.KindLemmas.{Takes, none_takes, or_takes, line_again, line_plain}
 use Rattle.nam_script.specs.declared.line.Change.{Change}
 use Rattle.nam_script.specs.declared.line.SpeltStint.{SpeltStint}
 use Rattle.nam_script.specs.declared.line.Line.{Line}
-use Rattle.nam_script.specs.declared.line.Line.TheVariants.{Version, Header, Workers, Tries, Tidy, Start, Overflow, Table, Row, Txn, Get, Put, Add, Del, Need, Guard, Scan, End, Turns, Seed}
-use Rattle.nam_script.specs.Lines.{form_word, form, switch_word, switch, change_text, is_zero as zero_amount, change_by, change_of, FitsChange, change, spelt_stint_text, parted_at, stint_of, FitsStint, stint, version_line, header_line, workers_line, tries_line, tidy_line, start_line, overflow_line, table_line, row_line, txn_line, get_line, put_line, add_line, del_line, need_line, guard_line, scan_line, end_line, turns_line, seed_line, spelt_line, op_of, body_of, word_of, line_of}
+use Rattle.nam_script.specs.declared.line.Line.TheVariants.{Version, Header, Workers, Tries, Tidy, Start, Overflow}
+use Rattle.nam_script.specs.declared.line.Line.TheVariants.{Table, Row, Txn, Get, Put, Add, Del, Need, Guard, Scan}
+use Rattle.nam_script.specs.declared.line.Line.TheVariants.{End, Turns, Seed}
+use Rattle.nam_script.specs.Lines.{form_word, form, switch_word, switch, change_text, is_zero as zero_amount}
+use Rattle.nam_script.specs.Lines.{change_by, change_of, FitsChange, change, spelt_stint_text, parted_at, stint_of}
+use Rattle.nam_script.specs.Lines.{FitsStint, stint, version_line, header_line, workers_line, tries_line, tidy_line}
+use Rattle.nam_script.specs.Lines.{start_line, overflow_line, table_line, row_line, txn_line, get_line, put_line}
+use Rattle.nam_script.specs.Lines.{add_line, del_line, need_line, guard_line, scan_line, end_line, turns_line}
+use Rattle.nam_script.specs.Lines.{seed_line, spelt_line, op_of, body_of, word_of, line_of}
 use Rattle.nam_script.specs.Spelling.{IsGood, LineIsSmall}
 use Rattle.nam_script.proofs.StintFields.{at_star, star_at, before_star, behind_star}
 

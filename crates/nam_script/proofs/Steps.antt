@@ -1,5 +1,7 @@
 -- A line that is admitted is the next of the draft's lines, and the lines keep to their limits.
-use Rattle.std.proofs.Common.{◌≡◌, ℕ, zero, suc, ◌+◌, ◌<◌, ◌≤◌, Bool, true, false, cond, ltb, not, List, [], ◌∷◌, ◌++◌, map, length, take, Option, Some, None, Ok, refl, sym, ap, ◌∙◌, subst, arith, length-append}
+use Rattle.std.proofs.Common.{◌≡◌, ℕ, zero, suc, ◌+◌, ◌<◌, ◌≤◌, Bool, true, false, cond, ltb, not, List, [], ◌∷◌}
+use Rattle.std.proofs.Common.{◌++◌, map, length, take, Option, Some, None, Ok, refl, sym, ap, ◌∙◌, subst, arith}
+use Rattle.std.proofs.Common.{length-append}
 use Rattle.std.specs.Prelude.{is_some, slice_index}
 use Rattle.std.specs.List.{AllByRecursion, flat_map}
 use Rattle.std.proofs.lemmas.Bool.{ltb-true}
@@ -33,10 +35,14 @@ use Rattle.nam_script.specs.Admit.{no_body, is_held, with_table, push_op}
 use Rattle.nam_script.specs.Limits.{RowsFit, OpHasKeys, TxnFits, StintFits}
 use Rattle.nam_text.specs.Spelling.{IsWord}
 use Rattle.nam_script.specs.Lines.{spelt_line}
-use Rattle.nam_script.specs.Spelling.{LineIsSmall, somes, spelt, setting_lines, table_line, row_line, op_line, turns_line, lines_of_draft}
+use Rattle.nam_script.specs.Spelling.{LineIsSmall, somes, spelt, setting_lines, table_line, row_line, op_line}
+use Rattle.nam_script.specs.Spelling.{turns_line, lines_of_draft}
 use Rattle.nam_script.proofs.Chains.{ok_then, must_then, same_Ok, total_is, IsFound, at_is}
-use Rattle.nam_script.proofs.Concat.{joined, same_parts, setting_more, table_more, row_more, txn_more, op_more, end_more, turns_more, seed_more}
-use Rattle.nam_script.proofs.Kept.{InOrder, Late, late_rows, late_between, late_turns, before_table, before_row, before_txn, before_turns, opened, Kept, bare_kept, absent_worker, all_more, all_both, keys_more, with_key, keys_are, ops_cost_more, txns_cost_more, steps_both}
+use Rattle.nam_script.proofs.Concat.{joined, same_parts, setting_more, table_more, row_more, txn_more, op_more}
+use Rattle.nam_script.proofs.Concat.{end_more, turns_more, seed_more}
+use Rattle.nam_script.proofs.Kept.{InOrder, Late, late_rows, late_between, late_turns, before_table, before_row}
+use Rattle.nam_script.proofs.Kept.{before_txn, before_turns, opened, Kept, bare_kept, absent_worker, all_more}
+use Rattle.nam_script.proofs.Kept.{all_both, keys_more, with_key, keys_are, ops_cost_more, txns_cost_more, steps_both}
 
 -- the stints in groups of 1 to 64
 abbrev pub AreGroups : List (List Stint) → List Stint → Type 0

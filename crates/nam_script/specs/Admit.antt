@@ -1,9 +1,12 @@
 -- Which line may come after the lines so far, and the first fault of one that may not.
-use Rattle.std.specs.Prelude.{◌≡◌, ℕ, List, [], ◌∷◌, ◌++◌, length, Option, Some, None, Result, Ok, Err, Bool, true, false, not, is_ok, is_some, nat_lt, nat_le, ◌==◌}
+use Rattle.std.specs.Prelude.{◌≡◌, ℕ, List, [], ◌∷◌, ◌++◌, length, Option, Some, None, Result, Ok, Err, Bool, true}
+use Rattle.std.specs.Prelude.{false, not, is_ok, is_some, nat_lt, nat_le, ◌==◌}
 use Rattle.si_model.specs.declared.op.Op.{Op}
 use Rattle.si_model.specs.declared.op.Op.TheVariants as op
-use Rattle.nam_catalog.specs.declared.bounds.TheConstants.{MOST_WORKERS, MOST_TRIES, MOST_BUCKETS, MOST_CELLS, MOST_TABLES, MOST_WIDTH}
-use Rattle.nam_catalog.specs.declared.bounds.TheConstants.{MOST_CAPACITY, MOST_RING, MOST_TXNS, MOST_TXN_OPS, MOST_OPS, MOST_TURNS, MOST_PICKS}
+use Rattle.nam_catalog.specs.declared.bounds.TheConstants.{MOST_WORKERS, MOST_TRIES, MOST_BUCKETS, MOST_CELLS}
+use Rattle.nam_catalog.specs.declared.bounds.TheConstants.{MOST_TABLES, MOST_WIDTH}
+use Rattle.nam_catalog.specs.declared.bounds.TheConstants.{MOST_CAPACITY, MOST_RING, MOST_TXNS, MOST_TXN_OPS}
+use Rattle.nam_catalog.specs.declared.bounds.TheConstants.{MOST_OPS, MOST_TURNS, MOST_PICKS}
 use Rattle.nam_catalog.specs.declared.form.Form.{Form}
 use Rattle.nam_catalog.specs.declared.form.Form.TheVariants.{Narrow, Wide, Held}
 use Rattle.nam_catalog.specs.declared.shape.Shape.{Shape}
@@ -24,7 +27,8 @@ use Rattle.nam_script.specs.declared.draft.Draft.{Draft}
 use Rattle.nam_script.specs.declared.stage.Stage.TheVariants as stage
 use Rattle.nam_script.specs.Lines.{line_of}
 use Rattle.nam_script.specs.Stages.{is_at, takes_table, takes_row, is_loaded, takes_turns}
-use Rattle.nam_script.specs.Checks.{◌>>=◌, must, within, small, all_small, key_of, all_stints, place_of, is_given, rows_in, total_within, keys_after, steps_of}
+use Rattle.nam_script.specs.Checks.{◌>>=◌, must, within, small, all_small, key_of, all_stints, place_of, is_given}
+use Rattle.nam_script.specs.Checks.{rows_in, total_within, keys_after, steps_of}
 
 -- nothing is loaded or run
 abbrev pub no_body : Body

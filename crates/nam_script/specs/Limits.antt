@@ -49,7 +49,8 @@ OpHasKeys (Need t k f least) = IsKey k
 OpHasKeys (Guard t k) = IsKey k
 OpHasKeys (Scan t low high) = (low ≤ high) × IsKey high
 
--- the operations of one transaction fit the tables, are as few as one transaction may have, and so are the keys that they write or guard
+-- the operations of one transaction fit the tables, and are no more than one may have; nor are the keys that they write
+-- or guard
 pub record OpsFit (tables : List Table) (ops : List Op) : Type 0 where
   pub fit : AllByRecursion (OpFits (widths_of tables)) ops
   pub keys : AllByRecursion OpHasKeys ops

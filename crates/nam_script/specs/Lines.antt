@@ -1,5 +1,6 @@
 -- The lines of a script: how each kind of line is spelt, and which line a list of fields spells.
-use Rattle.std.specs.Prelude.{◌≡◌, ℕ, ◌+◌, List, [], ◌∷◌, ◌++◌, take, drop, Option, Some, None, Bool, true, false, if◌then◌else◌, codes, ◌==◌}
+use Rattle.std.specs.Prelude.{◌≡◌, ℕ, ◌+◌, List, [], ◌∷◌, ◌++◌, take, drop, Option, Some, None, Bool, true, false}
+use Rattle.std.specs.Prelude.{if◌then◌else◌, codes, ◌==◌}
 use Rattle.std.specs.List.{position}
 use Rattle.nam_catalog.specs.declared.bounds.TheConstants.{MOST_WIDTH}
 use Rattle.nam_catalog.specs.declared.form.Form.{Form}
@@ -11,7 +12,9 @@ use Rattle.nam_text.specs.Kinds.{LineKind, kind, Spelt, of, Reader, no_line, or}
 use Rattle.nam_script.specs.declared.line.Change.{Change}
 use Rattle.nam_script.specs.declared.line.SpeltStint.{SpeltStint}
 use Rattle.nam_script.specs.declared.line.Line.{Line}
-use Rattle.nam_script.specs.declared.line.Line.TheVariants.{Version, Header, Workers, Tries, Tidy, Start, Overflow, Table, Row, Txn, Get, Put, Add, Del, Need, Guard, Scan, End, Turns, Seed}
+use Rattle.nam_script.specs.declared.line.Line.TheVariants.{Version, Header, Workers, Tries, Tidy, Start, Overflow}
+use Rattle.nam_script.specs.declared.line.Line.TheVariants.{Table, Row, Txn, Get, Put, Add, Del, Need, Guard, Scan}
+use Rattle.nam_script.specs.declared.line.Line.TheVariants.{End, Turns, Seed}
 
 -- ---- parts of lines
 

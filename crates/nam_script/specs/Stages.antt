@@ -1,7 +1,8 @@
 -- Which lines may come at which stage.
 use Rattle.std.specs.Prelude.{ℕ, Bool, ◌||◌, ◌==◌}
 use Rattle.nam_script.specs.declared.stage.Stage.{Stage}
-use Rattle.nam_script.specs.declared.stage.Stage.TheVariants.{Empty, Version, Header, Workers, Tries, Tidy, Start, Overflow, Tables, Rows, Open, Between, Turns, Seed}
+use Rattle.nam_script.specs.declared.stage.Stage.TheVariants.{Empty, Version, Header, Workers, Tries, Tidy, Start}
+use Rattle.nam_script.specs.declared.stage.Stage.TheVariants.{Overflow, Tables, Rows, Open, Between, Turns, Seed}
 
 -- the stages in their order
 abbrev pub rank : Stage → ℕ

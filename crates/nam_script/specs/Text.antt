@@ -13,7 +13,8 @@ use Rattle.nam_script.specs.declared.script.Turns.TheVariants as turns
 use Rattle.nam_script.specs.declared.script.Script.{Script}
 use Rattle.nam_script.specs.declared.line.Line.TheVariants as line
 use Rattle.nam_script.specs.Lines.{spelt_stint_text}
-use Rattle.nam_script.specs.Spelling.{line_text, text_of, spelt, opening_lines, store_lines, table_line, row_line, op_line, turns_line}
+use Rattle.nam_script.specs.Spelling.{line_text, text_of, spelt, opening_lines, store_lines, table_line, row_line}
+use Rattle.nam_script.specs.Spelling.{op_line, turns_line}
 
 -- the lines before the tables
 abbrev pub settings_text : Shape → Policy → List ℕ

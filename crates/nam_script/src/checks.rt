@@ -1,7 +1,8 @@
 //! The tests of numbers and names.
 
 ghost use Rattle.std.specs.Prelude.{◌≡◌, ◌≤◌, ◌<◌, length, IfOk};
-ghost use Rattle.nam_script.specs.Checks.{within, small, all_small, key_of, stint_within, all_stints, place_of, total_within, keys_after, steps_of};
+ghost use Rattle.nam_script.specs.Checks.{within, small, all_small, key_of, stint_within, all_stints, place_of};
+ghost use Rattle.nam_script.specs.Checks.{total_within, keys_after, steps_of};
 ghost use Rattle.nam_script.specs.Admit.{Takes};
 
 use crate::line::{Numbers, SpeltStint, SpeltStints};

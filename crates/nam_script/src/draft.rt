@@ -2,7 +2,9 @@
 
 ghost use Rattle.std.specs.Prelude.{◌≡◌, ◌<◌, IfOk};
 ghost use Rattle.nam_script.specs.Checks.{place_of};
-ghost use Rattle.nam_script.specs.Admit.{Takes, no_body, start, is_held, admit_version, admit_header, admit_workers, admit_tries, admit_tidy, admit_start, admit_overflow, admit_table, admit_row};
+ghost use Rattle.nam_script.specs.Admit.{Takes, no_body, start, is_held, admit_version, admit_header, admit_workers};
+ghost use Rattle.nam_script.specs.Admit.{admit_tries, admit_tidy, admit_start, admit_overflow, admit_table};
+ghost use Rattle.nam_script.specs.Admit.{admit_row};
 
 use crate::checks::{Found, all_small, key_of, place_of, within, within_u32};
 use crate::line::Numbers;

@@ -3,7 +3,10 @@
 ghost use Rattle.std.specs.Prelude.{◌≡◌};
 ghost use Rattle.nam_text.specs.Fields.{fields_of};
 ghost use Rattle.nam_text.specs.Kinds.{line_at};
-ghost use Rattle.nam_script.specs.Lines.{version_line, header_line, workers_line, tries_line, tidy_line, start_line, overflow_line, table_line, row_line, txn_line, get_line, put_line, add_line, del_line, need_line, guard_line, scan_line, end_line, turns_line, seed_line, op_of, body_of, word_of, line_of};
+ghost use Rattle.nam_script.specs.Lines.{version_line, header_line, workers_line, tries_line, tidy_line, start_line};
+ghost use Rattle.nam_script.specs.Lines.{overflow_line, table_line, row_line, txn_line, get_line, put_line, add_line};
+ghost use Rattle.nam_script.specs.Lines.{del_line, need_line, guard_line, scan_line, end_line, turns_line, seed_line};
+ghost use Rattle.nam_script.specs.Lines.{op_of, body_of, word_of, line_of};
 
 use crate::line::Line;
 use crate::parts::{change_at, form_at, stints_at, switch_at, values_at};

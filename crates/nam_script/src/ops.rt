@@ -1,7 +1,8 @@
 //! The lines of transactions and of turns.
 
 ghost use Rattle.std.specs.Prelude.{◌≡◌, ◌≤◌, ◌++◌, length, OnOk};
-ghost use Rattle.nam_script.specs.Admit.{Takes, admit_txn, push_op, admit_get, admit_put, admit_add, admit_del, admit_need, admit_guard, admit_scan, admit_end, admit_turns, admit_seed};
+ghost use Rattle.nam_script.specs.Admit.{Takes, admit_txn, push_op, admit_get, admit_put, admit_add, admit_del};
+ghost use Rattle.nam_script.specs.Admit.{admit_need, admit_guard, admit_scan, admit_end, admit_turns, admit_seed};
 
 use crate::checks::{
     all_small, all_stints, claim, key_of, small, steps_of, total_within, within_u32,

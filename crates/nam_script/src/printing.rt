@@ -4,7 +4,8 @@ ghost use Rattle.std.specs.Prelude.{◌≡◌, ◌++◌, ◌≤◌, codes, OnOk,
 ghost use Rattle.std.specs.List.{flat_map};
 ghost use Rattle.nam_script.specs.Lines.{form_word, switch_word, sign_text};
 ghost use Rattle.nam_script.specs.Spelling.{text_of, opening_lines, store_lines};
-ghost use Rattle.nam_script.specs.Text.{table_text, row_text, op_text, txn_text, stint_start, room_after, stint_text, stints_text, turns_text, script_text};
+ghost use Rattle.nam_script.specs.Text.{table_text, row_text, op_text, txn_text, stint_start, room_after, stint_text};
+ghost use Rattle.nam_script.specs.Text.{stints_text, turns_text, script_text};
 
 use crate::script::{Script, ScriptTxn, Stint, Turns};
 use nam_catalog::{Form, Shape, Table, name_at};

@@ -6,7 +6,8 @@ use Rattle.std.specs.Str.{bytes_eq}
 use Rattle.std.proofs.lemmas.Option.{same_Some}
 use Rattle.std.proofs.lemmas.Slice.Eq.{bytes_eq-Decides}
 use Rattle.nam_text.specs.Spelling.{IsPlain, IsSpelling}
-use Rattle.nam_text.specs.Kinds.{LineKind, Spelt, fields, behind_spaces, line_at, Reader, no_line, or, first_word, by_word, IsKind}
+use Rattle.nam_text.specs.Kinds.{LineKind, Spelt, fields, behind_spaces, line_at, Reader, no_line, or, first_word}
+use Rattle.nam_text.specs.Kinds.{by_word, IsKind}
 use Rattle.nam_text.proofs.Takes.{bind_then, if_then}
 
 -- what is read is spelt so, where its numbers are words

@@ -1,5 +1,6 @@
 -- What is written is read, and only what is written is read: so of each spelling that is made of such.
-use Rattle.std.proofs.Common.{◌≡◌, ℕ, zero, suc, ◌^◌, ◌<◌, ◌≤◌, Bool, true, false, eqb, ltb, leb, List, [], ◌∷◌, ◌++◌, map, length, Option, Some, None, refl, sym, ap, ◌∙◌, subst, arith, inl, inr}
+use Rattle.std.proofs.Common.{◌≡◌, ℕ, zero, suc, ◌^◌, ◌<◌, ◌≤◌, Bool, true, false, eqb, ltb, leb, List, [], ◌∷◌, ◌++◌}
+use Rattle.std.proofs.Common.{map, length, Option, Some, None, refl, sym, ap, ◌∙◌, subst, arith, inl, inr}
 use Rattle.std.specs.Prelude.{codes}
 use Rattle.std.specs.Fmt.{decimal}
 use Rattle.std.specs.List.{AllByRecursion}
@@ -10,7 +11,9 @@ use Rattle.std.proofs.lemmas.Option.{cond_some, same_Some}
 use Rattle.std.proofs.lemmas.Slice.Eq.{bytes_eq-Decides}
 use Rattle.nam_text.specs.Token.{number_of, number_text, is_name}
 use Rattle.nam_text.specs.Read.{◌>>=◌, word_at, field_at, done, all_read, some_read}
-use Rattle.nam_text.specs.Spelling.{IsPlain, Field, IsField, Spelling, IsSpelling, FitsWord, number, name, below_of, below, or_dash, among, choice, nothing, word, last, next, some, split_last, before, mark, mark_read, with_mark, if_dash, or_lone_dash, through}
+use Rattle.nam_text.specs.Spelling.{IsPlain, Field, IsField, Spelling, IsSpelling, FitsWord, number, name, below_of}
+use Rattle.nam_text.specs.Spelling.{below, or_dash, among, choice, nothing, word, last, next, some, split_last}
+use Rattle.nam_text.specs.Spelling.{before, mark, mark_read, with_mark, if_dash, or_lone_dash, through}
 use Rattle.nam_text.proofs.Takes.{bind_then, if_then, word_takes, number_takes}
 use Rattle.nam_text.proofs.Again.{number_again, decimal_plain, name_plain}
 

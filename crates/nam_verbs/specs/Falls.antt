@@ -4,8 +4,8 @@ use Rattle.nam_verbs.specs.declared.now.Now.{Now}
 use Rattle.nam_verbs.specs.declared.now.Now.TheVariants.{At, Over}
 
 module _ {P E : Type 0} where
-  -- The call goes on at a place that fits, with fewer verbs to come than n; or it ends as it may, and what its caller does
-  -- after that end takes fewer than n.
+  -- The call goes on at a place that fits, with fewer verbs to come than n; or it ends as it may, and what its caller
+  -- does after that end takes fewer than n.
   abbrev pub FallsTo : (P → Type 0) → (E → Type 0) → (P → ℕ) → (E → ℕ) → ℕ → Now P E → Type 0
   FallsTo Fits Ends left after n (At place) = Fits place × (left place < n)
   FallsTo Fits Ends left after n (Over end) = Ends end × (after end < n)

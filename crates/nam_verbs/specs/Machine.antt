@@ -2,7 +2,7 @@
 use Rattle.std.specs.Prelude.{◌≡◌, ℕ, zero, suc, List, [], ◌∷◌, Some, None, IsSome}
 use Rattle.nam_verbs.specs.Now.{FitsNow}
 use Rattle.nam_verbs.specs.Verb.{found_by, after_verb}
-use Rattle.nam_verbs.specs.Running.{Running, next_verb, after_found, end_of}
+use Rattle.nam_verbs.specs.Running.{Running, next_verb, after_found, end_of, verbs_left}
 
 module _ {W P E : Type 0} where
   -- the call after these found words
@@ -34,3 +34,7 @@ module _ {W P E : Type 0} where
     | None ↦ (call, words)
     | Some verb ↦ driven n (after_found call (found_by words verb)) (after_verb words verb)
   ]
+
+  -- and after as many verbs as are to come
+  abbrev pub driven_out : Running W P E → List ℕ → Running W P E × List ℕ
+  driven_out call words = driven (verbs_left call) call words

@@ -5,8 +5,8 @@ use Rattle.nam_verbs.specs.declared.now.Now.{Now}
 use Rattle.nam_verbs.specs.VerbAt.{VerbAt, verb_by}
 use Rattle.nam_verbs.specs.Now.{verb_now, after_now, end_now, left_now, stands_until_over}
 
--- the addresses of words by their names, and what they are all below; the verb of each place, what follows each word found
--- there, and how many verbs are to come from it at the most; and where the call stands
+-- the addresses of words by their names, and what they are all below; the verb of each place, what follows each word
+-- found there, and how many verbs are to come from it at the most; and where the call stands
 pub record Running (W P E : Type 0) : Type 0 where
   pub address : W → ℕ
   pub reach : ℕ

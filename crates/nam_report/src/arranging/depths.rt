@@ -76,7 +76,8 @@ fn deepest(reached: &BTreeMap<LevelKey, u64>, level: u64, writes: &[Item]) -> u6
 
 /// Gives a commit its next depth, and says whether that is another.
 fn deepen(commit: &mut Placed, reached: &BTreeMap<LevelKey, u64>) -> bool
-    ensures after { commit.new ≡ at_depth (deepest (reach_in reached.now) commit.old.level commit.old.line.writes) commit.old }
+    ensures after { commit.new
+        ≡ at_depth (deepest (reach_in reached.now) commit.old.level commit.old.line.writes) commit.old }
     ensures same { result ≡ false → commit.new ≡ commit.old }
 {
     let depth = deepest(reached, commit.level, commit.line.writes.as_slice());
@@ -87,7 +88,8 @@ fn deepen(commit: &mut Placed, reached: &BTreeMap<LevelKey, u64>) -> bool
 
 /// Gives the commits their next depths, and says whether any is another.
 fn deepen_each(placed: &mut [Placed], reached: &BTreeMap<LevelKey, u64>) -> bool
-    ensures after { placed.new ≡ map (λ p. at_depth (deepest (reach_in reached.now) p.level p.line.writes) p) placed.old }
+    ensures after { placed.new
+        ≡ map (λ p. at_depth (deepest (reach_in reached.now) p.level p.line.writes) p) placed.old }
     ensures same { result ≡ false → placed.new ≡ placed.old }
 {
     let mut changed = false;

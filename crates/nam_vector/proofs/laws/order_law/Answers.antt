@@ -1,4 +1,4 @@
-use Rattle.std.proofs.Common.{ap, subst, sym}
+use Rattle.std.proofs.Common.{subst, sym}
 use Rattle.std.specs.Prelude.{◌≡◌, ◌%◌, length, IfSome}
 use Rattle.nam_verbs.specs.declared.verb.Verb.TheVariants.{Read}
 use Rattle.nam_verbs.specs.Running.{next_verb}

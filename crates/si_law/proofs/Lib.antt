@@ -23,3 +23,5 @@ pub mod ListedOnce
 pub mod Fulls
 pub mod TheLaw
 mod GuardBesideExample
+pub mod GrowthSteps
+pub mod GrowthExample

@@ -93,7 +93,7 @@ committed snap = tried 0 snap (put ∷ []) [] (lock_on loader ∷ []) (seven ∷
 abbrev reading : Tell
 reading = tried 0 (0 ∷ []) (get ∷ []) (absent ∷ []) [] [] ReadOnly
 
-same_asked : AsksMore asked asked
+pub same_asked : AsksMore asked asked
 same_asked = record { ops = λ op l. l; by_calls = λ h. h }
 
 first_snapshot : IsNextSnapshot (setting 1) ([] ∷ []) (0 ∷ []) 0 (0 ∷ [])

@@ -25,3 +25,6 @@ pub mod TheLaw
 mod GuardBesideExample
 pub mod GrowthSteps
 pub mod GrowthExample
+pub mod GrowthOutcomesExample
+pub mod GrowthEventsExample
+mod GrowthOthersExample

@@ -10,9 +10,8 @@ use Rattle.si_model.specs.History.{loader}
 use Rattle.si_model.specs.Tells.{Tell}
 use Rattle.si_model.specs.Consistency.{AreConsistent}
 use Rattle.si_law.specs.Growth.{OwesQuietly}
-use Rattle.si_law.proofs.GrowthQuiet.{quiet_growth}
 use Rattle.si_law.proofs.GrowthSteps.{OwesAlone, owes_with, owes_without}
-use Rattle.si_law.proofs.GrowthExample.{setting, asked, committed, same_asked, commit_consistent}
+use Rattle.si_law.proofs.GrowthExample.{setting, asked, committed, locking, grown, commit_consistent}
 use Rattle.si_law.proofs.GrowthOutcomesExample.{second_snapshot}
 
 -- an event that owns no more than a snapshot
@@ -36,12 +35,11 @@ owes_moved = owes_without (setting 1) asked [] front (moved Done) [] refl (recor
   answers = tt;
   cause = (refl, refl, λ back. absurd cc);
   buckets = λ b key h. absurd (false≢true h);
-  free = λ key. refl;
+  stops = λ key h. absurd (false≢true h);
 })
 
 moved_consistent : AreConsistent (setting 1) asked ((committed (0 ∷ []) ∷ moved Done ∷ []) ∷ [])
-moved_consistent =
-    quiet_growth (setting 1) asked asked [] front [] (moved Done ∷ []) [] same_asked commit_consistent tt owes_moved
+moved_consistent = grown 1 [] front (moved Done) [] commit_consistent owes_moved
 
 owes_move_cut : OwesQuietly (setting 1) asked [] front [] (moved Cut ∷ []) []
 owes_move_cut = owes_without (setting 1) asked [] front (moved Cut) [] refl (record {
@@ -50,7 +48,7 @@ owes_move_cut = owes_without (setting 1) asked [] front (moved Cut) [] refl (rec
   answers = tt;
   cause = (refl, refl, λ back. absurd cc);
   buckets = λ b key h. absurd (false≢true h);
-  free = λ key. refl;
+  stops = λ key h. absurd (false≢true h);
 })
 
 -- the only cell is filled by the worker's own move
@@ -62,7 +60,7 @@ owes_no_room =
       answers = tt;
       cause = inl (omega arith);
       buckets = λ b key h. refl;
-      free = λ key. refl;
+      stops = λ key h. absurd (false≢true h);
     })
 
 owes_collected : (cut : Bool) → OwesQuietly (setting 1) asked [] front [] (collected cut ∷ []) []
@@ -72,7 +70,7 @@ owes_collected cut = owes_with (setting 1) asked [] front (collected cut) [] 1 r
   answers = tt;
   cause = refl;
   buckets = λ b key h. refl;
-  free = λ key. refl;
+  stops = λ key h. absurd (false≢true h);
 })
 
 owes_collect_cut : OwesQuietly (setting 1) asked [] front [] (told (CollectCut 0) [] ∷ []) []
@@ -82,7 +80,7 @@ owes_collect_cut = owes_without (setting 1) asked [] front (told (CollectCut 0) 
   answers = tt;
   cause = tt;
   buckets = λ b key h. refl;
-  free = λ key. refl;
+  stops = λ key h. absurd (false≢true h);
 })
 
 owes_tidy_cut : OwesQuietly (setting 1) asked [] front [] (told (TidyCut 0 0) [] ∷ []) []
@@ -92,8 +90,11 @@ owes_tidy_cut = owes_without (setting 1) asked [] front (told (TidyCut 0 0) []) 
   answers = tt;
   cause = tt;
   buckets = λ b key h. refl;
-  free = λ key. refl;
+  stops = λ key h. absurd (false≢true h);
 })
+
+tidy_cut_consistent : AreConsistent (setting 1) asked ((committed (0 ∷ []) ∷ told (TidyCut 0 0) [] ∷ []) ∷ [])
+tidy_cut_consistent = grown 1 [] front (told (TidyCut 0 0) []) [] commit_consistent owes_tidy_cut
 
 owes_clean : OwesQuietly (setting 1) asked [] (committed (0 ∷ []) ∷ told (TidyCut 0 0) [] ∷ []) []
     (told (Finished Clean) [] ∷ []) []
@@ -105,7 +106,7 @@ owes_clean =
       answers = tt;
       cause = (refl, refl);
       buckets = λ b key h. refl;
-      free = λ key. refl;
+      stops = λ key h. absurd (false≢true h);
     })
 
 -- a header names its holder, so that a commit may be stopped before its locks are given back
@@ -116,8 +117,11 @@ owes_tail_cut = owes_without (setting 1) asked [] front (told TailCut []) [] ref
   answers = tt;
   cause = refl;
   buckets = λ b key h. refl;
-  free = λ key. refl;
+  stops = λ key h. absurd (false≢true h);
 })
+
+tail_cut_consistent : AreConsistent (setting 1) asked ((committed (0 ∷ []) ∷ told TailCut [] ∷ []) ∷ [])
+tail_cut_consistent = grown 1 [] front (told TailCut []) [] commit_consistent owes_tail_cut
 
 owes_rolled_on : OwesQuietly (setting 1) asked [] (committed (0 ∷ []) ∷ told TailCut [] ∷ []) []
     (told (Finished RolledOn) [] ∷ []) []
@@ -129,5 +133,16 @@ owes_rolled_on =
       answers = tt;
       cause = (refl, refl);
       buckets = λ b key h. refl;
-      free = λ key. refl;
+      stops = λ key h. absurd (false≢true h);
     })
+
+-- nobody found the version that was given back
+owes_undone : OwesQuietly (setting 1) asked [] (locking (0 ∷ []) ∷ []) [] (told (Finished Undone) [] ∷ []) []
+owes_undone = owes_without (setting 1) asked [] (locking (0 ∷ []) ∷ []) (told (Finished Undone) []) [] refl (record {
+  silent = refl;
+  sees = tt;
+  answers = tt;
+  cause = (refl, refl);
+  buckets = λ b key h. refl;
+  stops = λ key h. inr refl;
+})

@@ -16,7 +16,7 @@ use Rattle.si_model.specs.Tells.{Tell, prefix_in}
 use Rattle.si_model.specs.Setting.{Setting, Asked}
 use Rattle.si_model.specs.Consistency.{AreConsistent}
 use Rattle.si_law.specs.Views.{AsksMore}
-use Rattle.si_law.specs.Growth.{OwesQuietly, OwesCommit}
+use Rattle.si_law.specs.Growth.{OwesQuietly, OwesCommit, ending}
 use Rattle.si_law.proofs.GrowthStart.{start_consistent}
 use Rattle.si_law.proofs.GrowthQuiet.{quiet_growth}
 use Rattle.si_law.proofs.GrowthCommit.{commit_growth}
@@ -96,6 +96,14 @@ reading = tried 0 (0 ∷ []) (get ∷ []) (absent ∷ []) [] [] ReadOnly
 pub same_asked : AsksMore asked asked
 same_asked = record { ops = λ op l. l; by_calls = λ h. h }
 
+-- logs that the event is listed in stay consistent
+pub grown : (workers : ℕ) (before : List (List Tell)) (ts : List Tell) (t : Tell) (after : List (List Tell))
+    → AreConsistent (setting workers) asked (ending before ts [] after)
+    → OwesQuietly (setting workers) asked before ts [] (t ∷ []) after
+    → AreConsistent (setting workers) asked (ending before ts (t ∷ []) after)
+grown workers before ts t after consistent owes =
+    quiet_growth (setting workers) asked asked before ts [] (t ∷ []) after same_asked consistent tt owes
+
 first_snapshot : IsNextSnapshot (setting 1) ([] ∷ []) (0 ∷ []) 0 (0 ∷ [])
 first_snapshot = record {
   sum = refl;
@@ -122,7 +130,7 @@ owes_reading = owes_first reading refl refl (record {
   answers = (([], refl, refl), tt);
   cause = tt;
   buckets = λ b key h. refl;
-  free = λ key. refl;
+  stops = λ key h. absurd (false≢true h);
 })
 
 owes_locking : OwesQuietly (setting 1) asked [] [] [] (locking (0 ∷ []) ∷ []) []
@@ -132,13 +140,11 @@ owes_locking = owes_first (locking (0 ∷ [])) refl refl (record {
   answers = ((([], refl), inr (seven ∷ [], [], refl, (omega arith, ([], refl)))), (refl, tt));
   cause = tt;
   buckets = λ b key h. refl;
-  free = λ key. refl;
+  stops = λ key h. absurd (false≢true h);
 })
 
-locking_consistent : AreConsistent (setting 1) asked ((locking (0 ∷ []) ∷ []) ∷ [])
-locking_consistent =
-    quiet_growth (setting 1) asked asked [] [] [] (locking (0 ∷ []) ∷ []) [] same_asked
-    (start_consistent (setting 1) asked) tt owes_locking
+pub locking_consistent : AreConsistent (setting 1) asked ((locking (0 ∷ []) ∷ []) ∷ [])
+locking_consistent = grown 1 [] [] (locking (0 ∷ [])) [] (start_consistent (setting 1) asked) owes_locking
 
 is_written : (same : Bool) → IsTrue (same || false) → IsTrue (if same then true else false)
 is_written true h = refl

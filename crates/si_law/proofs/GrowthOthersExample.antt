@@ -12,20 +12,60 @@ use Rattle.si_model.specs.Tells.{Tell}
 use Rattle.si_model.specs.Consistency.{AreConsistent}
 use Rattle.si_law.specs.Growth.{OwesQuietly, OwesCommit}
 use Rattle.si_law.proofs.GrowthStart.{start_consistent}
-use Rattle.si_law.proofs.GrowthQuiet.{quiet_growth}
 use Rattle.si_law.proofs.GrowthCommit.{commit_growth}
-use Rattle.si_law.proofs.GrowthSteps.{IsNextSnapshot, OwesAlone, next_moment, owes_with, owes_without}
+use Rattle.si_law.proofs.GrowthSteps.{IsNextSnapshot, OwesAlone, next_moment, keeps_nothing}
+use Rattle.si_law.proofs.GrowthSteps.{owes_with, owes_without}
 use Rattle.si_law.proofs.GrowthExample.{setting, asked, put, get, seven, lock_on, tried, locking, committed}
-use Rattle.si_law.proofs.GrowthExample.{same_asked}
+use Rattle.si_law.proofs.GrowthExample.{same_asked, grown}
 use Rattle.si_law.proofs.GrowthOutcomesExample.{untried}
 use Rattle.si_law.proofs.GrowthEventsExample.{told, moved}
 
 abbrev none : List ℕ
 none = 0 ∷ 0 ∷ []
 
--- the second worker's commit
+-- ---- the second worker commits
+
+nobody_snapshot : IsNextSnapshot (setting 2) ([] ∷ [] ∷ []) none 0 none
+nobody_snapshot = record {
+  sum = refl;
+  below = omega arith;
+  least = (omega arith, (omega arith, tt));
+  within = (omega arith, omega arith, (omega arith, omega arith, tt));
+  ordered = tt;
+  unguarded = tt;
+}
+
 abbrev other_commit : List (List Tell)
 other_commit = (committed none ∷ []) ∷ []
+
+owes_other_commit : OwesCommit (setting 2) asked ([] ∷ []) [] [] (committed none) [] []
+owes_other_commit = record {
+  commit = record {
+    number = refl;
+    guards = [];
+    evaluates = refl;
+    writes = omega arith;
+    locks = refl;
+    newest = (refl, tt);
+    sees_writers = λ d key l m writes. absurd l;
+  };
+  silent = tt;
+  owes = record {
+    listed = keeps_nothing (committed none ∷ []);
+    owned = (record { sum = refl; commit = λ h. refl }, tt);
+    moments = next_moment (setting 2) ([] ∷ [] ∷ []) none 0 (committed none) refl nobody_snapshot;
+    sees = (((omega arith, (omega arith, (omega arith, tt))), tt), tt);
+    causes = (tt, tt);
+    buckets = λ b key h. refl;
+  };
+  answers = tt;
+  stops = λ key h. absurd (false≢true h);
+}
+
+other_commit_consistent : AreConsistent (setting 2) asked ([] ∷ other_commit)
+other_commit_consistent =
+    commit_growth (setting 2) asked asked ([] ∷ []) [] [] (committed none) [] [] same_asked
+    (start_consistent (setting 2) asked) tt owes_other_commit
 
 commit_snapshot : IsNextSnapshot (setting 2) ([] ∷ other_commit) none 0 none
 commit_snapshot = record {
@@ -44,7 +84,7 @@ owes_again = owes_without (setting 2) asked [] [] (untried (Again 2 0 1)) other_
   answers = (refl, refl);
   cause = ((λ e. omega (arith, e)), omega arith, refl);
   buckets = λ b key h. refl;
-  free = λ key. refl;
+  stops = λ key h. absurd (false≢true h);
 })
 
 owes_collect_again : OwesQuietly (setting 2) asked [] [] [] (told (CollectAgain 0 2 0 1) [] ∷ []) other_commit
@@ -54,7 +94,7 @@ owes_collect_again = owes_without (setting 2) asked [] [] (told (CollectAgain 0 
   answers = tt;
   cause = ((λ e. omega (arith, e)), omega arith, refl);
   buckets = λ b key h. refl;
-  free = λ key. refl;
+  stops = λ key h. absurd (false≢true h);
 })
 
 abbrev newer : Tell
@@ -67,13 +107,26 @@ owes_newer = owes_with (setting 2) asked [] [] newer other_commit 0 refl commit_
   answers = ((seven ∷ [], [], refl, (omega arith, [], refl)), tt);
   cause = ((λ e. omega (arith, e)), refl, inl refl);
   buckets = λ b key h. refl;
-  free = λ key. refl;
+  stops = λ key h. absurd (false≢true h);
 })
 
 -- ---- the second worker is stopped under its lock
 
 abbrev other_lock : List (List Tell)
 other_lock = (locking none ∷ []) ∷ []
+
+owes_other_lock : OwesQuietly (setting 2) asked ([] ∷ []) [] [] (locking none ∷ []) []
+owes_other_lock = owes_with (setting 2) asked ([] ∷ []) [] (locking none) [] 0 refl nobody_snapshot (record {
+  silent = refl;
+  sees = ((omega arith, (omega arith, (omega arith, tt))), tt);
+  answers = ((([], refl), inr (seven ∷ [], [], refl, (omega arith, ([], refl)))), (refl, tt));
+  cause = tt;
+  buckets = λ b key h. refl;
+  stops = λ key h. absurd (false≢true h);
+})
+
+other_lock_consistent : AreConsistent (setting 2) asked ([] ∷ other_lock)
+other_lock_consistent = grown 2 ([] ∷ []) [] (locking none) [] (start_consistent (setting 2) asked) owes_other_lock
 
 lock_snapshot : IsNextSnapshot (setting 2) ([] ∷ other_lock) none 0 none
 lock_snapshot = record {
@@ -95,7 +148,7 @@ owes_locked = owes_with (setting 2) asked [] [] locked other_lock 0 refl lock_sn
   answers = ((seven ∷ [], [], refl, (omega arith, [], refl)), tt);
   cause = (refl, λ version. refl);
   buckets = λ b key h. refl;
-  free = λ key. refl;
+  stops = λ key h. absurd (false≢true h);
 })
 
 -- it had written the version, and not published it
@@ -106,13 +159,38 @@ owes_newer_stopped = owes_with (setting 2) asked [] [] newer other_lock 0 refl l
   answers = ((seven ∷ [], [], refl, (omega arith, [], refl)), tt);
   cause = ((λ e. omega (arith, e)), refl, inr (refl, refl));
   buckets = λ b key h. refl;
-  free = λ key. refl;
+  stops = λ key h. absurd (false≢true h);
 })
 
 -- ---- it has collected after its commit
 
+abbrev collected : Tell
+collected = told (Collected 0 1 (0 ∷ 1 ∷ []) false) (0 ∷ 1 ∷ [])
+
 abbrev other_collect : List (List Tell)
-other_collect = (committed none ∷ told (Collected 0 1 (0 ∷ 1 ∷ []) false) (0 ∷ 1 ∷ []) ∷ []) ∷ []
+other_collect = (committed none ∷ collected ∷ []) ∷ []
+
+owes_other_collect : OwesQuietly (setting 2) asked ([] ∷ []) (committed none ∷ []) [] (collected ∷ []) []
+owes_other_collect =
+    owes_with (setting 2) asked ([] ∷ []) (committed none ∷ []) collected [] 1 refl (record {
+      sum = refl;
+      below = omega arith;
+      least = (omega arith, (omega arith, tt));
+      within = (omega arith, omega arith, (omega arith, omega arith, tt));
+      ordered = (inr (omega arith, (omega arith, tt)), tt);
+      unguarded = (refl, tt);
+    }) (record {
+      silent = refl;
+      sees = (omega arith, (omega arith, (omega arith, tt)));
+      answers = tt;
+      cause = refl;
+      buckets = λ b key h. refl;
+      stops = λ key h. absurd (false≢true h);
+    })
+
+other_collect_consistent : AreConsistent (setting 2) asked ([] ∷ other_collect)
+other_collect_consistent =
+    grown 2 ([] ∷ []) (committed none ∷ []) collected [] other_commit_consistent owes_other_collect
 
 collect_snapshot : IsNextSnapshot (setting 2) ([] ∷ other_collect) none 0 none
 collect_snapshot = record {
@@ -134,13 +212,26 @@ owes_too_old = owes_with (setting 2) asked [] [] too_old other_collect 0 refl co
   answers = ((0, get, ([], refl), refl, (refl, refl), refl), tt);
   cause = ((λ e. omega (arith, e)), refl, omega arith, refl);
   buckets = λ b key h. refl;
-  free = λ key. refl;
+  stops = λ key h. absurd (false≢true h);
 })
 
 -- ---- it has moved the version
 
 abbrev other_move : List (List Tell)
 other_move = (moved Done ∷ []) ∷ []
+
+owes_other_move : OwesQuietly (setting 2) asked ([] ∷ []) [] [] (moved Done ∷ []) []
+owes_other_move = owes_without (setting 2) asked ([] ∷ []) [] (moved Done) [] refl (record {
+  silent = refl;
+  sees = tt;
+  answers = tt;
+  cause = (refl, refl, λ back. absurd cc);
+  buckets = λ b key h. absurd (false≢true h);
+  stops = λ key h. absurd (false≢true h);
+})
+
+other_move_consistent : AreConsistent (setting 2) asked ([] ∷ other_move)
+other_move_consistent = grown 2 ([] ∷ []) [] (moved Done) [] (start_consistent (setting 2) asked) owes_other_move
 
 keeps : (here same : Bool) → IsTrue ((here && same) || false) → IsTrue ((not same || here) && true)
 keeps true true h = refl
@@ -154,5 +245,5 @@ owes_back = owes_without (setting 2) asked [] [] (moved Back) other_move refl (r
   answers = tt;
   cause = (refl, refl, λ back. refl);
   buckets = λ b key h. keeps (0 == b) (same_key (key_at 0 0) key) h;
-  free = λ key. refl;
+  stops = λ key h. absurd (false≢true h);
 })

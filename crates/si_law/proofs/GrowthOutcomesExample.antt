@@ -1,5 +1,6 @@
 -- What the growth laws owe can be met by each outcome that needs no other worker.
 use Rattle.std.proofs.Common.{◌≡◌, ℕ, true, false, List, [], ◌∷◌, refl, arith, Some, None, inl, inr}
+use Rattle.std.proofs.lemmas.Bool.{false≢true}
 use Rattle.si_model.specs.declared.op.Op.{Op}
 use Rattle.si_model.specs.declared.log.Outcome.{Outcome}
 use Rattle.si_model.specs.declared.log.Outcome.TheVariants.{Declined, NoSpace, Spent, Full, Cut, Left}
@@ -33,7 +34,7 @@ owes_declined = owes_first declined refl refl (record {
   answers = ((refl, refl), tt);
   cause = tt;
   buckets = λ b key h. refl;
-  free = λ key. refl;
+  stops = λ key h. absurd (false≢true h);
 })
 
 abbrev without_room : Tell
@@ -46,7 +47,7 @@ owes_no_space = owes_first without_room refl refl (record {
   answers = ((0, put_second, ([], refl), (key_at 0 1, (refl, refl, refl), refl), (refl, refl), refl), tt);
   cause = tt;
   buckets = λ b key h. refl;
-  free = λ key. refl;
+  stops = λ key h. absurd (false≢true h);
 })
 
 -- before the read is listed
@@ -60,7 +61,7 @@ owes_cut = owes_first cut refl refl (record {
   answers = (((absent ∷ [], refl), inl refl), tt);
   cause = tt;
   buckets = λ b key h. refl;
-  free = λ key. refl;
+  stops = λ key h. absurd (false≢true h);
 })
 
 owes_cut_without : OwesQuietly (setting 1) asked [] [] [] (untried Cut ∷ []) []
@@ -70,7 +71,7 @@ owes_cut_without = owes_without (setting 1) asked [] [] (untried Cut) [] refl (r
   answers = (refl, refl);
   cause = tt;
   buckets = λ b key h. refl;
-  free = λ key. refl;
+  stops = λ key h. absurd (false≢true h);
 })
 
 abbrev left : Tell
@@ -83,7 +84,7 @@ owes_left = owes_first left refl refl (record {
   answers = ((refl, (absent ∷ [], refl), refl), tt);
   cause = tt;
   buckets = λ b key h. refl;
-  free = λ key. refl;
+  stops = λ key h. absurd (false≢true h);
 })
 
 -- ---- after the commit
@@ -112,7 +113,7 @@ owes_spent = owes_with (setting 1) asked [] front spent [] 1 refl second_snapsho
   answers = ((seven ∷ [], [], refl, (omega arith, refl)), tt);
   cause = refl;
   buckets = λ b key h. refl;
-  free = λ key. refl;
+  stops = λ key h. absurd (false≢true h);
 })
 
 -- the only slot holds the loader's version
@@ -126,5 +127,5 @@ owes_full = owes_with (setting 1) asked [] front full [] 1 refl second_snapshot 
   answers = ((seven ∷ [], [], refl, (refl, refl)), (refl, tt));
   cause = (refl, omega arith, refl);
   buckets = λ b key h. refl;
-  free = λ key. refl;
+  stops = λ key h. absurd (false≢true h);
 })

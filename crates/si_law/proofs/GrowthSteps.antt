@@ -9,7 +9,7 @@ use Rattle.si_model.specs.Lists.{Listed, concat_of}
 use Rattle.si_model.specs.Rows.{writes_key}
 use Rattle.si_model.specs.Evaluation.{guard_keys}
 use Rattle.si_model.specs.History.{stamp_of}
-use Rattle.si_model.specs.Tells.{Tell, prefix_in}
+use Rattle.si_model.specs.Tells.{Tell, prefix_in, last_number}
 use Rattle.si_model.specs.Commits.{Published, published_by, snaps_of, snaps_by}
 use Rattle.si_model.specs.Snapshots.{contains, sum_above}
 use Rattle.si_model.specs.View.{View}
@@ -21,7 +21,7 @@ use Rattle.si_model.specs.Consistency.{IsWithin, KeepsGuards, view_by}
 use Rattle.si_model.proofs.ListLemmas.{All-listed}
 use Rattle.si_law.specs.Views.{moves_key_into}
 use Rattle.si_law.specs.Growth.{IsMoment, IsNoCommit, OwesAtEnd, OwesQuietly, KeepsListed, ending, known_after_all}
-use Rattle.si_law.specs.Growth.{worker_of}
+use Rattle.si_law.specs.Growth.{worker_of, is_found}
 use Rattle.si_law.proofs.Outcomes.{owns_prefix, owns_nothing}
 
 abbrev pub IsOrderedWith : List ℕ → List ℕ → Type 0
@@ -71,7 +71,7 @@ module _ (s : Setting) (tss : List (List Tell)) (known : List ℕ) (p : ℕ) (t 
       }
 
 -- nothing is kept of an end without events
-keeps_nothing : (now : List Tell) → KeepsListed [] now
+pub keeps_nothing : (now : List Tell) → KeepsListed [] now
 keeps_nothing now = record {
   locks = λ key q h. absurd (false≢true h);
   entries = λ i n h. absurd (false≢true h);
@@ -97,21 +97,23 @@ module _ (s : Setting) (asked : Asked) (before : List (List Tell)) (ts : List Te
       (b : ℕ) (key : Key) → IsTrue (list_any (λ o. moves_key_into b key o.event) (concat_of logs_before))
       → IsTrue (keeps_bucket b key t.event && true)
 
-  -- what the event owes by itself, where the front doesn't end under a lock
+  -- what the event owes by itself
   pub record OwesAlone : Type 0 where
     pub silent : IsNoCommit t
     pub sees : SeesEvent view_before t known_before t.event
     pub answers : AnswersIn s asked view_before (worker_of before) t t.event
     pub cause : EventCause s view_before (ending before ts (t ∷ []) after) (worker_of before) ts t t.event
     pub buckets : KeepsBuckets
-    pub free : (key : Key) → ends_locking key (ts ++ []) ≡ false
+    pub stops :
+        (key : Key) → IsTrue (ends_locking key (ts ++ []))
+        → IsTrue (ends_locking key (ts ++ t ∷ [])) ⊎ (is_found key (last_number s.start ts) before ts [] after ≡ false)
 
   owes_quietly : OwesAlone → OwesAtEnd s before ts [] (t ∷ []) after → OwesQuietly s asked before ts [] (t ∷ []) after
   owes_quietly h owes = record {
     silent = (h.silent, tt);
     owes = owes;
     answers = (h.answers, tt);
-    stops = λ key locked. absurd (false≢true (subst IsTrue (h.free key) locked));
+    stops = h.stops;
   }
 
   -- with a snapshot

@@ -1,5 +1,5 @@
 -- What the growth laws owe can be met by each event of a tidying and of a stopped worker that needs no other worker.
-use Rattle.std.proofs.Common.{◌≡◌, ℕ, true, false, Bool, List, [], ◌∷◌, refl, arith, Some, None, inl, inr}
+use Rattle.std.proofs.Common.{ℕ, Bool, List, [], ◌∷◌, refl, arith, inl, inr}
 use Rattle.std.proofs.lemmas.Bool.{false≢true}
 use Rattle.si_model.specs.declared.log.MoveEnd.{MoveEnd}
 use Rattle.si_model.specs.declared.log.MoveEnd.TheVariants.{Done, Cut}
@@ -10,7 +10,7 @@ use Rattle.si_model.specs.History.{loader}
 use Rattle.si_model.specs.Tells.{Tell}
 use Rattle.si_model.specs.Consistency.{AreConsistent}
 use Rattle.si_law.specs.Growth.{OwesQuietly}
-use Rattle.si_law.proofs.GrowthSteps.{OwesAlone, owes_with, owes_without}
+use Rattle.si_law.proofs.GrowthSteps.{owes_with, owes_without}
 use Rattle.si_law.proofs.GrowthExample.{setting, asked, committed, locking, grown, commit_consistent}
 use Rattle.si_law.proofs.GrowthOutcomesExample.{second_snapshot}
 

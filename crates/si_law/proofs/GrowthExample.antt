@@ -90,7 +90,7 @@ locking snap = tried 0 snap (put ∷ []) [] (lock_on loader ∷ []) [] Cut
 abbrev pub committed : List ℕ → Tell
 committed snap = tried 0 snap (put ∷ []) [] (lock_on loader ∷ []) (seven ∷ []) (Commit 1)
 
-abbrev reading : Tell
+abbrev pub reading : Tell
 reading = tried 0 (0 ∷ []) (get ∷ []) (absent ∷ []) [] [] ReadOnly
 
 pub same_asked : AsksMore asked asked

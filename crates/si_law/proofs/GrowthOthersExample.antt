@@ -1,8 +1,7 @@
 -- What the growth laws owe can be met by each outcome and event that another worker brings about.
-use Rattle.std.proofs.Common.{◌≡◌, ℕ, Bool, true, false, List, [], ◌∷◌, refl, arith, Some, None, inl, inr}
+use Rattle.std.proofs.Common.{ℕ, Bool, true, false, List, [], ◌∷◌, refl, arith, inl, inr}
 use Rattle.std.specs.Prelude.{IsTrue, ◌==◌, ◌&&◌, ◌||◌, not}
 use Rattle.std.proofs.lemmas.Bool.{false≢true}
-use Rattle.si_model.specs.declared.log.Outcome.{Outcome}
 use Rattle.si_model.specs.declared.log.Outcome.TheVariants.{Again, Locked, Newer, TooOld}
 use Rattle.si_model.specs.declared.log.MoveEnd.TheVariants.{Done, Back}
 use Rattle.si_model.specs.declared.log.Event.TheVariants.{Collected, CollectAgain}
@@ -13,7 +12,7 @@ use Rattle.si_model.specs.Consistency.{AreConsistent}
 use Rattle.si_law.specs.Growth.{OwesQuietly, OwesCommit}
 use Rattle.si_law.proofs.GrowthStart.{start_consistent}
 use Rattle.si_law.proofs.GrowthCommit.{commit_growth}
-use Rattle.si_law.proofs.GrowthSteps.{IsNextSnapshot, OwesAlone, next_moment, keeps_nothing}
+use Rattle.si_law.proofs.GrowthSteps.{IsNextSnapshot, next_moment, keeps_nothing}
 use Rattle.si_law.proofs.GrowthSteps.{owes_with, owes_without}
 use Rattle.si_law.proofs.GrowthExample.{setting, asked, put, get, seven, lock_on, tried, locking, committed}
 use Rattle.si_law.proofs.GrowthExample.{same_asked, grown}

@@ -1,7 +1,6 @@
 -- What the growth laws owe can be met by each outcome that needs no other worker.
-use Rattle.std.proofs.Common.{◌≡◌, ℕ, true, false, List, [], ◌∷◌, refl, arith, Some, None, inl, inr}
+use Rattle.std.proofs.Common.{List, [], ◌∷◌, refl, arith, None, inl, inr}
 use Rattle.std.proofs.lemmas.Bool.{false≢true}
-use Rattle.si_model.specs.declared.op.Op.{Op}
 use Rattle.si_model.specs.declared.log.Outcome.{Outcome}
 use Rattle.si_model.specs.declared.log.Outcome.TheVariants.{Declined, NoSpace, Spent, Full, Cut, Left}
 use Rattle.si_model.specs.declared.log.Event.TheVariants.{Tried}
@@ -9,7 +8,7 @@ use Rattle.si_model.specs.Rows.{key_at}
 use Rattle.si_model.specs.History.{stamp_at, loader}
 use Rattle.si_model.specs.Tells.{Tell}
 use Rattle.si_law.specs.Growth.{OwesQuietly}
-use Rattle.si_law.proofs.GrowthSteps.{IsNextSnapshot, OwesAlone, owes_with, owes_without}
+use Rattle.si_law.proofs.GrowthSteps.{IsNextSnapshot, owes_with, owes_without}
 use Rattle.si_law.proofs.GrowthExample.{setting, asked, put, get, need, put_second, absent, seven, lock_on, tried}
 use Rattle.si_law.proofs.GrowthExample.{committed, owes_first}
 
@@ -51,7 +50,7 @@ owes_no_space = owes_first without_room refl refl (record {
 })
 
 -- before the read is listed
-abbrev cut : Tell
+abbrev pub cut : Tell
 cut = tried 0 (0 ∷ []) (get ∷ []) [] [] [] Cut
 
 owes_cut : OwesQuietly (setting 1) asked [] [] [] (cut ∷ []) []
@@ -117,7 +116,7 @@ owes_spent = owes_with (setting 1) asked [] front spent [] 1 refl second_snapsho
 })
 
 -- the only slot holds the loader's version
-abbrev full : Tell
+abbrev pub full : Tell
 full = tried 1 (1 ∷ []) (put ∷ []) [] (lock_on (stamp_at 1 1) ∷ []) [] (Full (lock_on loader))
 
 owes_full : OwesQuietly (setting 1) asked [] front [] (full ∷ []) []

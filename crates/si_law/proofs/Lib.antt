@@ -28,3 +28,4 @@ pub mod GrowthExample
 pub mod GrowthOutcomesExample
 pub mod GrowthEventsExample
 mod GrowthOthersExample
+mod GrowthExchangesExample

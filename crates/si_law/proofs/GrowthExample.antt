@@ -146,7 +146,7 @@ owes_locking = owes_first (locking (0 ∷ [])) refl refl (record {
 pub locking_consistent : AreConsistent (setting 1) asked ((locking (0 ∷ []) ∷ []) ∷ [])
 locking_consistent = grown 1 [] [] (locking (0 ∷ [])) [] (start_consistent (setting 1) asked) owes_locking
 
-is_written : (same : Bool) → IsTrue (same || false) → IsTrue (if same then true else false)
+pub is_written : (same : Bool) → IsTrue (same || false) → IsTrue (if same then true else false)
 is_written true h = refl
 is_written false h = absurd (false≢true h)
 

@@ -1,21 +1,22 @@
--- What the growth laws owe can be met where an end is given up for another, and not where that would take away another
--- worker's cause.
-use Rattle.std.proofs.Common.{◌≡◌, ℕ, true, false, List, [], ◌∷◌, refl, arith, Some, None, inl, inr}
+-- What the growth laws owe can be met where an end is given up for another. Where another worker found the version that
+-- a stopped one wrote, its commit can be completed, and not undone.
+use Rattle.std.proofs.Common.{List, [], ◌∷◌, refl, arith, inl, inr}
 use Rattle.std.proofs.lemmas.Bool.{false≢true}
-use Rattle.si_model.specs.declared.log.Outcome.{Outcome}
-use Rattle.si_model.specs.declared.log.Outcome.TheVariants.{Full, Cut, Newer}
-use Rattle.si_model.specs.declared.log.MoveEnd.TheVariants.{Done as WellDone, Cut as MoveCut}
-use Rattle.si_model.specs.declared.log.Finish.TheVariants.{Undone}
+use Rattle.si_model.specs.declared.log.Outcome.TheVariants.{Cut}
+use Rattle.si_model.specs.declared.log.MoveEnd.TheVariants.{Done as WellDone}
+use Rattle.si_model.specs.declared.log.Finish.TheVariants.{Undone, RolledOn}
 use Rattle.si_model.specs.declared.log.Event.TheVariants.{NoRoom, CollectCut, TidyCut, Finished}
-use Rattle.si_model.specs.History.{stamp_at, loader}
+use Rattle.si_model.specs.History.{stamp_at}
 use Rattle.si_model.specs.Tells.{Tell}
 use Rattle.si_model.specs.Consistency.{AreConsistent}
-use Rattle.si_law.specs.Growth.{OwesQuietly, KeepsListed}
-use Rattle.si_law.proofs.GrowthSteps.{IsNextSnapshot, OwesAlone, next_moment, owes_with}
-use Rattle.si_law.proofs.GrowthExample.{setting, asked, put, get, absent, seven, lock_on, tried, locking, committed}
-use Rattle.si_law.proofs.GrowthExample.{reading, owes_first, grown, commit_consistent}
+use Rattle.si_law.specs.Growth.{OwesQuietly, OwesCommit}
+use Rattle.si_law.proofs.GrowthSteps.{IsNextSnapshot, next_moment, owes_with}
+use Rattle.si_law.proofs.GrowthExample.{setting, asked, put, seven, lock_on, tried, locking, committed}
+use Rattle.si_law.proofs.GrowthExample.{reading, same_asked, grown, is_written, commit_consistent}
 use Rattle.si_law.proofs.GrowthOutcomesExample.{cut, second_snapshot, full}
+use Rattle.si_law.proofs.GrowthCommit.{commit_growth}
 use Rattle.si_law.proofs.GrowthEventsExample.{told, moved}
+use Rattle.si_law.proofs.GrowthOthersExample.{none, newer, newer_consistent}
 
 -- ---- a read is listed
 
@@ -129,14 +130,65 @@ owes_tidying = record {
   stops = λ key h. absurd (false≢true h);
 }
 
--- ---- a worker that was stopped under its lock can't be undone where another one found the version that it wrote
+-- ---- a worker was stopped under its lock, and another one found the version that it wrote
 
-abbrev none : List ℕ
-none = 0 ∷ 0 ∷ []
+abbrev found : List (List Tell)
+found = (newer ∷ []) ∷ (locking none ∷ []) ∷ []
 
-abbrev newer : Tell
-newer = tried 0 none (put ∷ []) [] [] [] (Newer (lock_on (stamp_at 2 1)))
+found_snapshot : IsNextSnapshot (setting 2) found none 0 none
+found_snapshot = record {
+  sum = refl;
+  below = omega arith;
+  least = (omega arith, (omega arith, tt));
+  within = (omega arith, omega arith, (omega arith, omega arith, tt));
+  ordered = (inl (omega arith, (omega arith, tt)), (inl (omega arith, (omega arith, tt)), tt));
+  unguarded = tt;
+}
 
+-- its commit is completed
+owes_completed : OwesCommit (setting 2) asked ((newer ∷ []) ∷ []) [] (locking none ∷ []) (committed none)
+    (told (Finished RolledOn) [] ∷ []) []
+owes_completed = record {
+  commit = record {
+    number = refl;
+    guards = [];
+    evaluates = refl;
+    writes = omega arith;
+    locks = refl;
+    newest = (refl, tt);
+    sees_writers = λ d key l m writes. absurd l;
+  };
+  silent = (refl, tt);
+  owes = record {
+    listed = record {
+      locks = λ key q h. h;
+      entries = λ i n h. absurd (false≢true h);
+      collects = λ h. absurd (false≢true h);
+      done = λ key q h. absurd (false≢true h);
+      moves = λ b. omega arith;
+    };
+    owned = (
+      record { sum = refl; commit = λ h. refl },
+      (record { sum = tt; commit = λ h. absurd (false≢true h) }, tt),
+    );
+    moments = λ snap l.
+        let its = next_moment (setting 2) found none 0 (committed none) refl found_snapshot snap l in
+        record { within = its.within; ordered = its.ordered; guards = its.guards };
+    sees = (((omega arith, (omega arith, (omega arith, tt))), tt), (tt, tt));
+    causes = (tt, ((refl, refl), tt));
+    buckets = λ b key h. refl;
+  };
+  answers = (tt, tt);
+  stops = λ key h. inl (is_written _ h);
+}
+
+completed_consistent : AreConsistent (setting 2) asked
+    ((newer ∷ []) ∷ (committed none ∷ told (Finished RolledOn) [] ∷ []) ∷ [])
+completed_consistent =
+    commit_growth (setting 2) asked asked ((newer ∷ []) ∷ []) [] (locking none ∷ []) (committed none)
+    (told (Finished RolledOn) [] ∷ []) [] same_asked newer_consistent (refl, tt) owes_completed
+
+-- it can't be undone
 undone_found : AreConsistent (setting 2) asked
     ((newer ∷ []) ∷ (locking none ∷ told (Finished Undone) [] ∷ []) ∷ []) → ⊥
 undone_found h =

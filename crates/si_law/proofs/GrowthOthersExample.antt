@@ -19,7 +19,7 @@ use Rattle.si_law.proofs.GrowthExample.{same_asked, grown}
 use Rattle.si_law.proofs.GrowthOutcomesExample.{untried}
 use Rattle.si_law.proofs.GrowthEventsExample.{told, moved}
 
-abbrev none : List ℕ
+abbrev pub none : List ℕ
 none = 0 ∷ 0 ∷ []
 
 -- ---- the second worker commits
@@ -96,7 +96,7 @@ owes_collect_again = owes_without (setting 2) asked [] [] (told (CollectAgain 0 
   stops = λ key h. absurd (false≢true h);
 })
 
-abbrev newer : Tell
+abbrev pub newer : Tell
 newer = tried 0 none (put ∷ []) [] [] [] (Newer (lock_on (stamp_at 2 1)))
 
 owes_newer : OwesQuietly (setting 2) asked [] [] [] (newer ∷ []) other_commit
@@ -111,7 +111,7 @@ owes_newer = owes_with (setting 2) asked [] [] newer other_commit 0 refl commit_
 
 -- ---- the second worker is stopped under its lock
 
-abbrev other_lock : List (List Tell)
+abbrev pub other_lock : List (List Tell)
 other_lock = (locking none ∷ []) ∷ []
 
 owes_other_lock : OwesQuietly (setting 2) asked ([] ∷ []) [] [] (locking none ∷ []) []
@@ -160,6 +160,9 @@ owes_newer_stopped = owes_with (setting 2) asked [] [] newer other_lock 0 refl l
   buckets = λ b key h. refl;
   stops = λ key h. absurd (false≢true h);
 })
+
+pub newer_consistent : AreConsistent (setting 2) asked ((newer ∷ []) ∷ other_lock)
+newer_consistent = grown 2 [] [] newer other_lock other_lock_consistent owes_newer_stopped
 
 -- ---- it has collected after its commit
 

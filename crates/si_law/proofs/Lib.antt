@@ -27,5 +27,5 @@ pub mod GrowthSteps
 pub mod GrowthExample
 pub mod GrowthOutcomesExample
 pub mod GrowthEventsExample
-mod GrowthOthersExample
+pub mod GrowthOthersExample
 mod GrowthExchangesExample

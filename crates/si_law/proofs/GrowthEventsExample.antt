@@ -5,13 +5,15 @@ use Rattle.si_model.specs.declared.log.MoveEnd.{MoveEnd}
 use Rattle.si_model.specs.declared.log.MoveEnd.TheVariants.{Done, Cut}
 use Rattle.si_model.specs.declared.log.Finish.TheVariants.{Clean, Undone, RolledOn}
 use Rattle.si_model.specs.declared.log.Event.{Event}
-use Rattle.si_model.specs.declared.log.Event.TheVariants.{NoRoom, Moved, Collected, CollectCut, TidyCut, TailCut, Finished}
+use Rattle.si_model.specs.declared.log.Event.TheVariants.{NoRoom, Moved, Collected, CollectCut, TidyCut, TailCut}
+use Rattle.si_model.specs.declared.log.Event.TheVariants.{Finished}
 use Rattle.si_model.specs.History.{loader}
 use Rattle.si_model.specs.Tells.{Tell}
 use Rattle.si_model.specs.Consistency.{AreConsistent}
 use Rattle.si_law.specs.Growth.{OwesQuietly}
 use Rattle.si_law.proofs.GrowthSteps.{owes_with, owes_without}
-use Rattle.si_law.proofs.GrowthExample.{setting, asked, committed, locking, grown, commit_consistent}
+use Rattle.si_law.proofs.GrowthExample.{setting, asked, committed, locking, front, grown}
+use Rattle.si_law.proofs.GrowthExample.{commit_consistent}
 use Rattle.si_law.proofs.GrowthOutcomesExample.{second_snapshot}
 
 -- an event that owns no more than a snapshot
@@ -24,9 +26,6 @@ moved how = told (Moved 0 0 0 loader how) []
 
 abbrev collected : Bool → Tell
 collected cut = told (Collected 0 1 (1 ∷ []) cut) (1 ∷ [])
-
-abbrev front : List Tell
-front = committed (0 ∷ []) ∷ []
 
 owes_moved : OwesQuietly (setting 1) asked [] front [] (moved Done ∷ []) []
 owes_moved = owes_without (setting 1) asked [] front (moved Done) [] refl (record {

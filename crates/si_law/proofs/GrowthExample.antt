@@ -20,7 +20,7 @@ use Rattle.si_law.specs.Growth.{OwesQuietly, OwesCommit, ending}
 use Rattle.si_law.proofs.GrowthStart.{start_consistent}
 use Rattle.si_law.proofs.GrowthQuiet.{quiet_growth}
 use Rattle.si_law.proofs.GrowthCommit.{commit_growth}
-use Rattle.si_law.proofs.GrowthSteps.{IsNextSnapshot, OwesAlone, next_moment, owes_with}
+use Rattle.si_law.proofs.GrowthSteps.{IsNextSnapshot, OwesAlone, next_moment, keeps_tried, owes_with}
 
 -- one table of one field and one position, with a ring of one slot; a bucket has one cell, a worker one commit number
 abbrev pub setting : ℕ → Setting
@@ -146,9 +146,9 @@ owes_locking = owes_first (locking (0 ∷ [])) refl refl (record {
 pub locking_consistent : AreConsistent (setting 1) asked ((locking (0 ∷ []) ∷ []) ∷ [])
 locking_consistent = grown 1 [] [] (locking (0 ∷ [])) [] (start_consistent (setting 1) asked) owes_locking
 
-pub is_written : (same : Bool) → IsTrue (same || false) → IsTrue (if same then true else false)
-is_written true h = refl
-is_written false h = absurd (false≢true h)
+pub writes_same : (same : Bool) → IsTrue (same || false) → IsTrue (if same then true else false)
+writes_same true h = refl
+writes_same false h = absurd (false≢true h)
 
 owes_commit : OwesCommit (setting 1) asked [] [] (locking (0 ∷ []) ∷ []) (committed (0 ∷ [])) [] []
 owes_commit = record {
@@ -163,13 +163,7 @@ owes_commit = record {
   };
   silent = tt;
   owes = record {
-    listed = record {
-      locks = λ key q h. h;
-      entries = λ i n h. absurd (false≢true h);
-      collects = λ h. absurd (false≢true h);
-      done = λ key q h. absurd (false≢true h);
-      moves = λ b. omega arith;
-    };
+    listed = keeps_tried (locking (0 ∷ [])) _ (committed (0 ∷ []) ∷ []) refl (λ key q h. h);
     owned = (record { sum = refl; commit = λ h. refl }, tt);
     moments = next_moment (setting 1) ((locking (0 ∷ []) ∷ []) ∷ []) (0 ∷ []) 0 (committed (0 ∷ [])) refl (record {
       sum = refl;
@@ -184,10 +178,13 @@ owes_commit = record {
     buckets = λ b key h. refl;
   };
   answers = tt;
-  stops = λ key h. inl (is_written _ h);
+  stops = λ key h. inl (writes_same _ h);
 }
 
-pub commit_consistent : AreConsistent (setting 1) asked ((committed (0 ∷ []) ∷ []) ∷ [])
+abbrev pub front : List Tell
+front = committed (0 ∷ []) ∷ []
+
+pub commit_consistent : AreConsistent (setting 1) asked (front ∷ [])
 commit_consistent =
     commit_growth (setting 1) asked asked [] [] (locking (0 ∷ []) ∷ []) (committed (0 ∷ [])) [] [] same_asked
     locking_consistent (refl, tt) owes_commit

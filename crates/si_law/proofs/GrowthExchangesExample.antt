@@ -10,9 +10,10 @@ use Rattle.si_model.specs.History.{stamp_at}
 use Rattle.si_model.specs.Tells.{Tell}
 use Rattle.si_model.specs.Consistency.{AreConsistent}
 use Rattle.si_law.specs.Growth.{OwesQuietly, OwesCommit}
-use Rattle.si_law.proofs.GrowthSteps.{IsNextSnapshot, next_moment, owes_with}
+use Rattle.si_law.proofs.GrowthSteps.{IsNextSnapshot, next_moment, keeps_tried}
+use Rattle.si_law.proofs.GrowthSteps.{owes_with}
 use Rattle.si_law.proofs.GrowthExample.{setting, asked, put, seven, lock_on, tried, locking, committed}
-use Rattle.si_law.proofs.GrowthExample.{reading, same_asked, grown, is_written, commit_consistent}
+use Rattle.si_law.proofs.GrowthExample.{reading, same_asked, front, grown, writes_same, commit_consistent}
 use Rattle.si_law.proofs.GrowthOutcomesExample.{cut, second_snapshot, full}
 use Rattle.si_law.proofs.GrowthCommit.{commit_growth}
 use Rattle.si_law.proofs.GrowthEventsExample.{told, moved}
@@ -34,13 +35,7 @@ owes_read : OwesQuietly (setting 1) asked [] [] (cut ∷ []) (reading ∷ []) []
 owes_read = record {
   silent = (refl, tt);
   owes = record {
-    listed = record {
-      locks = λ key q h. h;
-      entries = λ i n h. absurd (false≢true h);
-      collects = λ h. absurd (false≢true h);
-      done = λ key q h. absurd (false≢true h);
-      moves = λ b. omega arith;
-    };
+    listed = keeps_tried cut _ (reading ∷ []) refl (λ key q h. h);
     owned = (record { sum = refl; commit = λ h. absurd (false≢true h) }, tt);
     moments = next_moment (setting 1) ((cut ∷ []) ∷ []) (0 ∷ []) 0 reading refl cut_snapshot;
     sees = (((omega arith, (omega arith, tt)), tt), tt);
@@ -52,9 +47,6 @@ owes_read = record {
 }
 
 -- ---- a commit is given up under its lock, since the ring is full
-
-abbrev front : List Tell
-front = committed (0 ∷ []) ∷ []
 
 abbrev holding : Tell
 holding = tried 1 (1 ∷ []) (put ∷ []) [] (lock_on (stamp_at 1 1) ∷ []) [] Cut
@@ -86,13 +78,7 @@ owes_given_up : OwesQuietly (setting 1) asked [] front (holding ∷ []) (full �
 owes_given_up = record {
   silent = (refl, tt);
   owes = record {
-    listed = record {
-      locks = λ key q h. h;
-      entries = λ i n h. absurd (false≢true h);
-      collects = λ h. absurd (false≢true h);
-      done = λ key q h. absurd (false≢true h);
-      moves = λ b. omega arith;
-    };
+    listed = keeps_tried holding _ (full ∷ []) refl (λ key q h. h);
     owned = (record { sum = refl; commit = λ h. absurd (false≢true h) }, tt);
     moments = next_moment (setting 1) ((committed (0 ∷ []) ∷ holding ∷ []) ∷ []) (1 ∷ []) 1 full refl holding_snapshot;
     sees = (((omega arith, (omega arith, tt)), tt), tt);
@@ -160,13 +146,7 @@ owes_completed = record {
   };
   silent = (refl, tt);
   owes = record {
-    listed = record {
-      locks = λ key q h. h;
-      entries = λ i n h. absurd (false≢true h);
-      collects = λ h. absurd (false≢true h);
-      done = λ key q h. absurd (false≢true h);
-      moves = λ b. omega arith;
-    };
+    listed = keeps_tried (locking none) _ (committed none ∷ told (Finished RolledOn) [] ∷ []) refl (λ key q h. h);
     owned = (
       record { sum = refl; commit = λ h. refl },
       (record { sum = tt; commit = λ h. absurd (false≢true h) }, tt),
@@ -179,7 +159,7 @@ owes_completed = record {
     buckets = λ b key h. refl;
   };
   answers = (tt, tt);
-  stops = λ key h. inl (is_written _ h);
+  stops = λ key h. inl (writes_same _ h);
 }
 
 completed_consistent : AreConsistent (setting 2) asked

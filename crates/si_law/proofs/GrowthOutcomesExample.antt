@@ -1,5 +1,5 @@
 -- What the growth laws owe can be met by each outcome that needs no other worker.
-use Rattle.std.proofs.Common.{List, [], ◌∷◌, refl, arith, None, inl, inr}
+use Rattle.std.proofs.Common.{[], ◌∷◌, refl, arith, None, inl, inr}
 use Rattle.std.proofs.lemmas.Bool.{false≢true}
 use Rattle.si_model.specs.declared.log.Outcome.{Outcome}
 use Rattle.si_model.specs.declared.log.Outcome.TheVariants.{Declined, NoSpace, Spent, Full, Cut, Left}
@@ -10,7 +10,7 @@ use Rattle.si_model.specs.Tells.{Tell}
 use Rattle.si_law.specs.Growth.{OwesQuietly}
 use Rattle.si_law.proofs.GrowthSteps.{IsNextSnapshot, owes_with, owes_without}
 use Rattle.si_law.proofs.GrowthExample.{setting, asked, put, get, need, put_second, absent, seven, lock_on, tried}
-use Rattle.si_law.proofs.GrowthExample.{committed, owes_first}
+use Rattle.si_law.proofs.GrowthExample.{front, owes_first}
 
 -- an attempt without a snapshot
 abbrev pub untried : Outcome → Tell
@@ -87,9 +87,6 @@ owes_left = owes_first left refl refl (record {
 })
 
 -- ---- after the commit
-
-abbrev front : List Tell
-front = committed (0 ∷ []) ∷ []
 
 pub second_snapshot : IsNextSnapshot (setting 1) (front ∷ []) (1 ∷ []) 1 (1 ∷ [])
 second_snapshot = record {

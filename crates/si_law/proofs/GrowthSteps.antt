@@ -1,10 +1,13 @@
 -- What an end of one event owes after an end without events, from plain facts, where no commit has guards.
 use Rattle.std.proofs.Common.{◌≡◌, ℕ, ◌≤◌, true, false, inl, inr, List, [], ◌∷◌, ◌++◌, length, ap, subst}
 use Rattle.std.proofs.Common.{Some, None, arith}
-use Rattle.std.specs.Prelude.{IsTrue, ◌&&◌, ◌⊎◌, not, if◌then◌else◌, is_some, replicate}
+use Rattle.std.specs.Prelude.{IsTrue, ◌&&◌, ◌||◌, ◌⊎◌, not, if◌then◌else◌, is_some, replicate}
 use Rattle.std.specs.List.{list_any, AllByRecursion}
 use Rattle.std.proofs.lemmas.Bool.{false≢true}
 use Rattle.si_model.specs.declared.row.Key.{Key}
+use Rattle.si_model.specs.declared.log.Stamp.{Stamp}
+use Rattle.si_model.specs.declared.log.Attempt.{Attempt}
+use Rattle.si_model.specs.declared.log.Event.TheVariants.{Tried}
 use Rattle.si_model.specs.Lists.{Listed, concat_of}
 use Rattle.si_model.specs.Rows.{writes_key}
 use Rattle.si_model.specs.Evaluation.{guard_keys}
@@ -16,13 +19,38 @@ use Rattle.si_model.specs.View.{View}
 use Rattle.si_model.specs.Setting.{Setting, Asked}
 use Rattle.si_model.specs.Knowledge.{AreAtMost, SeesEvent}
 use Rattle.si_model.specs.Answers.{AnswersIn}
-use Rattle.si_model.specs.Causes.{keeps_bucket, ends_locking, EventCause}
+use Rattle.si_model.specs.Causes.{lists_lock, collects_entry, has_collected, moves_into, moves_version, is_done}
+use Rattle.si_model.specs.Causes.{move_count, keeps_bucket, ends_locking, EventCause}
 use Rattle.si_model.specs.Consistency.{IsWithin, KeepsGuards, view_by}
 use Rattle.si_model.proofs.ListLemmas.{All-listed}
 use Rattle.si_law.specs.Views.{moves_key_into}
 use Rattle.si_law.specs.Growth.{IsMoment, IsNoCommit, OwesAtEnd, OwesQuietly, KeepsListed, ending, known_after_all}
 use Rattle.si_law.specs.Growth.{worker_of, is_found}
 use Rattle.si_law.proofs.Outcomes.{owns_prefix, owns_nothing}
+
+-- nothing is kept of an end without events
+pub keeps_nothing : (now : List Tell) → KeepsListed [] now
+keeps_nothing now = record {
+  locks = λ key q h. absurd (false≢true h);
+  entries = λ i n h. absurd (false≢true h);
+  collects = λ h. absurd (false≢true h);
+  done = λ key q h. absurd (false≢true h);
+  moves = λ b. omega arith;
+}
+
+-- of an attempt the locks are
+pub keeps_tried : (t : Tell) (a : Attempt) (now : List Tell) → t.event ≡ Tried a
+    → ((key : Key) (q : Stamp) → IsTrue (lists_lock key q t || false) → IsTrue (list_any (lists_lock key q) now))
+    → KeepsListed (t ∷ []) now
+keeps_tried t a now is locks = record {
+  locks = locks;
+  entries = λ i n h. absurd (false≢true (subst (λ e. IsTrue (collects_entry i n e || false)) is h));
+  collects = λ h. absurd (false≢true (subst (λ e. IsTrue (has_collected e || false)) is h));
+  done = λ key q h. absurd (false≢true (subst (λ e. IsTrue (moves_version is_done key q e || false)) is h));
+  moves = λ b.
+      let none : move_count b (t ∷ []) ≡ 0 = ap (λ e. length (if moves_into b e then t ∷ [] else [])) is in
+      omega (arith, none);
+}
 
 abbrev pub IsOrderedWith : List ℕ → List ℕ → Type 0
 IsOrderedWith a b = AreAtMost a b ⊎ AreAtMost b a
@@ -69,16 +97,6 @@ module _ (s : Setting) (tss : List (List Tell)) (known : List ℕ) (p : ℕ) (t 
             ];
         guards = none_overtaken (published_by tss) t.snap next.unguarded;
       }
-
--- nothing is kept of an end without events
-pub keeps_nothing : (now : List Tell) → KeepsListed [] now
-keeps_nothing now = record {
-  locks = λ key q h. absurd (false≢true h);
-  entries = λ i n h. absurd (false≢true h);
-  collects = λ h. absurd (false≢true h);
-  done = λ key q h. absurd (false≢true h);
-  moves = λ b. omega arith;
-}
 
 module _ (s : Setting) (asked : Asked) (before : List (List Tell)) (ts : List Tell) (t : Tell)
     (after : List (List Tell)) where

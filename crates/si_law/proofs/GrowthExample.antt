@@ -1,16 +1,18 @@
--- What the growth laws owe can be met: a cut under a lock, the commit in its place, and a read, each the smallest.
+-- What the growth laws owe can be met: a cut under a lock, the commit in its place, a read, and a commit with a guard,
+-- each the smallest.
 use Rattle.std.proofs.Common.{◌≡◌, ℕ, Bool, true, false, List, [], ◌∷◌, refl, sym, subst}
 use Rattle.std.proofs.Common.{arith, Some, None, inl, inr}
 use Rattle.std.specs.Prelude.{IsTrue, ◌||◌, if◌then◌else◌}
 use Rattle.std.proofs.lemmas.Bool.{false≢true}
 use Rattle.si_model.specs.declared.row.Item.{Item}
 use Rattle.si_model.specs.declared.op.Op.{Op}
-use Rattle.si_model.specs.declared.op.Op.TheVariants.{Get, Put, Need}
+use Rattle.si_model.specs.declared.op.Op.TheVariants.{Get, Put, Need, Guard}
 use Rattle.si_model.specs.declared.log.Stamp.{Stamp}
 use Rattle.si_model.specs.declared.log.Lock.{Lock}
 use Rattle.si_model.specs.declared.log.Outcome.{Outcome}
 use Rattle.si_model.specs.declared.log.Outcome.TheVariants.{Commit, ReadOnly, Cut}
 use Rattle.si_model.specs.declared.log.Event.TheVariants.{Tried}
+use Rattle.si_model.specs.Rows.{key_at}
 use Rattle.si_model.specs.History.{loader}
 use Rattle.si_model.specs.Tells.{Tell, prefix_in}
 use Rattle.si_model.specs.Setting.{Setting, Asked}
@@ -20,7 +22,8 @@ use Rattle.si_law.specs.Growth.{OwesQuietly, OwesCommit, ending}
 use Rattle.si_law.proofs.GrowthStart.{start_consistent}
 use Rattle.si_law.proofs.GrowthQuiet.{quiet_growth}
 use Rattle.si_law.proofs.GrowthCommit.{commit_growth}
-use Rattle.si_law.proofs.GrowthSteps.{IsNextSnapshot, OwesAlone, next_moment, keeps_tried, owes_with}
+use Rattle.si_law.proofs.GrowthSteps.{IsNextSnapshot, OwesAlone, next_moment, keeps_nothing, keeps_tried}
+use Rattle.si_law.proofs.GrowthSteps.{owes_with}
 
 -- one table of one field and one position, with a ring of one slot; a bucket has one cell, a worker one commit number
 abbrev pub setting : ℕ → Setting
@@ -188,3 +191,34 @@ pub commit_consistent : AreConsistent (setting 1) asked (front ∷ [])
 commit_consistent =
     commit_growth (setting 1) asked asked [] [] (locking (0 ∷ []) ∷ []) (committed (0 ∷ [])) [] [] same_asked
     locking_consistent (refl, tt) owes_commit
+
+-- ---- a commit that guards the second key, with no end before
+
+abbrev guarding : Tell
+guarding =
+    tried 0 (0 ∷ []) (Guard 0 1 ∷ put ∷ []) (record { table = 0; key = 1; value = None } ∷ [])
+    (lock_on loader ∷ record { table = 0; key = 1; stamp = loader } ∷ []) (seven ∷ []) (Commit 1)
+
+owes_guarding : OwesCommit (setting 1) asked [] [] [] guarding [] []
+owes_guarding = record {
+  commit = record {
+    number = refl;
+    guards = key_at 0 1 ∷ [];
+    evaluates = refl;
+    writes = omega arith;
+    locks = refl;
+    newest = (refl, (refl, tt));
+    sees_writers = λ d key l m writes. absurd l;
+  };
+  silent = tt;
+  owes = record {
+    listed = keeps_nothing (guarding ∷ []);
+    owned = (record { sum = refl; commit = λ h. refl }, tt);
+    moments = next_moment (setting 1) ([] ∷ []) (0 ∷ []) 0 guarding refl first_snapshot;
+    sees = (((omega arith, (omega arith, tt)), tt), tt);
+    causes = (tt, tt);
+    buckets = λ b key h. refl;
+  };
+  answers = tt;
+  stops = λ key h. absurd (false≢true h);
+}

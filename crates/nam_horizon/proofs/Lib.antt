@@ -1,3 +1,4 @@
 pub mod OldLemmas
 pub mod CollectLemmas
 pub mod ExchangeLemmas
+pub mod MomentLemmas

@@ -1,4 +1,5 @@
 pub mod Collect
 pub mod Old
 pub mod CollectLaw
+pub mod MomentLaw
 pub mod OldLaw

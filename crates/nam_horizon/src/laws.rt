@@ -1,6 +1,7 @@
 //! What the machines make of the words that their verbs find, whatever these words are.
 
 ghost use Rattle.nam_horizon.specs.CollectLaw.{CollectLaw, KnownLaw, ExchangeLaw, CollectFieldLaw};
+ghost use Rattle.nam_horizon.specs.MomentLaw.{MomentLaw, NextExchangeLaw, NoWriteLaw};
 ghost use Rattle.nam_horizon.specs.OldLaw.{TooOldLaw, NotPassedLaw, OldFieldLaw};
 
 /// A collection ends with a horizon exactly where it became known entry after entry, and then cell after cell was
@@ -16,6 +17,16 @@ pub fn collect_law()
 /// end is within the horizon that the collection ends with for the free tag of the next generation.
 pub fn exchange_law()
     ensures { ExchangeLaw }
+{}
+
+/// At each moment, whatever words were found so far, a collection knows the entries that it found or wrote, in order of
+/// workers, and the cells before the one where it stands were collected under all of them. Each exchange raises a lower
+/// entry, found just before, to the snapshot's, or frees a full cell whose end is within the known horizon, once all
+/// entries are known; and nothing else is written.
+pub fn moment_law()
+    ensures so_far { MomentLaw }
+    ensures exchanges { NextExchangeLaw }
+    ensures no_write { NoWriteLaw }
 {}
 
 /// A snapshot is too old exactly at the first worker whose horizon entry was found to be above the snapshot's, and it

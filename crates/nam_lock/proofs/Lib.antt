@@ -3,3 +3,4 @@ pub mod LockingLemmas
 pub mod TakenLemmas
 pub mod UnlockingLemmas
 pub mod FieldLemmas
+pub mod MomentLemmas

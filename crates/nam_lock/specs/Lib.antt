@@ -5,3 +5,4 @@ pub mod TakenLaw
 pub mod Unlocking
 pub mod UnlockingLaw
 pub mod FieldLaw
+pub mod MomentLaw

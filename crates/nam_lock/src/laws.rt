@@ -1,6 +1,7 @@
 //! What the calls do and how they end, whatever words their verbs find.
 
 ghost use Rattle.nam_lock.specs.LockingLaw.{LockingLaw, LockingAtFields};
+ghost use Rattle.nam_lock.specs.MomentLaw.{MomentLaw, MomentAtFields, StoredLaw, StoredAtFields};
 ghost use Rattle.nam_lock.specs.TakenLaw.{TakenLaw};
 ghost use Rattle.nam_lock.specs.UnlockingLaw.{UnlockingLaw, UnlockingAtFields};
 ghost use Rattle.nam_lock.specs.FieldLaw.{LockingFieldLaw, UnlockingFieldLaw};
@@ -14,6 +15,17 @@ ghost use Rattle.nam_lock.specs.FieldLaw.{LockingFieldLaw, UnlockingFieldLaw};
 pub fn locking_law()
     ensures machine { LockingLaw }
     ensures fields { LockingAtFields }
+{}
+
+/// At each moment, whatever words were found so far, a locking has done nothing but take locks in order, read or lose
+/// the next one, and then write back the first of the headers that it exchanged, as they were. So what it has stored
+/// are the headers of the first `taken` records with the worker's lock, and then the first of these without it. The
+/// machine's words are the headers of its places; the same holds of the protocol's call.
+pub fn moment_law()
+    ensures machine { MomentLaw }
+    ensures fields { MomentAtFields }
+    ensures stored { StoredLaw }
+    ensures stored_fields { StoredAtFields }
 {}
 
 /// After any words, a locking has taken as many locks as there were exchanges that found the word that they expected.

@@ -7,6 +7,8 @@ mod OldVersionsExample
 mod GuardsExample
 mod ScansExample
 mod FusesExample
+mod RareExample
+mod PolicyExample
 pub mod FallsKeys
 pub mod FallsCommit
 pub mod FallsTxn

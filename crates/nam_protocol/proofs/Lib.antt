@@ -9,6 +9,8 @@ mod ScansExample
 mod FusesExample
 mod RareExample
 mod PolicyExample
+mod ClientExample
+mod WorldExample
 pub mod FallsKeys
 pub mod FallsCommit
 pub mod FallsTxn

@@ -1,6 +1,5 @@
 -- A client's calls with their answers: alone on the words of a store, and with found words that others may have left.
 use Rattle.std.proofs.Common.{◌≡◌, ℕ, zero, suc, true, false, List, [], ◌∷◌, ◌++◌, length, Option, Some, None, refl}
-use Rattle.si_model.specs.declared.log.Stamp.{Stamp}
 use Rattle.si_model.specs.declared.log.Lock.{Lock}
 use Rattle.si_model.specs.declared.log.Outcome.{Outcome}
 use Rattle.si_model.specs.declared.log.Event.TheVariants.{NoRoom, Collected, CollectAgain}
@@ -211,98 +210,98 @@ begin_again = refl
 -- the version that it looks for is nowhere, and the horizon has passed the snapshot
 get_too_old : heard pair worker_1 (begun ∷ asked (Txn (Get 0 0)) (1 ∷ newer_header ∷ mark ∷ 0 ∷ 0 ∷ 3 ∷ []) ∷ [])
     ≡ record {
-  answers = told_begun ∷ told_txn (txn.TooOld 2 0 3) ∷ [];
-  log = log_of (outcome.TooOld 2 0 3) [];
-}
+      answers = told_begun ∷ told_txn (txn.TooOld 2 0 3) ∷ [];
+      log = log_of (outcome.TooOld 2 0 3) [];
+    }
 get_too_old = refl
 
 -- it is nowhere, and the horizon has not passed
 get_astray : heard pair worker_1 (begun ∷ asked (Txn (Get 0 0)) (1 ∷ newer_header ∷ mark ∷ 0 ∷ 0 ∷ 0 ∷ []) ∷ [])
     ≡ record {
-  answers = told_begun ∷ told_txn txn.Astray ∷ [];
-  log = log_of outcome.Left [];
-}
+      answers = told_begun ∷ told_txn txn.Astray ∷ [];
+      log = log_of outcome.Left [];
+    }
 get_astray = refl
 
 -- the same at the second position of a scan, which then lists no row
 scan_too_old : heard pair worker_1 (
-      begun
-      ∷ asked (Scan 0 0 9) (1 ∷ 0 ∷ 5 ∷ 0 ∷ 2 ∷ newer_header ∷ mark ∷ 0 ∷ 0 ∷ 3 ∷ [])
-      ∷ []
+    begun
+    ∷ asked (Scan 0 0 9) (1 ∷ 0 ∷ 5 ∷ 0 ∷ 2 ∷ newer_header ∷ mark ∷ 0 ∷ 0 ∷ 3 ∷ [])
+    ∷ []
     ) ≡ record {
-  answers = told_begun ∷ told_txn (txn.TooOld 2 0 3) ∷ [];
-  log = log_of (outcome.TooOld 2 0 3) [];
-}
+      answers = told_begun ∷ told_txn (txn.TooOld 2 0 3) ∷ [];
+      log = log_of (outcome.TooOld 2 0 3) [];
+    }
 scan_too_old = refl
 
 scan_astray : heard pair worker_1 (
-      begun
-      ∷ asked (Scan 0 0 9) (1 ∷ 0 ∷ 5 ∷ 0 ∷ 2 ∷ newer_header ∷ mark ∷ 0 ∷ 0 ∷ 0 ∷ [])
-      ∷ []
+    begun
+    ∷ asked (Scan 0 0 9) (1 ∷ 0 ∷ 5 ∷ 0 ∷ 2 ∷ newer_header ∷ mark ∷ 0 ∷ 0 ∷ 0 ∷ [])
+    ∷ []
     ) ≡ record {
-  answers = told_begun ∷ told_txn txn.Astray ∷ [];
-  log = log_of outcome.Left [];
-}
+      answers = told_begun ∷ told_txn txn.Astray ∷ [];
+      log = log_of outcome.Left [];
+    }
 scan_astray = refl
 
 -- the second of two records is locked: the first lock is listed, and given back
 second_locked : heard pair worker_1 (
-      begun
-      ∷ asked (Txn (Put 0 0 (7 ∷ []))) (1 ∷ [])
-      ∷ asked (Txn (Put 0 1 (7 ∷ []))) (2 ∷ [])
-      ∷ asked (Txn Commit) (0 ∷ 0 ∷ with_lock Narrow 2 0 ∷ 0 ∷ [])
-      ∷ []
+    begun
+    ∷ asked (Txn (Put 0 0 (7 ∷ []))) (1 ∷ [])
+    ∷ asked (Txn (Put 0 1 (7 ∷ []))) (2 ∷ [])
+    ∷ asked (Txn Commit) (0 ∷ 0 ∷ with_lock Narrow 2 0 ∷ 0 ∷ [])
+    ∷ []
     ) ≡ record {
-  answers = told_begun ∷ told_txn txn.Written ∷ told_txn txn.Written ∷ told_txn (txn.Locked (lock 0 1 0 0)) ∷ [];
-  log = log_of (outcome.Locked (lock 0 1 0 0)) (lock 0 0 0 0 ∷ []);
-}
+      answers = told_begun ∷ told_txn txn.Written ∷ told_txn txn.Written ∷ told_txn (txn.Locked (lock 0 1 0 0)) ∷ [];
+      log = log_of (outcome.Locked (lock 0 1 0 0)) (lock 0 0 0 0 ∷ []);
+    }
 second_locked = refl
 
 -- another has committed between the look and the exchange
 newer_at_exchange : heard pair worker_1 (
-      begun
-      ∷ asked (Txn (Put 0 0 (7 ∷ []))) (1 ∷ [])
-      ∷ asked (Txn Commit) (0 ∷ newer_header ∷ [])
-      ∷ []
+    begun
+    ∷ asked (Txn (Put 0 0 (7 ∷ []))) (1 ∷ [])
+    ∷ asked (Txn Commit) (0 ∷ newer_header ∷ [])
+    ∷ []
     ) ≡ record {
-  answers = told_begun ∷ told_txn txn.Written ∷ told_txn (txn.Newer (lock 0 0 2 1)) ∷ [];
-  log = log_of (outcome.Newer (lock 0 0 2 1)) [];
-}
+      answers = told_begun ∷ told_txn txn.Written ∷ told_txn (txn.Newer (lock 0 0 2 1)) ∷ [];
+      log = log_of (outcome.Newer (lock 0 0 2 1)) [];
+    }
 newer_at_exchange = refl
 
 -- the slot's version was not moved: the lock is listed, and given back
 slot_is_full : heard pair worker_1 (
-      begun
-      ∷ asked (Txn (Put 0 0 (7 ∷ []))) (1 ∷ [])
-      ∷ asked (Txn Commit) (0 ∷ 0 ∷ 3 ∷ 0 ∷ 0 ∷ [])
-      ∷ []
+    begun
+    ∷ asked (Txn (Put 0 0 (7 ∷ []))) (1 ∷ [])
+    ∷ asked (Txn Commit) (0 ∷ 0 ∷ 3 ∷ 0 ∷ 0 ∷ [])
+    ∷ []
     ) ≡ record {
-  answers = told_begun ∷ told_txn txn.Written ∷ told_txn (txn.Full (lock 0 0 0 0)) ∷ [];
-  log = log_of (outcome.Full (lock 0 0 0 0)) (lock 0 0 0 0 ∷ []);
-}
+      answers = told_begun ∷ told_txn txn.Written ∷ told_txn (txn.Full (lock 0 0 0 0)) ∷ [];
+      log = log_of (outcome.Full (lock 0 0 0 0)) (lock 0 0 0 0 ∷ []);
+    }
 slot_is_full = refl
 
 -- the last number of the form is used, which is known without a verb
 number_is_spent : heard small (new_client 1 4294967295) (
-      asked (Begin 1 1) (4294967295 ∷ 4294967295 ∷ [])
-      ∷ asked (Txn (Put 0 0 (7 ∷ []))) (1 ∷ [])
-      ∷ asked (Txn Commit) []
-      ∷ []
+    asked (Begin 1 1) (4294967295 ∷ 4294967295 ∷ [])
+    ∷ asked (Txn (Put 0 0 (7 ∷ []))) (1 ∷ [])
+    ∷ asked (Txn Commit) []
+    ∷ []
     ) ≡ record {
-  answers = told_begun ∷ told_txn txn.Written ∷ told_txn txn.Spent ∷ [];
-  log = record (log_of outcome.Spent []) { snaps = (4294967295 ∷ []) ∷ [] };
-}
+      answers = told_begun ∷ told_txn txn.Written ∷ told_txn txn.Spent ∷ [];
+      log = record (log_of outcome.Spent []) { snaps = (4294967295 ∷ []) ∷ [] };
+    }
 number_is_spent = refl
 
 -- the slot's header has changed under the copy
 tidied_by_another : heard small worker_1 (
-      asked (Tidy 0 0)
-      (1 ∷ 1 ∷ 0 ∷ newer_header ∷ 0 ∷ 0 ∷ 5 ∷ 0 ∷ 0 ∷ 0 ∷ 0 ∷ with_moved Narrow 0 ∷ 0 ∷ [])
-      ∷ []
+    asked (Tidy 0 0)
+    (1 ∷ 1 ∷ 0 ∷ newer_header ∷ 0 ∷ 0 ∷ 5 ∷ 0 ∷ 0 ∷ 0 ∷ 0 ∷ with_moved Narrow 0 ∷ 0 ∷ [])
+    ∷ []
     ) ≡ record {
-  answers = Some answer.Back ∷ [];
-  log = record { events = move 0 0 0 0 0 move_back ∷ []; reads = []; locks = []; writes = []; snaps = [] };
-}
+      answers = Some answer.Back ∷ [];
+      log = record { events = move 0 0 0 0 0 move_back ∷ []; reads = []; locks = []; writes = []; snaps = [] };
+    }
 tidied_by_another = refl
 
 -- the log of a collection with the snapshot of a commit of each

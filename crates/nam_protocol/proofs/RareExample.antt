@@ -7,7 +7,7 @@ use Rattle.nam_catalog.specs.declared.form.Form.TheVariants.{Narrow}
 use Rattle.nam_protocol.specs.Schedule.{Scenario, Line, Stints, stint_workers, picked, after_workers, until_ended}
 use Rattle.nam_protocol.specs.Session.{settle}
 use Rattle.nam_protocol.specs.Opening.{copies, load_from}
-use Rattle.nam_protocol.proofs.Shown.{shape, table, loaded, txn, stint, up, fuse, item, row, lock, tried, unbegun}
+use Rattle.nam_protocol.proofs.Shown.{shape, table, loaded, txn, stint, fuse, item, row, lock, tried, unbegun}
 use Rattle.nam_protocol.proofs.Shown.{move, move_done, move_cut, shown}
 
 -- a line that refuses these verbs alone

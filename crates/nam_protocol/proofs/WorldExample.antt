@@ -9,7 +9,7 @@ use Rattle.nam_protocol.specs.Session.{settle}
 use Rattle.nam_protocol.specs.Opening.{copies, load_from}
 use Rattle.nam_protocol.specs.World.{World, Turn, Step, Cut, after_turns}
 use Rattle.nam_protocol.specs.Closed.{closed}
-use Rattle.nam_protocol.proofs.Shown.{shape, table, loaded, txn, stint, up, fuse, item, row, lock, tried, unbegun}
+use Rattle.nam_protocol.proofs.Shown.{shape, table, loaded, txn, stint, up, fuse, row, lock, tried, unbegun}
 
 unfoldable puts_of_one_key : Scenario
 puts_of_one_key = record {
@@ -62,18 +62,18 @@ ended_is_not_cut = refl
 -- a cut between two verbs of worker 2, and one before the first verb of worker 1
 cut_at_the_begin : closed puts_of_one_key.shape (world_after (steps 2 4 ++ Cut 1 ∷ Cut 2 ∷ steps 2 1))
     ≡ record {
-  logs =
-      record { events = unbegun 1 1 outcome.Cut ∷ []; reads = []; locks = []; writes = []; snaps = [] } ∷
-      record {
-        events = tried 2 1 0 0 0 0 outcome.Cut ∷ [];
-        reads = [];
-        locks = [];
-        writes = [];
-        snaps = (0 ∷ 0 ∷ []) ∷ [];
-      } ∷
-      [];
-  audit = row 0 0 (Some (0 ∷ [])) false ∷ row 0 1 (Some (0 ∷ [])) false ∷ [];
-}
+      logs =
+          record { events = unbegun 1 1 outcome.Cut ∷ []; reads = []; locks = []; writes = []; snaps = [] } ∷
+          record {
+            events = tried 2 1 0 0 0 0 outcome.Cut ∷ [];
+            reads = [];
+            locks = [];
+            writes = [];
+            snaps = (0 ∷ 0 ∷ []) ∷ [];
+          } ∷
+          [];
+      audit = row 0 0 (Some (0 ∷ [])) false ∷ row 0 1 (Some (0 ∷ [])) false ∷ [];
+    }
 unfolding puts_of_one_key settle copies load_from
 cut_at_the_begin = refl
 

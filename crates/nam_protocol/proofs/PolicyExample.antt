@@ -174,6 +174,32 @@ collect_meets_commit : shown of_collect_meets_commit [] ≡ record {
 unfolding of_collect_meets_commit stint_workers picked after_workers until_ended settle copies load_from
 collect_meets_commit = refl
 
+unfoldable of_no_room_in_second_bucket : Scenario
+of_no_room_in_second_bucket = record {
+  shape = shape Narrow 1 (table 1 1 1 ∷ table 1 1 1 ∷ []) 2 1 0;
+  rows = loaded 0 0 (4 ∷ []) ∷ loaded 1 0 (5 ∷ []) ∷ [];
+  policy = record { tries = 1; tidy = true };
+  txns = txn 1 (Add 1 0 1 true 1 ∷ []) ∷ txn 1 (Add 1 0 1 true 1 ∷ []) ∷ [];
+  schedule = Stints ([]);
+}
+
+-- the bucket that has no room is the one that is collected, for a key of the second table
+no_room_in_second_bucket : shown of_no_room_in_second_bucket [] ≡ record {
+  logs =
+      record {
+        events = tried 1 1 0 1 1 1 (Commit 1) ∷ move 1 1 0 0 0 move_done ∷ tried 2 1 1 1 1 1 (Commit 2) ∷ NoRoom 1 ∷
+            Collected 1 2 (2 ∷ []) false ∷ move 1 1 0 1 1 move_done ∷ [];
+        reads = item 1 0 (Some (5 ∷ [])) ∷ item 1 0 (Some (6 ∷ [])) ∷ [];
+        locks = lock 1 0 0 0 ∷ lock 1 0 1 1 ∷ [];
+        writes = item 1 0 (Some (6 ∷ [])) ∷ item 1 0 (Some (7 ∷ [])) ∷ [];
+        snaps = (0 ∷ []) ∷ (1 ∷ []) ∷ (2 ∷ []) ∷ [];
+      } ∷
+      [];
+  audit = row 0 0 (Some (4 ∷ [])) false ∷ row 1 0 (Some (7 ∷ [])) false ∷ [];
+}
+unfolding of_no_room_in_second_bucket stint_workers picked after_workers until_ended settle copies load_from
+no_room_in_second_bucket = refl
+
 unfoldable of_two_tidied_adds : Scenario
 of_two_tidied_adds = record {
   shape = shape Narrow 1 (table 1 1 1 ∷ []) 1 1 0;

@@ -25,14 +25,14 @@ first_committer_wins : shown of_first_committer_wins [] ≡ record {
         reads = item 0 0 (Some (100 ∷ [])) ∷ [];
         locks = lock 0 0 0 0 ∷ [];
         writes = item 0 0 (Some (105 ∷ [])) ∷ [];
-        snaps = [];
+        snaps = (0 ∷ 0 ∷ []) ∷ [];
       } ∷
       record {
         events = tried 2 1 0 1 0 0 (Newer (lock 0 0 1 1)) ∷ tried 2 2 1 1 1 1 (Commit 1) ∷ [];
         reads = item 0 0 (Some (100 ∷ [])) ∷ item 0 0 (Some (105 ∷ [])) ∷ [];
         locks = lock 0 0 1 1 ∷ [];
         writes = item 0 0 (Some (112 ∷ [])) ∷ [];
-        snaps = [];
+        snaps = (0 ∷ 0 ∷ []) ∷ (1 ∷ 0 ∷ []) ∷ [];
       } ∷
       [];
   audit = row 0 0 (Some (112 ∷ [])) false ∷ [];
@@ -59,14 +59,14 @@ write_skew : shown of_write_skew [] ≡ record {
         reads = item 0 0 (Some (60 ∷ [])) ∷ item 0 1 (Some (60 ∷ [])) ∷ item 0 0 (Some (60 ∷ [])) ∷ [];
         locks = lock 0 0 0 0 ∷ [];
         writes = item 0 0 (Some (0 ∷ [])) ∷ [];
-        snaps = [];
+        snaps = (0 ∷ 0 ∷ []) ∷ [];
       } ∷
       record {
         events = tried 2 1 0 3 1 1 (Commit 1) ∷ [];
         reads = item 0 0 (Some (60 ∷ [])) ∷ item 0 1 (Some (60 ∷ [])) ∷ item 0 1 (Some (60 ∷ [])) ∷ [];
         locks = lock 0 1 0 0 ∷ [];
         writes = item 0 1 (Some (0 ∷ [])) ∷ [];
-        snaps = [];
+        snaps = (0 ∷ 0 ∷ []) ∷ [];
       } ∷
       [];
   audit = row 0 0 (Some (0 ∷ [])) false ∷ row 0 1 (Some (0 ∷ [])) false ∷ [];
@@ -91,14 +91,14 @@ snapshot_again : shown of_snapshot_again [] ≡ record {
         reads = item 0 0 (Some (101 ∷ [])) ∷ [];
         locks = [];
         writes = [];
-        snaps = [];
+        snaps = (0 ∷ 1 ∷ []) ∷ [];
       } ∷
       record {
         events = tried 2 1 0 1 1 1 (Commit 1) ∷ [];
         reads = item 0 0 (Some (100 ∷ [])) ∷ [];
         locks = lock 0 0 0 0 ∷ [];
         writes = item 0 0 (Some (101 ∷ [])) ∷ [];
-        snaps = [];
+        snaps = (0 ∷ 0 ∷ []) ∷ [];
       } ∷
       [];
   audit = row 0 0 (Some (101 ∷ [])) false ∷ [];
@@ -123,21 +123,21 @@ cause_before_effect : shown of_cause_before_effect [] ≡ record {
         reads = item 0 0 (Some (100 ∷ [])) ∷ [];
         locks = lock 0 0 0 0 ∷ [];
         writes = item 0 0 (Some (101 ∷ [])) ∷ [];
-        snaps = [];
+        snaps = (0 ∷ 0 ∷ 0 ∷ []) ∷ [];
       } ∷
       record {
         events = tried 2 1 1 1 1 1 (Commit 1) ∷ [];
         reads = item 0 0 (Some (101 ∷ [])) ∷ [];
         locks = lock 0 1 0 0 ∷ [];
         writes = item 0 1 (Some (9 ∷ [])) ∷ [];
-        snaps = [];
+        snaps = (1 ∷ 0 ∷ 0 ∷ []) ∷ [];
       } ∷
       record {
         events = unbegun 3 1 (Again 1 0 1) ∷ tried 3 2 2 2 0 0 ReadOnly ∷ [];
         reads = item 0 0 (Some (101 ∷ [])) ∷ item 0 1 (Some (9 ∷ [])) ∷ [];
         locks = [];
         writes = [];
-        snaps = [];
+        snaps = (1 ∷ 1 ∷ 0 ∷ []) ∷ [];
       } ∷
       [];
   audit = row 0 0 (Some (101 ∷ [])) false ∷ row 0 1 (Some (9 ∷ [])) false ∷ [];
@@ -162,14 +162,14 @@ writer_meets_lock : shown of_writer_meets_lock [] ≡ record {
         reads = item 0 0 (Some (100 ∷ [])) ∷ [];
         locks = lock 0 0 0 0 ∷ [];
         writes = item 0 0 (Some (105 ∷ [])) ∷ [];
-        snaps = [];
+        snaps = (0 ∷ 0 ∷ []) ∷ [];
       } ∷
       record {
         events = tried 2 1 0 0 0 0 (Locked (lock 0 0 0 0)) ∷ [];
         reads = [];
         locks = [];
         writes = [];
-        snaps = [];
+        snaps = (0 ∷ 0 ∷ []) ∷ [];
       } ∷
       [];
   audit = row 0 0 (Some (105 ∷ [])) false ∷ [];
@@ -194,14 +194,14 @@ reader_passes_lock : shown of_reader_passes_lock [] ≡ record {
         reads = item 0 0 (Some (100 ∷ [])) ∷ [];
         locks = lock 0 0 0 0 ∷ [];
         writes = item 0 0 (Some (105 ∷ [])) ∷ [];
-        snaps = [];
+        snaps = (0 ∷ 0 ∷ []) ∷ [];
       } ∷
       record {
         events = tried 2 1 0 1 0 0 ReadOnly ∷ [];
         reads = item 0 0 (Some (100 ∷ [])) ∷ [];
         locks = [];
         writes = [];
-        snaps = [];
+        snaps = (0 ∷ 0 ∷ []) ∷ [];
       } ∷
       [];
   audit = row 0 0 (Some (105 ∷ [])) false ∷ [];

@@ -25,7 +25,7 @@ fuse_at_the_last_verb : shown of_fuse_at_the_last_verb (fuse 41 ∷ []) ≡ reco
         reads = item 0 0 (Some (100 ∷ [])) ∷ item 0 0 (Some (100 ∷ [])) ∷ item 0 1 (Some (0 ∷ [])) ∷ [];
         locks = lock 0 0 0 0 ∷ lock 0 1 0 0 ∷ [];
         writes = [];
-        snaps = [];
+        snaps = (0 ∷ []) ∷ [];
       } ∷
       [];
   audit = row 0 0 (Some (100 ∷ [])) false ∷ row 0 1 (Some (0 ∷ [])) false ∷ [];
@@ -50,7 +50,7 @@ fuse_after_the_last_verb : shown of_fuse_after_the_last_verb (fuse 42 ∷ []) �
         reads = item 0 0 (Some (100 ∷ [])) ∷ item 0 0 (Some (100 ∷ [])) ∷ item 0 1 (Some (0 ∷ [])) ∷ [];
         locks = lock 0 0 0 0 ∷ lock 0 1 0 0 ∷ [];
         writes = item 0 0 (Some (90 ∷ [])) ∷ item 0 1 (Some (10 ∷ [])) ∷ [];
-        snaps = [];
+        snaps = (0 ∷ []) ∷ [];
       } ∷
       [];
   audit = row 0 0 (Some (90 ∷ [])) false ∷ row 0 1 (Some (10 ∷ [])) false ∷ [];
@@ -75,14 +75,14 @@ stints_of_whole_attempts : shown of_stints_of_whole_attempts [] ≡ record {
         reads = item 0 0 (Some (107 ∷ [])) ∷ [];
         locks = lock 0 0 2 1 ∷ [];
         writes = item 0 0 (Some (112 ∷ [])) ∷ [];
-        snaps = [];
+        snaps = (0 ∷ 1 ∷ []) ∷ [];
       } ∷
       record {
         events = tried 2 1 0 1 1 1 (Commit 1) ∷ [];
         reads = item 0 0 (Some (100 ∷ [])) ∷ [];
         locks = lock 0 0 0 0 ∷ [];
         writes = item 0 0 (Some (107 ∷ [])) ∷ [];
-        snaps = [];
+        snaps = (0 ∷ 0 ∷ []) ∷ [];
       } ∷
       [];
   audit = row 0 0 (Some (112 ∷ [])) false ∷ [];
@@ -107,14 +107,14 @@ cut_under_all_locks : shown of_cut_under_all_locks (fuse 22 ∷ up ∷ []) ≡ r
         reads = [];
         locks = lock 0 0 0 0 ∷ lock 0 1 0 0 ∷ [];
         writes = [];
-        snaps = [];
+        snaps = (0 ∷ 0 ∷ []) ∷ [];
       } ∷
       record {
         events = tried 2 1 0 0 0 0 (Locked (lock 0 0 0 0)) ∷ [];
         reads = [];
         locks = [];
         writes = [];
-        snaps = [];
+        snaps = (0 ∷ 0 ∷ []) ∷ [];
       } ∷
       [];
   audit = row 0 0 (Some (0 ∷ [])) true ∷ row 0 1 (Some (0 ∷ [])) true ∷ [];
@@ -139,14 +139,14 @@ cut_after_one_install : shown of_cut_after_one_install (fuse 23 ∷ up ∷ []) �
         reads = [];
         locks = lock 0 0 0 0 ∷ lock 0 1 0 0 ∷ [];
         writes = [];
-        snaps = [];
+        snaps = (0 ∷ 0 ∷ []) ∷ [];
       } ∷
       record {
         events = tried 2 1 0 0 0 0 (Newer (lock 0 0 1 1)) ∷ [];
         reads = [];
         locks = [];
         writes = [];
-        snaps = [];
+        snaps = (0 ∷ 0 ∷ []) ∷ [];
       } ∷
       [];
   audit = row 0 0 (Some (0 ∷ [])) false ∷ row 0 1 (Some (0 ∷ [])) true ∷ [];

@@ -25,14 +25,14 @@ held_headers : shown of_held_headers [] ≡ record {
         reads = item 0 0 (Some (100 ∷ [])) ∷ [];
         locks = lock 0 0 0 0 ∷ [];
         writes = item 0 0 (Some (105 ∷ [])) ∷ [];
-        snaps = [];
+        snaps = (0 ∷ 0 ∷ []) ∷ [];
       } ∷
       record {
         events = tried 2 1 0 1 0 0 (Newer (lock 0 0 1 1)) ∷ tried 2 2 1 1 1 1 (Commit 1) ∷ [];
         reads = item 0 0 (Some (100 ∷ [])) ∷ item 0 0 (Some (105 ∷ [])) ∷ [];
         locks = lock 0 0 1 1 ∷ [];
         writes = item 0 0 (Some (112 ∷ [])) ∷ [];
-        snaps = [];
+        snaps = (0 ∷ 0 ∷ []) ∷ (1 ∷ 0 ∷ []) ∷ [];
       } ∷
       [];
   audit = row 0 0 (Some (112 ∷ [])) false ∷ [];
@@ -60,7 +60,7 @@ guards_forbid_skew : shown of_guards_forbid_skew [] ≡ record {
             (Some (60 ∷ [])) ∷ [];
         locks = lock 0 0 0 0 ∷ lock 0 1 0 0 ∷ [];
         writes = item 0 0 (Some (0 ∷ [])) ∷ [];
-        snaps = [];
+        snaps = (0 ∷ 0 ∷ []) ∷ [];
       } ∷
       record {
         events = tried 2 1 0 4 1 0 (Newer (lock 0 0 1 1)) ∷ [];
@@ -68,7 +68,7 @@ guards_forbid_skew : shown of_guards_forbid_skew [] ≡ record {
             (Some (60 ∷ [])) ∷ [];
         locks = lock 0 1 0 0 ∷ [];
         writes = [];
-        snaps = [];
+        snaps = (0 ∷ 0 ∷ []) ∷ [];
       } ∷
       [];
   audit = row 0 0 (Some (0 ∷ [])) false ∷ row 0 1 (Some (60 ∷ [])) false ∷ [];
@@ -93,14 +93,14 @@ order_under_guards : shown of_order_under_guards [] ≡ record {
         reads = [];
         locks = lock 0 0 0 0 ∷ [];
         writes = item 0 0 (Some (9 ∷ [])) ∷ [];
-        snaps = [];
+        snaps = (0 ∷ 0 ∷ []) ∷ [];
       } ∷
       record {
         events = tried 1 1 0 1 2 1 (Commit 1) ∷ [];
         reads = item 0 0 (Some (60 ∷ [])) ∷ [];
         locks = lock 0 1 0 0 ∷ lock 0 0 0 0 ∷ [];
         writes = item 0 1 (Some (1 ∷ [])) ∷ [];
-        snaps = [];
+        snaps = (0 ∷ 0 ∷ []) ∷ [];
       } ∷
       [];
   audit = row 0 0 (Some (9 ∷ [])) false ∷ row 0 1 (Some (1 ∷ [])) false ∷ [];

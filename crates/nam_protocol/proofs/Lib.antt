@@ -7,6 +7,10 @@ mod OldVersionsExample
 mod GuardsExample
 mod ScansExample
 mod FusesExample
+mod RareExample
+mod PolicyExample
+mod ClientExample
+mod WorldExample
 pub mod FallsKeys
 pub mod FallsCommit
 pub mod FallsTxn

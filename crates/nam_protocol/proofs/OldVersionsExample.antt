@@ -28,7 +28,7 @@ ring_is_full : shown of_ring_is_full [] ≡ record {
         reads = item 0 0 (Some (0 ∷ [])) ∷ item 0 0 (Some (1 ∷ [])) ∷ item 0 0 (Some (1 ∷ [])) ∷ [];
         locks = lock 0 0 0 0 ∷ lock 0 0 1 1 ∷ lock 0 0 1 1 ∷ [];
         writes = item 0 0 (Some (1 ∷ [])) ∷ [];
-        snaps = [];
+        snaps = (0 ∷ []) ∷ (1 ∷ []) ∷ (1 ∷ []) ∷ [];
       } ∷
       [];
   audit = row 0 0 (Some (1 ∷ [])) false ∷ [];
@@ -54,14 +54,14 @@ reader_finds_cell : shown of_reader_finds_cell [] ≡ record {
         reads = item 0 0 (Some (5 ∷ [])) ∷ item 0 0 (Some (6 ∷ [])) ∷ [];
         locks = lock 0 0 0 0 ∷ lock 0 0 1 1 ∷ [];
         writes = item 0 0 (Some (6 ∷ [])) ∷ item 0 0 (Some (7 ∷ [])) ∷ [];
-        snaps = [];
+        snaps = (0 ∷ 0 ∷ []) ∷ (1 ∷ 0 ∷ []) ∷ [];
       } ∷
       record {
         events = tried 3 1 0 1 0 0 ReadOnly ∷ [];
         reads = item 0 0 (Some (5 ∷ [])) ∷ [];
         locks = [];
         writes = [];
-        snaps = [];
+        snaps = (0 ∷ 0 ∷ []) ∷ [];
       } ∷
       [];
   audit = row 0 0 (Some (7 ∷ [])) false ∷ [];
@@ -88,14 +88,14 @@ reader_too_old : shown of_reader_too_old [] ≡ record {
         reads = item 0 0 (Some (5 ∷ [])) ∷ item 0 0 (Some (6 ∷ [])) ∷ [];
         locks = lock 0 0 0 0 ∷ lock 0 0 1 1 ∷ [];
         writes = item 0 0 (Some (6 ∷ [])) ∷ item 0 0 (Some (7 ∷ [])) ∷ [];
-        snaps = [];
+        snaps = (0 ∷ 0 ∷ []) ∷ (1 ∷ 0 ∷ []) ∷ (2 ∷ 0 ∷ []) ∷ [];
       } ∷
       record {
         events = tried 3 1 0 0 0 0 (TooOld 1 0 2) ∷ [];
         reads = [];
         locks = [];
         writes = [];
-        snaps = [];
+        snaps = (0 ∷ 0 ∷ []) ∷ [];
       } ∷
       [];
   audit = row 0 0 (Some (7 ∷ [])) false ∷ [];

@@ -29,7 +29,7 @@ scan_with_own_writes : shown of_scan_with_own_writes [] ≡ record {
             item 0 7 (Some (70 ∷ [])) ∷ [];
         locks = lock 0 2 0 0 ∷ lock 0 1 0 0 ∷ [];
         writes = item 0 2 (Some (20 ∷ [])) ∷ item 0 1 None ∷ [];
-        snaps = [];
+        snaps = (0 ∷ []) ∷ (1 ∷ []) ∷ [];
       } ∷
       [];
   audit = row 0 2 (Some (20 ∷ [])) false ∷ row 0 3 (Some (30 ∷ [])) false ∷ row 0 7 (Some (70 ∷ [])) false ∷ [];
@@ -56,7 +56,7 @@ scan_before_own_writes : shown of_scan_before_own_writes [] ≡ record {
             item 0 7 (Some (70 ∷ [])) ∷ [];
         locks = lock 0 2 0 0 ∷ lock 0 1 0 0 ∷ [];
         writes = item 0 2 (Some (20 ∷ [])) ∷ item 0 1 None ∷ [];
-        snaps = [];
+        snaps = (0 ∷ []) ∷ (1 ∷ []) ∷ [];
       } ∷
       [];
   audit = row 0 2 (Some (20 ∷ [])) false ∷ row 0 3 (Some (30 ∷ [])) false ∷ row 0 7 (Some (70 ∷ [])) false ∷ [];
@@ -81,14 +81,14 @@ scan_sees_its_prefix : shown of_scan_sees_its_prefix [] ≡ record {
         reads = [];
         locks = lock 0 1 0 0 ∷ [];
         writes = item 0 1 (Some (6 ∷ [])) ∷ [];
-        snaps = [];
+        snaps = (0 ∷ 0 ∷ []) ∷ [];
       } ∷
       record {
         events = tried 2 1 0 1 0 0 ReadOnly ∷ [];
         reads = item 0 0 (Some (5 ∷ [])) ∷ [];
         locks = [];
         writes = [];
-        snaps = [];
+        snaps = (0 ∷ 0 ∷ []) ∷ [];
       } ∷
       [];
   audit = row 0 0 (Some (5 ∷ [])) false ∷ row 0 1 (Some (6 ∷ [])) false ∷ [];
@@ -113,14 +113,14 @@ scan_passes_lock : shown of_scan_passes_lock [] ≡ record {
         reads = item 0 0 (Some (100 ∷ [])) ∷ [];
         locks = lock 0 0 0 0 ∷ [];
         writes = item 0 0 (Some (105 ∷ [])) ∷ [];
-        snaps = [];
+        snaps = (0 ∷ 0 ∷ []) ∷ [];
       } ∷
       record {
         events = tried 2 1 0 1 0 0 ReadOnly ∷ [];
         reads = item 0 0 (Some (100 ∷ [])) ∷ [];
         locks = [];
         writes = [];
-        snaps = [];
+        snaps = (0 ∷ 0 ∷ []) ∷ [];
       } ∷
       [];
   audit = row 0 0 (Some (105 ∷ [])) false ∷ [];
@@ -146,14 +146,14 @@ scan_finds_cell : shown of_scan_finds_cell [] ≡ record {
         reads = item 0 0 (Some (5 ∷ [])) ∷ item 0 0 (Some (6 ∷ [])) ∷ [];
         locks = lock 0 0 0 0 ∷ lock 0 0 1 1 ∷ [];
         writes = item 0 0 (Some (6 ∷ [])) ∷ item 0 0 (Some (7 ∷ [])) ∷ [];
-        snaps = [];
+        snaps = (0 ∷ 0 ∷ []) ∷ (1 ∷ 0 ∷ []) ∷ [];
       } ∷
       record {
         events = tried 3 1 0 1 0 0 ReadOnly ∷ [];
         reads = item 0 0 (Some (5 ∷ [])) ∷ [];
         locks = [];
         writes = [];
-        snaps = [];
+        snaps = (0 ∷ 0 ∷ []) ∷ [];
       } ∷
       [];
   audit = row 0 0 (Some (7 ∷ [])) false ∷ [];
@@ -180,14 +180,14 @@ scan_is_too_old : shown of_scan_is_too_old [] ≡ record {
         reads = item 0 0 (Some (5 ∷ [])) ∷ item 0 0 (Some (6 ∷ [])) ∷ [];
         locks = lock 0 0 0 0 ∷ lock 0 0 1 1 ∷ [];
         writes = item 0 0 (Some (6 ∷ [])) ∷ item 0 0 (Some (7 ∷ [])) ∷ [];
-        snaps = [];
+        snaps = (0 ∷ 0 ∷ []) ∷ (1 ∷ 0 ∷ []) ∷ (2 ∷ 0 ∷ []) ∷ [];
       } ∷
       record {
         events = tried 3 1 0 0 0 0 (TooOld 1 0 2) ∷ [];
         reads = [];
         locks = [];
         writes = [];
-        snaps = [];
+        snaps = (0 ∷ 0 ∷ []) ∷ [];
       } ∷
       [];
   audit = row 0 0 (Some (7 ∷ [])) false ∷ [];

@@ -25,7 +25,7 @@ transfer : shown of_transfer [] ≡ record {
         reads = item 0 0 (Some (100 ∷ [])) ∷ item 0 0 (Some (100 ∷ [])) ∷ item 0 1 (Some (0 ∷ [])) ∷ [];
         locks = lock 0 0 0 0 ∷ lock 0 1 0 0 ∷ [];
         writes = item 0 0 (Some (90 ∷ [])) ∷ item 0 1 (Some (10 ∷ [])) ∷ [];
-        snaps = [];
+        snaps = (0 ∷ []) ∷ [];
       } ∷
       [];
   audit = row 0 0 (Some (90 ∷ [])) false ∷ row 0 1 (Some (10 ∷ [])) false ∷ [];
@@ -75,7 +75,7 @@ absent_key : shown of_absent_key [] ≡ record {
         reads = item 0 0 (Some (7 ∷ [])) ∷ item 0 5 None ∷ [];
         locks = [];
         writes = [];
-        snaps = [];
+        snaps = (0 ∷ []) ∷ [];
       } ∷
       [];
   audit = row 0 0 (Some (7 ∷ [])) false ∷ [];
@@ -100,7 +100,7 @@ numbers_are_spent : shown of_numbers_are_spent [] ≡ record {
         reads = item 0 0 (Some (2 ∷ [])) ∷ [];
         locks = lock 0 0 0 0 ∷ [];
         writes = item 0 0 (Some (2 ∷ [])) ∷ [];
-        snaps = [];
+        snaps = (4294967294 ∷ []) ∷ (4294967295 ∷ []) ∷ (4294967295 ∷ []) ∷ [];
       } ∷
       [];
   audit = row 0 0 (Some (2 ∷ [])) false ∷ [];
@@ -126,7 +126,7 @@ delete_and_put : shown of_delete_and_put [] ≡ record {
         reads = item 0 0 None ∷ item 0 0 None ∷ item 0 0 (Some (5 ∷ 6 ∷ [])) ∷ [];
         locks = lock 0 0 0 0 ∷ lock 0 0 1 1 ∷ [];
         writes = item 0 0 None ∷ item 0 0 (Some (5 ∷ 6 ∷ [])) ∷ [];
-        snaps = [];
+        snaps = (0 ∷ []) ∷ (1 ∷ []) ∷ [];
       } ∷
       [];
   audit = row 0 0 (Some (5 ∷ 6 ∷ [])) false ∷ [];
@@ -151,7 +151,7 @@ table_has_no_space : shown of_table_has_no_space [] ≡ record {
         reads = item 0 2 None ∷ [];
         locks = [];
         writes = [];
-        snaps = [];
+        snaps = (0 ∷ []) ∷ [];
       } ∷
       [];
   audit = row 0 0 (Some (1 ∷ [])) false ∷ row 0 1 (Some (1 ∷ [])) false ∷ [];
@@ -177,7 +177,7 @@ declined : shown of_declined [] ≡ record {
         reads = item 0 0 (Some (5 ∷ [])) ∷ item 0 0 (Some (5 ∷ [])) ∷ item 0 0 (Some (5 ∷ [])) ∷ [];
         locks = [];
         writes = [];
-        snaps = [];
+        snaps = (0 ∷ []) ∷ (0 ∷ []) ∷ (0 ∷ []) ∷ [];
       } ∷
       [];
   audit = row 0 0 (Some (5 ∷ [])) false ∷ [];
@@ -202,7 +202,7 @@ wide_numbers : shown of_wide_numbers [] ≡ record {
         reads = item 0 0 (Some (2 ∷ [])) ∷ [];
         locks = lock 0 0 0 0 ∷ [];
         writes = item 0 0 (Some (2 ∷ [])) ∷ [];
-        snaps = [];
+        snaps = (35184372088830 ∷ []) ∷ (35184372088831 ∷ []) ∷ (35184372088831 ∷ []) ∷ [];
       } ∷
       [];
   audit = row 0 0 (Some (2 ∷ [])) false ∷ [];

@@ -1,6 +1,5 @@
--- What examples compare: the closed world of a simulated run without the logs' snapshots; and short words for
--- scenarios.
-use Rattle.std.specs.Prelude.{ℕ, Bool, List, [], map, Option, Some, None}
+-- What examples compare: the closed world of a simulated run; and short words for scenarios.
+use Rattle.std.specs.Prelude.{ℕ, Bool, List, [], Option, Some, None}
 use Rattle.si_model.specs.declared.row.Row.{Row}
 use Rattle.si_model.specs.declared.row.Item.{Item}
 use Rattle.si_model.specs.declared.op.Op.{Op}
@@ -9,7 +8,6 @@ use Rattle.si_model.specs.declared.log.Outcome.{Outcome}
 use Rattle.si_model.specs.declared.log.MoveEnd.{MoveEnd}
 use Rattle.si_model.specs.declared.log.Event.{Event}
 use Rattle.si_model.specs.declared.log.Event.TheVariants.{Tried, Moved}
-use Rattle.si_model.specs.declared.log.Log.{Log}
 use Rattle.si_model.specs.declared.report.AuditRow.{AuditRow}
 use Rattle.si_model.specs.declared.report.Closed.{Closed}
 use Rattle.si_model.specs.declared.log.MoveEnd.TheVariants as move_end
@@ -21,13 +19,9 @@ use Rattle.nam_protocol.specs.Closed.{closed}
 
 -- 1. The run
 
-abbrev pub bare : Log → Log
-bare log = record log { snaps = [] }
-
 -- the closed world after the schedule and as many rounds as it takes
 abbrev pub shown : Scenario → List Line → Closed
-shown c lines =
-    let done = closed c.shape (run_to_end 1000000 c lines).world in record done { logs = map bare done.logs }
+shown c lines = closed c.shape (run_to_end 1000000 c lines).world
 
 -- 2. Scenarios
 

@@ -3,11 +3,11 @@ use Rattle.std.proofs.Common.{◌≡◌, ◌+◌, ◌*◌, false, [], ◌∷◌,
 use Rattle.std.specs.Prelude.{length}
 use Rattle.si_model.specs.declared.op.Op.TheVariants.{Need, Add, Scan}
 use Rattle.si_model.specs.Generator.{next_state, pick}
-use Rattle.nam_catalog.specs.declared.form.Form.TheVariants.{Narrow}
+use Rattle.nam_catalog.specs.declared.form.Form.TheVariants.{Narrow, Wide, Held}
 use Rattle.nam_catalog.specs.declared.shape.Shape.{Shape}
 use Rattle.nam_catalog.specs.Words.{words_of}
 use Rattle.nam_header.specs.Tag.{freed}
-use Rattle.nam_layout.specs.declared.field.Field.TheVariants.{Header, SlotHeader, Tag}
+use Rattle.nam_layout.specs.declared.field.Field.TheVariants.{Header, SlotHeader, Tag, Intent}
 use Rattle.nam_layout.specs.Address.{address}
 use Rattle.nam_protocol.specs.Opening.{copies, load_from, blank_words, opening_words}
 use Rattle.nam_protocol.specs.Bound.{verb_bound}
@@ -29,6 +29,29 @@ first_tag = refl
 blank_is_whole : length (blank_words small) ≡ words_of small
 unfolding copies
 blank_is_whole = refl
+
+-- two workers, two tables, two buckets of three cells, and the workers' intents
+abbrev with_intents : Shape
+with_intents = shape Held 2 (table 1 2 1 ∷ table 2 1 2 ∷ []) 2 3 7
+
+intents_are_blank : length (blank_words with_intents) ≡ words_of with_intents
+unfolding copies
+intents_are_blank = refl
+
+-- the vector and the horizon, the positions, the cells, and 178 words for each worker's intent
+words_with_intents : words_of with_intents ≡ 2 * 2 + (2 * 7 + 13) + 6 * 12 + 2 * 178
+words_with_intents = refl
+
+loaded_with_intents : length (opening_words with_intents (loaded 0 3 (30 ∷ []) ∷ loaded 1 5 (50 ∷ 51 ∷ []) ∷ [])) ≡ 459
+unfolding copies load_from
+loaded_with_intents = refl
+
+without_intents : words_of (record with_intents { form = Wide }) ≡ 103
+without_intents = refl
+
+-- the second worker's intent is the last of the words
+last_word : address with_intents (Intent 2 177) ≡ 458
+last_word = refl
 
 -- key 3 is loaded at position 1, and key 5 then at position 0
 loaded_words : opening_words small (loaded 0 3 (30 ∷ []) ∷ loaded 0 5 (50 ∷ []) ∷ [])

@@ -32,7 +32,7 @@ put_beside_fuse_1 : shown two_puts_and_a_put (fuse 1 ∷ up ∷ []) ≡ record {
         reads = [];
         locks = lock 0 0 0 0 ∷ [];
         writes = item 0 0 (Some (7 ∷ [])) ∷ [];
-        snaps = [];
+        snaps = (0 ∷ 0 ∷ []) ∷ [];
       } ∷
       [];
   audit = row 0 0 (Some (7 ∷ [])) false ∷ row 0 1 (Some (0 ∷ [])) false ∷ [];
@@ -54,7 +54,7 @@ put_beside_fuse_2 : shown two_puts_and_a_put (fuse 2 ∷ up ∷ []) ≡ record {
         reads = [];
         locks = lock 0 0 0 0 ∷ [];
         writes = item 0 0 (Some (7 ∷ [])) ∷ [];
-        snaps = [];
+        snaps = (0 ∷ 0 ∷ []) ∷ [];
       } ∷
       [];
   audit = row 0 0 (Some (7 ∷ [])) false ∷ row 0 1 (Some (0 ∷ [])) false ∷ [];
@@ -76,7 +76,7 @@ put_beside_fuse_3 : shown two_puts_and_a_put (fuse 3 ∷ up ∷ []) ≡ record {
         reads = [];
         locks = lock 0 0 0 0 ∷ [];
         writes = item 0 0 (Some (7 ∷ [])) ∷ [];
-        snaps = [];
+        snaps = (0 ∷ 0 ∷ []) ∷ [];
       } ∷
       [];
   audit = row 0 0 (Some (7 ∷ [])) false ∷ row 0 1 (Some (0 ∷ [])) false ∷ [];
@@ -98,7 +98,7 @@ put_beside_fuse_4 : shown two_puts_and_a_put (fuse 4 ∷ up ∷ []) ≡ record {
         reads = [];
         locks = lock 0 0 0 0 ∷ [];
         writes = item 0 0 (Some (7 ∷ [])) ∷ [];
-        snaps = [];
+        snaps = (0 ∷ 0 ∷ []) ∷ [];
       } ∷
       [];
   audit = row 0 0 (Some (7 ∷ [])) false ∷ row 0 1 (Some (0 ∷ [])) false ∷ [];
@@ -113,14 +113,14 @@ put_beside_fuse_5 : shown two_puts_and_a_put (fuse 5 ∷ up ∷ []) ≡ record {
         reads = [];
         locks = [];
         writes = [];
-        snaps = [];
+        snaps = (0 ∷ 0 ∷ []) ∷ [];
       } ∷
       record {
         events = tried 2 1 0 0 1 1 (Commit 1) ∷ [];
         reads = [];
         locks = lock 0 0 0 0 ∷ [];
         writes = item 0 0 (Some (7 ∷ [])) ∷ [];
-        snaps = [];
+        snaps = (0 ∷ 0 ∷ []) ∷ [];
       } ∷
       [];
   audit = row 0 0 (Some (7 ∷ [])) false ∷ row 0 1 (Some (0 ∷ [])) false ∷ [];
@@ -135,14 +135,14 @@ put_beside_fuse_6 : shown two_puts_and_a_put (fuse 6 ∷ up ∷ []) ≡ record {
         reads = [];
         locks = [];
         writes = [];
-        snaps = [];
+        snaps = (0 ∷ 0 ∷ []) ∷ [];
       } ∷
       record {
         events = tried 2 1 0 0 1 1 (Commit 1) ∷ [];
         reads = [];
         locks = lock 0 0 0 0 ∷ [];
         writes = item 0 0 (Some (7 ∷ [])) ∷ [];
-        snaps = [];
+        snaps = (0 ∷ 0 ∷ []) ∷ [];
       } ∷
       [];
   audit = row 0 0 (Some (7 ∷ [])) false ∷ row 0 1 (Some (0 ∷ [])) false ∷ [];
@@ -157,14 +157,14 @@ put_beside_fuse_7 : shown two_puts_and_a_put (fuse 7 ∷ up ∷ []) ≡ record {
         reads = [];
         locks = [];
         writes = [];
-        snaps = [];
+        snaps = (0 ∷ 0 ∷ []) ∷ [];
       } ∷
       record {
         events = tried 2 1 0 0 1 1 (Commit 1) ∷ [];
         reads = [];
         locks = lock 0 0 0 0 ∷ [];
         writes = item 0 0 (Some (7 ∷ [])) ∷ [];
-        snaps = [];
+        snaps = (0 ∷ 0 ∷ []) ∷ [];
       } ∷
       [];
   audit = row 0 0 (Some (7 ∷ [])) false ∷ row 0 1 (Some (0 ∷ [])) false ∷ [];
@@ -179,14 +179,14 @@ put_beside_fuse_8 : shown two_puts_and_a_put (fuse 8 ∷ up ∷ []) ≡ record {
         reads = [];
         locks = [];
         writes = [];
-        snaps = [];
+        snaps = (0 ∷ 0 ∷ []) ∷ [];
       } ∷
       record {
         events = tried 2 1 0 0 1 1 (Commit 1) ∷ [];
         reads = [];
         locks = lock 0 0 0 0 ∷ [];
         writes = item 0 0 (Some (7 ∷ [])) ∷ [];
-        snaps = [];
+        snaps = (0 ∷ 0 ∷ []) ∷ [];
       } ∷
       [];
   audit = row 0 0 (Some (7 ∷ [])) false ∷ row 0 1 (Some (0 ∷ [])) false ∷ [];
@@ -201,14 +201,14 @@ put_beside_fuse_9 : shown two_puts_and_a_put (fuse 9 ∷ up ∷ []) ≡ record {
         reads = [];
         locks = lock 0 0 0 0 ∷ [];
         writes = [];
-        snaps = [];
+        snaps = (0 ∷ 0 ∷ []) ∷ [];
       } ∷
       record {
         events = tried 2 1 0 0 0 0 (Locked (lock 0 0 0 0)) ∷ [];
         reads = [];
         locks = [];
         writes = [];
-        snaps = [];
+        snaps = (0 ∷ 0 ∷ []) ∷ [];
       } ∷
       [];
   audit = row 0 0 (Some (0 ∷ [])) true ∷ row 0 1 (Some (0 ∷ [])) false ∷ [];
@@ -223,14 +223,14 @@ put_beside_fuse_10 : shown two_puts_and_a_put (fuse 10 ∷ up ∷ []) ≡ record
         reads = [];
         locks = lock 0 0 0 0 ∷ [];
         writes = [];
-        snaps = [];
+        snaps = (0 ∷ 0 ∷ []) ∷ [];
       } ∷
       record {
         events = tried 2 1 0 0 0 0 (Locked (lock 0 0 0 0)) ∷ [];
         reads = [];
         locks = [];
         writes = [];
-        snaps = [];
+        snaps = (0 ∷ 0 ∷ []) ∷ [];
       } ∷
       [];
   audit = row 0 0 (Some (0 ∷ [])) true ∷ row 0 1 (Some (0 ∷ [])) false ∷ [];
@@ -245,14 +245,14 @@ put_beside_fuse_11 : shown two_puts_and_a_put (fuse 11 ∷ up ∷ []) ≡ record
         reads = [];
         locks = lock 0 0 0 0 ∷ lock 0 1 0 0 ∷ [];
         writes = [];
-        snaps = [];
+        snaps = (0 ∷ 0 ∷ []) ∷ [];
       } ∷
       record {
         events = tried 2 1 0 0 0 0 (Locked (lock 0 0 0 0)) ∷ [];
         reads = [];
         locks = [];
         writes = [];
-        snaps = [];
+        snaps = (0 ∷ 0 ∷ []) ∷ [];
       } ∷
       [];
   audit = row 0 0 (Some (0 ∷ [])) true ∷ row 0 1 (Some (0 ∷ [])) true ∷ [];
@@ -267,14 +267,14 @@ put_beside_fuse_12 : shown two_puts_and_a_put (fuse 12 ∷ up ∷ []) ≡ record
         reads = [];
         locks = lock 0 0 0 0 ∷ lock 0 1 0 0 ∷ [];
         writes = [];
-        snaps = [];
+        snaps = (0 ∷ 0 ∷ []) ∷ [];
       } ∷
       record {
         events = tried 2 1 0 0 0 0 (Locked (lock 0 0 0 0)) ∷ [];
         reads = [];
         locks = [];
         writes = [];
-        snaps = [];
+        snaps = (0 ∷ 0 ∷ []) ∷ [];
       } ∷
       [];
   audit = row 0 0 (Some (0 ∷ [])) true ∷ row 0 1 (Some (0 ∷ [])) true ∷ [];
@@ -289,14 +289,14 @@ put_beside_fuse_13 : shown two_puts_and_a_put (fuse 13 ∷ up ∷ []) ≡ record
         reads = [];
         locks = lock 0 0 0 0 ∷ lock 0 1 0 0 ∷ [];
         writes = [];
-        snaps = [];
+        snaps = (0 ∷ 0 ∷ []) ∷ [];
       } ∷
       record {
         events = tried 2 1 0 0 0 0 (Locked (lock 0 0 0 0)) ∷ [];
         reads = [];
         locks = [];
         writes = [];
-        snaps = [];
+        snaps = (0 ∷ 0 ∷ []) ∷ [];
       } ∷
       [];
   audit = row 0 0 (Some (0 ∷ [])) true ∷ row 0 1 (Some (0 ∷ [])) true ∷ [];
@@ -311,14 +311,14 @@ put_beside_fuse_14 : shown two_puts_and_a_put (fuse 14 ∷ up ∷ []) ≡ record
         reads = [];
         locks = lock 0 0 0 0 ∷ lock 0 1 0 0 ∷ [];
         writes = [];
-        snaps = [];
+        snaps = (0 ∷ 0 ∷ []) ∷ [];
       } ∷
       record {
         events = tried 2 1 0 0 0 0 (Locked (lock 0 0 0 0)) ∷ [];
         reads = [];
         locks = [];
         writes = [];
-        snaps = [];
+        snaps = (0 ∷ 0 ∷ []) ∷ [];
       } ∷
       [];
   audit = row 0 0 (Some (0 ∷ [])) true ∷ row 0 1 (Some (0 ∷ [])) true ∷ [];
@@ -333,14 +333,14 @@ put_beside_fuse_15 : shown two_puts_and_a_put (fuse 15 ∷ up ∷ []) ≡ record
         reads = [];
         locks = lock 0 0 0 0 ∷ lock 0 1 0 0 ∷ [];
         writes = [];
-        snaps = [];
+        snaps = (0 ∷ 0 ∷ []) ∷ [];
       } ∷
       record {
         events = tried 2 1 0 0 0 0 (Locked (lock 0 0 0 0)) ∷ [];
         reads = [];
         locks = [];
         writes = [];
-        snaps = [];
+        snaps = (0 ∷ 0 ∷ []) ∷ [];
       } ∷
       [];
   audit = row 0 0 (Some (0 ∷ [])) true ∷ row 0 1 (Some (0 ∷ [])) true ∷ [];
@@ -355,14 +355,14 @@ put_beside_fuse_16 : shown two_puts_and_a_put (fuse 16 ∷ up ∷ []) ≡ record
         reads = [];
         locks = lock 0 0 0 0 ∷ lock 0 1 0 0 ∷ [];
         writes = [];
-        snaps = [];
+        snaps = (0 ∷ 0 ∷ []) ∷ [];
       } ∷
       record {
         events = tried 2 1 0 0 0 0 (Locked (lock 0 0 0 0)) ∷ [];
         reads = [];
         locks = [];
         writes = [];
-        snaps = [];
+        snaps = (0 ∷ 0 ∷ []) ∷ [];
       } ∷
       [];
   audit = row 0 0 (Some (0 ∷ [])) true ∷ row 0 1 (Some (0 ∷ [])) true ∷ [];
@@ -377,14 +377,14 @@ put_beside_fuse_17 : shown two_puts_and_a_put (fuse 17 ∷ up ∷ []) ≡ record
         reads = [];
         locks = lock 0 0 0 0 ∷ lock 0 1 0 0 ∷ [];
         writes = [];
-        snaps = [];
+        snaps = (0 ∷ 0 ∷ []) ∷ [];
       } ∷
       record {
         events = tried 2 1 0 0 0 0 (Locked (lock 0 0 0 0)) ∷ [];
         reads = [];
         locks = [];
         writes = [];
-        snaps = [];
+        snaps = (0 ∷ 0 ∷ []) ∷ [];
       } ∷
       [];
   audit = row 0 0 (Some (0 ∷ [])) true ∷ row 0 1 (Some (0 ∷ [])) true ∷ [];
@@ -399,14 +399,14 @@ put_beside_fuse_18 : shown two_puts_and_a_put (fuse 18 ∷ up ∷ []) ≡ record
         reads = [];
         locks = lock 0 0 0 0 ∷ lock 0 1 0 0 ∷ [];
         writes = [];
-        snaps = [];
+        snaps = (0 ∷ 0 ∷ []) ∷ [];
       } ∷
       record {
         events = tried 2 1 0 0 0 0 (Locked (lock 0 0 0 0)) ∷ [];
         reads = [];
         locks = [];
         writes = [];
-        snaps = [];
+        snaps = (0 ∷ 0 ∷ []) ∷ [];
       } ∷
       [];
   audit = row 0 0 (Some (0 ∷ [])) true ∷ row 0 1 (Some (0 ∷ [])) true ∷ [];
@@ -421,14 +421,14 @@ put_beside_fuse_19 : shown two_puts_and_a_put (fuse 19 ∷ up ∷ []) ≡ record
         reads = [];
         locks = lock 0 0 0 0 ∷ lock 0 1 0 0 ∷ [];
         writes = [];
-        snaps = [];
+        snaps = (0 ∷ 0 ∷ []) ∷ [];
       } ∷
       record {
         events = tried 2 1 0 0 0 0 (Locked (lock 0 0 0 0)) ∷ [];
         reads = [];
         locks = [];
         writes = [];
-        snaps = [];
+        snaps = (0 ∷ 0 ∷ []) ∷ [];
       } ∷
       [];
   audit = row 0 0 (Some (0 ∷ [])) true ∷ row 0 1 (Some (0 ∷ [])) true ∷ [];
@@ -443,14 +443,14 @@ put_beside_fuse_20 : shown two_puts_and_a_put (fuse 20 ∷ up ∷ []) ≡ record
         reads = [];
         locks = lock 0 0 0 0 ∷ lock 0 1 0 0 ∷ [];
         writes = [];
-        snaps = [];
+        snaps = (0 ∷ 0 ∷ []) ∷ [];
       } ∷
       record {
         events = tried 2 1 0 0 0 0 (Locked (lock 0 0 0 0)) ∷ [];
         reads = [];
         locks = [];
         writes = [];
-        snaps = [];
+        snaps = (0 ∷ 0 ∷ []) ∷ [];
       } ∷
       [];
   audit = row 0 0 (Some (0 ∷ [])) true ∷ row 0 1 (Some (0 ∷ [])) true ∷ [];
@@ -465,14 +465,14 @@ put_beside_fuse_21 : shown two_puts_and_a_put (fuse 21 ∷ up ∷ []) ≡ record
         reads = [];
         locks = lock 0 0 0 0 ∷ lock 0 1 0 0 ∷ [];
         writes = [];
-        snaps = [];
+        snaps = (0 ∷ 0 ∷ []) ∷ [];
       } ∷
       record {
         events = tried 2 1 0 0 0 0 (Locked (lock 0 0 0 0)) ∷ [];
         reads = [];
         locks = [];
         writes = [];
-        snaps = [];
+        snaps = (0 ∷ 0 ∷ []) ∷ [];
       } ∷
       [];
   audit = row 0 0 (Some (0 ∷ [])) true ∷ row 0 1 (Some (0 ∷ [])) true ∷ [];
@@ -487,14 +487,14 @@ put_beside_fuse_22 : shown two_puts_and_a_put (fuse 22 ∷ up ∷ []) ≡ record
         reads = [];
         locks = lock 0 0 0 0 ∷ lock 0 1 0 0 ∷ [];
         writes = [];
-        snaps = [];
+        snaps = (0 ∷ 0 ∷ []) ∷ [];
       } ∷
       record {
         events = tried 2 1 0 0 0 0 (Locked (lock 0 0 0 0)) ∷ [];
         reads = [];
         locks = [];
         writes = [];
-        snaps = [];
+        snaps = (0 ∷ 0 ∷ []) ∷ [];
       } ∷
       [];
   audit = row 0 0 (Some (0 ∷ [])) true ∷ row 0 1 (Some (0 ∷ [])) true ∷ [];
@@ -509,14 +509,14 @@ put_beside_fuse_23 : shown two_puts_and_a_put (fuse 23 ∷ up ∷ []) ≡ record
         reads = [];
         locks = lock 0 0 0 0 ∷ lock 0 1 0 0 ∷ [];
         writes = [];
-        snaps = [];
+        snaps = (0 ∷ 0 ∷ []) ∷ [];
       } ∷
       record {
         events = tried 2 1 0 0 0 0 (Newer (lock 0 0 1 1)) ∷ [];
         reads = [];
         locks = [];
         writes = [];
-        snaps = [];
+        snaps = (0 ∷ 0 ∷ []) ∷ [];
       } ∷
       [];
   audit = row 0 0 (Some (0 ∷ [])) false ∷ row 0 1 (Some (0 ∷ [])) true ∷ [];
@@ -531,14 +531,14 @@ put_beside_fuse_24 : shown two_puts_and_a_put (fuse 24 ∷ up ∷ []) ≡ record
         reads = [];
         locks = lock 0 0 0 0 ∷ lock 0 1 0 0 ∷ [];
         writes = [];
-        snaps = [];
+        snaps = (0 ∷ 0 ∷ []) ∷ [];
       } ∷
       record {
         events = tried 2 1 0 0 0 0 (Newer (lock 0 0 1 1)) ∷ [];
         reads = [];
         locks = [];
         writes = [];
-        snaps = [];
+        snaps = (0 ∷ 0 ∷ []) ∷ [];
       } ∷
       [];
   audit = row 0 0 (Some (0 ∷ [])) false ∷ row 0 1 (Some (0 ∷ [])) true ∷ [];
@@ -553,14 +553,14 @@ put_beside_fuse_25 : shown two_puts_and_a_put (fuse 25 ∷ up ∷ []) ≡ record
         reads = [];
         locks = lock 0 0 0 0 ∷ lock 0 1 0 0 ∷ [];
         writes = [];
-        snaps = [];
+        snaps = (0 ∷ 0 ∷ []) ∷ [];
       } ∷
       record {
         events = tried 2 1 0 0 0 0 (Newer (lock 0 0 1 1)) ∷ [];
         reads = [];
         locks = [];
         writes = [];
-        snaps = [];
+        snaps = (0 ∷ 0 ∷ []) ∷ [];
       } ∷
       [];
   audit = row 0 0 (Some (0 ∷ [])) false ∷ row 0 1 (Some (0 ∷ [])) true ∷ [];
@@ -575,14 +575,14 @@ put_beside_fuse_26 : shown two_puts_and_a_put (fuse 26 ∷ up ∷ []) ≡ record
         reads = [];
         locks = lock 0 0 0 0 ∷ lock 0 1 0 0 ∷ [];
         writes = [];
-        snaps = [];
+        snaps = (0 ∷ 0 ∷ []) ∷ [];
       } ∷
       record {
         events = tried 2 1 0 0 0 0 (Newer (lock 0 0 1 1)) ∷ [];
         reads = [];
         locks = [];
         writes = [];
-        snaps = [];
+        snaps = (0 ∷ 0 ∷ []) ∷ [];
       } ∷
       [];
   audit = row 0 0 (Some (0 ∷ [])) false ∷ row 0 1 (Some (0 ∷ [])) true ∷ [];
@@ -597,14 +597,14 @@ put_beside_fuse_27 : shown two_puts_and_a_put (fuse 27 ∷ up ∷ []) ≡ record
         reads = [];
         locks = lock 0 0 0 0 ∷ lock 0 1 0 0 ∷ [];
         writes = [];
-        snaps = [];
+        snaps = (0 ∷ 0 ∷ []) ∷ [];
       } ∷
       record {
         events = tried 2 1 0 0 0 0 (Newer (lock 0 0 1 1)) ∷ [];
         reads = [];
         locks = [];
         writes = [];
-        snaps = [];
+        snaps = (0 ∷ 0 ∷ []) ∷ [];
       } ∷
       [];
   audit = row 0 0 (Some (0 ∷ [])) false ∷ row 0 1 (Some (0 ∷ [])) true ∷ [];
@@ -619,14 +619,14 @@ put_beside_fuse_28 : shown two_puts_and_a_put (fuse 28 ∷ up ∷ []) ≡ record
         reads = [];
         locks = lock 0 0 0 0 ∷ lock 0 1 0 0 ∷ [];
         writes = [];
-        snaps = [];
+        snaps = (0 ∷ 0 ∷ []) ∷ [];
       } ∷
       record {
         events = tried 2 1 0 0 0 0 (Newer (lock 0 0 1 1)) ∷ [];
         reads = [];
         locks = [];
         writes = [];
-        snaps = [];
+        snaps = (0 ∷ 0 ∷ []) ∷ [];
       } ∷
       [];
   audit = row 0 0 (Some (0 ∷ [])) false ∷ row 0 1 (Some (0 ∷ [])) true ∷ [];
@@ -641,14 +641,14 @@ put_beside_fuse_29 : shown two_puts_and_a_put (fuse 29 ∷ up ∷ []) ≡ record
         reads = [];
         locks = lock 0 0 0 0 ∷ lock 0 1 0 0 ∷ [];
         writes = [];
-        snaps = [];
+        snaps = (0 ∷ 0 ∷ []) ∷ [];
       } ∷
       record {
         events = tried 2 1 0 0 0 0 (Newer (lock 0 0 1 1)) ∷ [];
         reads = [];
         locks = [];
         writes = [];
-        snaps = [];
+        snaps = (0 ∷ 0 ∷ []) ∷ [];
       } ∷
       [];
   audit = row 0 0 (Some (0 ∷ [])) false ∷ row 0 1 (Some (0 ∷ [])) true ∷ [];
@@ -663,14 +663,14 @@ put_beside_fuse_30 : shown two_puts_and_a_put (fuse 30 ∷ up ∷ []) ≡ record
         reads = [];
         locks = lock 0 0 0 0 ∷ lock 0 1 0 0 ∷ [];
         writes = [];
-        snaps = [];
+        snaps = (0 ∷ 0 ∷ []) ∷ [];
       } ∷
       record {
         events = tried 2 1 0 0 0 0 (Newer (lock 0 0 1 1)) ∷ [];
         reads = [];
         locks = [];
         writes = [];
-        snaps = [];
+        snaps = (0 ∷ 0 ∷ []) ∷ [];
       } ∷
       [];
   audit = row 0 0 (Some (0 ∷ [])) false ∷ row 0 1 (Some (0 ∷ [])) true ∷ [];
@@ -685,14 +685,14 @@ put_beside_fuse_31 : shown two_puts_and_a_put (fuse 31 ∷ up ∷ []) ≡ record
         reads = [];
         locks = lock 0 0 0 0 ∷ lock 0 1 0 0 ∷ [];
         writes = [];
-        snaps = [];
+        snaps = (0 ∷ 0 ∷ []) ∷ [];
       } ∷
       record {
         events = tried 2 1 0 0 0 0 (Newer (lock 0 0 1 1)) ∷ [];
         reads = [];
         locks = [];
         writes = [];
-        snaps = [];
+        snaps = (0 ∷ 0 ∷ []) ∷ [];
       } ∷
       [];
   audit = row 0 0 (Some (0 ∷ [])) false ∷ row 0 1 (Some (0 ∷ [])) false ∷ [];
@@ -707,14 +707,14 @@ put_beside_fuse_32 : shown two_puts_and_a_put (fuse 32 ∷ up ∷ []) ≡ record
         reads = [];
         locks = lock 0 0 0 0 ∷ lock 0 1 0 0 ∷ [];
         writes = item 0 0 (Some (1 ∷ [])) ∷ item 0 1 (Some (1 ∷ [])) ∷ [];
-        snaps = [];
+        snaps = (0 ∷ 0 ∷ []) ∷ [];
       } ∷
       record {
         events = tried 2 1 1 0 1 1 (Commit 1) ∷ [];
         reads = [];
         locks = lock 0 0 1 1 ∷ [];
         writes = item 0 0 (Some (7 ∷ [])) ∷ [];
-        snaps = [];
+        snaps = (1 ∷ 0 ∷ []) ∷ [];
       } ∷
       [];
   audit = row 0 0 (Some (7 ∷ [])) false ∷ row 0 1 (Some (1 ∷ [])) false ∷ [];

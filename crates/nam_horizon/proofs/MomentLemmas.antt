@@ -8,8 +8,9 @@ use Rattle.nam_verbs.specs.declared.now.Now.{Now}
 use Rattle.nam_verbs.specs.declared.now.Now.TheVariants.{At, Over}
 use Rattle.nam_verbs.specs.Now.{FitsNow}
 use Rattle.nam_verbs.specs.Machine.{after_words}
+use Rattle.nam_verbs.specs.Running.{Running}
 use Rattle.nam_verbs.specs.Steps.{Step, saw, tried, Stretches}
-use Rattle.nam_verbs.specs.SoFar.{steps_by, next_at, verb_at}
+use Rattle.nam_verbs.specs.SoFar.{steps_from, steps_by, next_at, verb_at}
 use Rattle.nam_verbs.specs.VerbAt.{WriteAt, ExchangeAt}
 use Rattle.nam_verbs.proofs.HistoryLemmas as past
 use Rattle.nam_verbs.proofs.TestLemmas.{by_test, by_equal}
@@ -24,7 +25,7 @@ use Rattle.nam_calls.specs.declared.horizon.CollectPlace.TheVariants.{HorizonLoo
 use Rattle.nam_calls.specs.declared.horizon.CollectPlace.TheVariants.{CollectEnding, CollectFree}
 use Rattle.nam_calls.specs.Horizon.{collect_verb, collect_after, collect_left, entry_known, collect_next}
 use Rattle.nam_horizon.specs.Collect.{collect_address, collecting, running}
-use Rattle.nam_horizon.specs.CollectLaw.{EntryKnown, was_reached, is_raised, was_lost, EntriesKnown, raised}
+use Rattle.nam_horizon.specs.CollectLaw.{EntryKnown, was_reached, is_raised, was_lost, EntriesKnown}
 use Rattle.nam_horizon.specs.CollectLaw.{looked, CellCollected, not_full, is_kept, is_freed}
 use Rattle.nam_horizon.specs.CollectLaw.{RaisesEntry}
 use Rattle.nam_horizon.specs.MomentLaw.{CellsSoFar, CollectedSoFar, FreesWithin}
@@ -74,6 +75,9 @@ module _ (cells : Cells) (some_cells : 1 ≤ cells.cells) (workers : ℕ) (some 
   abbrev HoldsNow : Now CollectPlace (List ℕ) → List (Step Field) → Type 0
   HoldsNow = past.HoldsNow (collect_verb cells seen) (collect_after cells workers seen) (collect_address cells workers)
       (later (2 * workers) (cells_end cells)) (collect_left cells workers) Holds
+
+  abbrev call : Now CollectPlace (List ℕ) → Running Field CollectPlace (List ℕ)
+  call state = running (record { cells = cells; workers = workers; seen = seen; state = state })
 
   abbrev step_at : CollectPlace → ℕ → Step Field
   step_at = past.step_at (collect_verb cells seen) (collect_after cells workers seen)
@@ -261,6 +265,39 @@ module _ (cells : Cells) (some_cells : 1 ≤ cells.cells) (workers : ℕ) (some 
   next_exchange words at expected new is =
       exchange_at _ _ (holds_after words) at expected new
       (sym (past.next_after (running (collecting cells workers seen)) words) ∙ is)
+
+  -- a step stood once the steps before it were done
+  abbrev StoodAfter : Now CollectPlace (List ℕ) → List (Step Field) → Step Field → Type 0
+  StoodAfter now before step =
+      (words : List ℕ) × (steps_from (collect_verb cells seen) (collect_after cells workers seen) now words ≡ before)
+      × (verb_at (collect_verb cells seen) (after_words (call now) words).state ≡ Some step.verb)
+
+  stood_after : (words : List ℕ) (now : Now CollectPlace (List ℕ)) (before after : List (Step Field))
+      (step : Step Field)
+      → steps_from (collect_verb cells seen) (collect_after cells workers seen) now words ≡ before ++ step ∷ after
+      → StoodAfter now before step
+  stood_after [] now [] after step is = absurd (cc)
+  stood_after [] now (one ∷ before) after step is = absurd (cc)
+  stood_after (word ∷ words) (Over end) [] after step is = absurd (cc)
+  stood_after (word ∷ words) (Over end) (one ∷ before) after step is = absurd (cc)
+  stood_after (word ∷ words) (At at) [] after step is =
+      let same : step_at at word ≡ step = cc in ([], refl, ap (λ (s : Step Field). Some s.verb) same)
+  stood_after (word ∷ words) (At at) (one ∷ before) after step is =
+      let goes = collect_after cells workers seen at word in
+      let same : step_at at word ≡ one = cc in
+      let rest : steps_from (collect_verb cells seen) (collect_after cells workers seen) goes words
+      ≡ before ++ step ∷ after = cc in
+      let later = stood_after words goes before after step rest in
+      (word ∷ later.0, rw (same, later.1) refl, later.2)
+
+  pub done_exchange : (words : List ℕ) (before after : List (Step Field)) (at : Field) (expected new found : ℕ)
+      → steps_by (running (collecting cells workers seen)) words ≡ before ++ tried at expected new found ∷ after
+      → RaisesEntry workers seen before at expected new ⊎ FreesWithin cells workers seen before at expected new
+  done_exchange words before after at expected new found is =
+      let stood = stood_after words (At (HorizonLook [])) before after (tried at expected new found) is in
+      subst (λ steps. RaisesEntry workers seen steps at expected new
+      ⊎ FreesWithin cells workers seen steps at expected new) stood.1
+      (exchange_at _ _ (holds_after stood.0) at expected new stood.2)
 
 -- 6. No verb writes
 

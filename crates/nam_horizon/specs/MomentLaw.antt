@@ -2,7 +2,7 @@
 use Rattle.std.specs.Prelude.{◌≡◌, ◌⊎◌, ℕ, ◌+◌, ◌<◌, ◌≤◌, true, List, [], ◌∷◌, ◌++◌, length, Some, slice_index}
 use Rattle.nam_verbs.specs.Machine.{after_words}
 use Rattle.nam_verbs.specs.Now.{FitsNow}
-use Rattle.nam_verbs.specs.Steps.{Step, saw, Stretches}
+use Rattle.nam_verbs.specs.Steps.{Step, saw, tried, Stretches}
 use Rattle.nam_verbs.specs.SoFar.{steps_by, next_at}
 use Rattle.nam_verbs.specs.VerbAt.{WriteAt, ExchangeAt}
 use Rattle.nam_header.specs.Tag.{is_full}
@@ -71,6 +71,13 @@ NextExchangeLaw = (cells : Cells) → FitsCells cells → (workers : ℕ) → 1 
     next_at (after_words call words) ≡ Some (ExchangeAt at expected new)
     → RaisesEntry workers seen (steps_by call words) at expected new
     ⊎ FreesWithin cells workers seen (steps_by call words) at expected new
+
+-- and so was each exchange that was done so far
+abbrev pub DoneExchangeLaw : Type 0
+DoneExchangeLaw = (cells : Cells) → FitsCells cells → (workers : ℕ) → 1 ≤ workers
+    → (seen words : List ℕ) (before after : List (Step Field)) (at : Field) (expected new found : ℕ)
+    → steps_by (running (collecting cells workers seen)) words ≡ before ++ tried at expected new found ∷ after
+    → RaisesEntry workers seen before at expected new ⊎ FreesWithin cells workers seen before at expected new
 
 -- and nothing is written but by exchanges
 abbrev pub NoWriteLaw : Type 0

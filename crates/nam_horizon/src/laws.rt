@@ -1,7 +1,7 @@
 //! What the machines make of the words that their verbs find, whatever these words are.
 
 ghost use Rattle.nam_horizon.specs.CollectLaw.{CollectLaw, KnownLaw, ExchangeLaw, CollectFieldLaw};
-ghost use Rattle.nam_horizon.specs.MomentLaw.{MomentLaw, NextExchangeLaw, NoWriteLaw};
+ghost use Rattle.nam_horizon.specs.MomentLaw.{MomentLaw, NextExchangeLaw, DoneExchangeLaw, NoWriteLaw};
 ghost use Rattle.nam_horizon.specs.OldLaw.{TooOldLaw, NotPassedLaw, OldFieldLaw};
 
 /// A collection ends with a horizon exactly where it became known entry after entry, and then cell after cell was
@@ -25,7 +25,8 @@ pub fn exchange_law()
 /// entries are known; and nothing else is written.
 pub fn moment_law()
     ensures so_far { MomentLaw }
-    ensures exchanges { NextExchangeLaw }
+    ensures next_exchange { NextExchangeLaw }
+    ensures done_exchange { DoneExchangeLaw }
     ensures no_write { NoWriteLaw }
 {}
 

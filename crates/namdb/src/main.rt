@@ -7,6 +7,10 @@
 //! streams.
 #![tactic(auto)]
 
+ghost use Rattle.std.specs.Prelude.{◌≡◌, ◌≢◌, [], IfErr, IsErr, IsOkAnd};
+ghost use Rattle.std.specs.IoError.{error_kind};
+ghost use Rattle.std.specs.declared.io.ErrorKind.TheVariants.{OutOfMemory};
+
 mod attempt;
 mod evaluate;
 mod keys;
@@ -20,26 +24,31 @@ mod top;
 
 use nam_io::{StdSink, StdSource};
 use status::Status;
-use std::alloc::AllocError;
-use std::process::ExitCode;
+use std::alloc::{AllocError, Global};
+use std::env::Args;
 use std::{env, io};
 use top::namdb;
 
-/// The program's name and its arguments, or no words where the system gives none.
-fn words(rt: &HostRuntime) -> Result<Vec<String>, AllocError> {
-    match env::args(rt) {
-        Ok(words) => words.collect(rt.alloc()),
+/// The words of the call, of what the system gives: none where it gives none.
+fn words(alloc: Global, given: io::Result<Args>) -> Result<Vec<String>, AllocError>
+    ensures none { IfErr given (λ error.
+        error_kind error ≢ OutOfMemory → IsOkAnd result (λ words. words.items ≡ [])) }
+    ensures memory { IfErr given (λ error. error_kind error ≡ OutOfMemory → IsErr result) }
+{
+    match given {
+        Ok(words) => words.collect(alloc),
         Err(error) if error.kind() == io::ErrorKind::OutOfMemory => Err(AllocError),
-        Err(_) => Ok(Vec::new(rt.alloc())),
+        Err(_) => Ok(Vec::new(alloc)),
     }
 }
 
-fn main(rt: HostRuntime) -> ExitCode {
-    let Ok(words) = words(&rt) else {
-        return ExitCode::from(Status::Memory.code());
-    };
-    let mut source = StdSource::new(rt.stdin());
-    let mut sink = StdSink::new(rt.stdout());
-    let status = namdb(rt.alloc(), words.as_slice(), &mut source, &mut sink);
-    ExitCode::from(status.code())
+fn main(rt: HostRuntime) -> Status {
+    match words(rt.alloc(), env::args(&rt)) {
+        Ok(words) => {
+            let mut source = StdSource::new(rt.stdin());
+            let mut sink = StdSink::new(rt.stdout());
+            namdb(rt.alloc(), words.as_slice(), &mut source, &mut sink)
+        }
+        Err(no_memory) => Status::from(no_memory),
+    }
 }

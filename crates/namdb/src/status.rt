@@ -1,12 +1,14 @@
 //! How a call of the program ends.
 
 ghost use Rattle.std.specs.Prelude.{◌≡◌};
+ghost use Rattle.std.specs.Process.{exit_status};
 ghost use Rattle.namdb.specs.declared.status.Status.TheVariants.{Memory};
 ghost use Rattle.namdb.specs.Status.{code_of, kind_word, status_of_read, status_of_parse};
 
 use nam_io::ReadEnd;
 use nam_script::{Kind, ParseEnd};
 use std::alloc::AllocError;
+use std::process::{ExitCode, Termination};
 
 /// How a call of the program ended. Each status but `Done`, `WriteFault` and `Memory` writes a line of its own.
 #[derive(Clone, Copy, Debug, PartialEq, Eq)]
@@ -27,12 +29,12 @@ pub enum Status {
     TooLong,
 }
 
-impl Status {
-    /// The status with which the process exits.
-    pub fn code(&self) -> u8
-        ensures { result ≡ code_of self.now }
+impl Termination for Status {
+    /// The exit code of the process.
+    fn report<R: Eprint>(self, _rt: &R) -> ExitCode
+        ensures { exit_status result ≡ code_of self }
     {
-        match self {
+        let code: u8 = match self {
             Status::Done => 0,
             Status::Usage => 2,
             Status::BadScript { .. } => 3,
@@ -40,7 +42,8 @@ impl Status {
             Status::WriteFault => 5,
             Status::Memory => 6,
             Status::TooLong => 7,
-        }
+        };
+        ExitCode::from(code)
     }
 }
 

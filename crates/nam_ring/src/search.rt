@@ -1,11 +1,12 @@
 //! The search of a record's ring.
 
-ghost use Rattle.std.specs.Prelude.{◌≡◌, ◌<◌, ◌*◌, ◌+◌};
+ghost use Rattle.std.specs.Prelude.{◌≡◌, ◌<◌, ◌*◌, ◌+◌, []};
 ghost use Rattle.nam_verbs.specs.Verb.{address_of};
 ghost use Rattle.nam_verbs.specs.VerbAt.{verb_by};
 ghost use Rattle.nam_verbs.specs.Running.{verbs_left};
 ghost use Rattle.nam_layout.specs.Place.{position_address, place_end};
 ghost use Rattle.nam_layout.specs.PlaceFits.{FitsPlace};
+ghost use Rattle.nam_calls.specs.declared.ring.RingPlace.TheVariants.{SlotWords, SlotAgain};
 ghost use Rattle.nam_calls.specs.Fits.{RingFits};
 ghost use Rattle.nam_calls.specs.Ring.{ring_begin, ring_verb, ring_after, ring_left};
 ghost use Rattle.nam_calls.specs.Ring.{next_slot, slots_left};
@@ -55,6 +56,50 @@ fn next_slot(place: &Place, slot: u32) -> Now<RingPlace, SearchEnd>
     }
 }
 
+fn after_word(
+    place: &Place,
+    slot: u32,
+    header: u64,
+    mut got: Value,
+    found: u64,
+) -> Now<RingPlace, SearchEnd>
+    requires fits { FitsPlace place.now }
+    requires at { RingFits place.now (SlotWords slot header got.now) }
+    ensures { result ≡ ring_after place.now [] (SlotWords slot header got.now) found }
+{
+    got.push(found);
+    if got.len() == place.width as usize {
+        Now::At(RingPlace::SlotAgain {
+            slot,
+            header,
+            value: got,
+        })
+    } else {
+        Now::At(RingPlace::SlotWords { slot, header, got })
+    }
+}
+
+fn after_again(
+    place: &Place,
+    slot: u32,
+    header: u64,
+    value: Value,
+    found: u64,
+) -> Now<RingPlace, SearchEnd>
+    requires fits { FitsPlace place.now }
+    requires at { RingFits place.now (SlotAgain slot header value.now) }
+    ensures { result ≡ ring_after place.now [] (SlotAgain slot header value.now) found }
+{
+    // Under another header the words may be those of a version that was copied here since.
+    if !same_stamp(place.form, found, header) || found == MARK {
+        next_slot(place, slot)
+    } else if is_deleted(place.form, header) {
+        Now::Over(SearchEnd::Found(None))
+    } else {
+        Now::Over(SearchEnd::Found(Some(value)))
+    }
+}
+
 /// What follows the word that the verb of a place found.
 pub fn ring_after(
     place: &Place,
@@ -89,36 +134,12 @@ pub fn ring_after(
                 })
             }
         }
-        RingPlace::SlotWords {
-            slot,
-            header,
-            mut got,
-        } => {
-            got.push(found);
-            if got.len() == place.width as usize {
-                Now::At(RingPlace::SlotAgain {
-                    slot,
-                    header,
-                    value: got,
-                })
-            } else {
-                Now::At(RingPlace::SlotWords { slot, header, got })
-            }
-        }
+        RingPlace::SlotWords { slot, header, got } => after_word(place, slot, header, got, found),
         RingPlace::SlotAgain {
             slot,
             header,
             value,
-        } => {
-            // Under another header the words may be those of a version that was copied here since.
-            if !same_stamp(place.form, found, header) || found == MARK {
-                next_slot(place, slot)
-            } else if is_deleted(place.form, header) {
-                Now::Over(SearchEnd::Found(None))
-            } else {
-                Now::Over(SearchEnd::Found(Some(value)))
-            }
-        }
+        } => after_again(place, slot, header, value, found),
     }
 }
 

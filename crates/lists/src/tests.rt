@@ -41,3 +41,18 @@ fn a_short_list_grows_changes_and_is_copied(rt: HostRuntime) {
     list.clear();
     assert!(rt; list.is_empty());
 }
+
+/// No size is refused that there is memory for.
+#[test]
+fn a_list_may_be_large(rt: HostRuntime) -> Result<(), AllocError> {
+    let mut list: List<u64> = List::new(rt.alloc());
+    let mut more: List<u64> = List::new(rt.alloc());
+    for number in 0..100_000 {
+        list.push(number)?;
+        more.push(100_000 + number)?;
+    }
+    list.append(more)?;
+    assert_eq!(rt; list.len(), 200_000);
+    assert!(rt; list.as_slice().last() == Some(&199_999));
+    Ok(())
+}

@@ -100,3 +100,17 @@ fn streams_of_std_pass_through(rt: HostRuntime) -> Result<(), AllocError> {
     assert!(rt; room == *b"hello");
     Ok(())
 }
+
+/// No size is refused that there is memory for.
+#[test]
+fn a_long_text_is_read_and_written(rt: HostRuntime) -> Result<(), AllocError> {
+    let alloc = rt.alloc();
+    let text = vec![in alloc; 7u8; 1_048_576]?;
+    let bytes = Vec::from_slice(alloc, text.as_slice())?;
+    let read = read_from_memory(alloc, bytes, 4_096);
+    assert!(rt; read.is_ok_and(|read| read.as_slice() == text.as_slice()));
+    let mut sink = MemSink::new(alloc, 1_048_576, 4_096, Vec::new(alloc))?;
+    assert!(rt; write_all(&mut sink, text.as_slice()).is_ok());
+    assert!(rt; sink.bytes() == text.as_slice());
+    Ok(())
+}

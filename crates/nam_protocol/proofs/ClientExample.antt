@@ -30,26 +30,26 @@ use Rattle.nam_protocol.specs.declared.client.Answer.TheVariants as answer
 -- 1. Alone on the words
 
 -- words, and a client whose verbs alone change them
-record Alone : Type 0 where
-  words : List ℕ
-  client : ClientState
+pub record Alone : Type 0 where
+  pub words : List ℕ
+  pub client : ClientState
 
 module _ (shape : Shape) where
-  abbrev verb_done : Alone → VerbAt Field → Alone
+  abbrev pub verb_done : Alone → VerbAt Field → Alone
   verb_done alone verb = record {
     words = after_verb alone.words (verb_there shape verb);
     client = client_after shape alone.client (found_by alone.words (verb_there shape verb));
   }
 
   -- the call that runs comes to its answer, in no more than so many verbs
-  unfoldable after_verbs : ℕ → Alone → Alone
+  unfoldable pub after_verbs : ℕ → Alone → Alone
   after_verbs zero alone = alone
   after_verbs (suc verbs) alone = elim (client_verb shape alone.client) [
     | None ↦ alone
     | Some verb ↦ after_verbs verbs (verb_done alone verb)
   ]
 
-  abbrev called : Alone → Call → Alone
+  abbrev pub called : Alone → Call → Alone
   called alone call = after_verbs 1000 (record alone { client = client_ask shape alone.client call })
 
   abbrev answers_alone : Alone → List Call → List (Option Answer)
@@ -57,15 +57,15 @@ module _ (shape : Shape) where
   answers_alone alone (call ∷ calls) =
       let next = called alone call in answer_now next.client.call ∷ answers_alone next calls
 
-  abbrev after_calls : Alone → List Call → Alone
+  abbrev pub after_calls : Alone → List Call → Alone
   after_calls alone [] = alone
   after_calls alone (call ∷ calls) = after_calls (called alone call) calls
 
 -- one worker, two keys in a table of two positions with a ring of one slot each, and one cell
-abbrev small : Shape
+abbrev pub small : Shape
 small = shape Narrow 1 (table 1 2 1 ∷ []) 1 1 0
 
-abbrev opened : Alone
+abbrev pub opened : Alone
 opened = record {
   words = opening_words small (loaded 0 0 (5 ∷ []) ∷ loaded 0 1 (6 ∷ []) ∷ []);
   client = new_client 1 0;
@@ -142,24 +142,24 @@ abandoned_and_closed = refl
 -- 2. With found words
 
 -- a call, and the words that its verbs find
-record Asked : Type 0 where
-  call : Call
-  found : List ℕ
+pub record Asked : Type 0 where
+  pub call : Call
+  pub found : List ℕ
 
 -- the answers of calls, and the log at the end
 record Heard : Type 0 where
   answers : List (Option Answer)
   log : Log
 
-abbrev asked : Call → List ℕ → Asked
+abbrev pub asked : Call → List ℕ → Asked
 asked call found = record { call = call; found = found }
 
 module _ (shape : Shape) where
-  abbrev after_found : ClientState → List ℕ → ClientState
+  abbrev pub after_found : ClientState → List ℕ → ClientState
   after_found client [] = client
   after_found client (word ∷ words) = after_found (client_after shape client word) words
 
-  abbrev after_asked : ClientState → Asked → ClientState
+  abbrev pub after_asked : ClientState → Asked → ClientState
   after_asked client a = after_found (client_ask shape client a.call) a.found
 
   abbrev heard_before : List (Option Answer) → ClientState → List Asked → Heard
@@ -171,14 +171,14 @@ module _ (shape : Shape) where
   heard client asks = heard_before [] client asks
 
 -- a second worker
-abbrev pair : Shape
+abbrev pub pair : Shape
 pair = shape Narrow 2 (table 1 2 1 ∷ []) 1 1 0
 
-abbrev worker_1 : ClientState
+abbrev pub worker_1 : ClientState
 worker_1 = new_client 1 0
 
 -- a transaction that sees no commit
-abbrev begun : Asked
+abbrev pub begun : Asked
 begun = asked (Begin 1 1) (0 ∷ 0 ∷ 0 ∷ 0 ∷ [])
 
 abbrev told_begun : Option Answer
@@ -188,7 +188,7 @@ abbrev told_txn : TxnAnswer → Option Answer
 told_txn end = Some (answer.Txn end)
 
 -- the header of a version of worker 2's first commit
-abbrev newer_header : ℕ
+abbrev pub newer_header : ℕ
 newer_header = stamp_word Narrow (record { thread = 2; number = 1 })
 
 -- one attempt, with its locks and the snapshot of no commit

@@ -10,6 +10,7 @@ mod FusesExample
 mod RareExample
 mod PolicyExample
 mod ClientExample
+mod BoundsExample
 mod WorldExample
 pub mod FallsKeys
 pub mod FallsCommit

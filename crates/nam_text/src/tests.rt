@@ -39,3 +39,14 @@ fn numbers_names_and_lines_are_read(rt: HostRuntime) {
     assert!(rt; find_byte(b"1*2", b'*') == Some(1));
     assert!(rt; first_line(b"end").is_none());
 }
+
+/// No size is refused that there is memory for.
+#[test]
+fn a_text_of_words_may_be_long(rt: HostRuntime) -> Result<(), AllocError> {
+    let mut out = String::new(rt.alloc());
+    for _ in 0..50_000 {
+        push_words(&mut out, [0, 18_446_744_073_709_551_615].as_slice())?;
+    }
+    assert_eq!(rt; out.len(), 50_000 * 23);
+    Ok(())
+}

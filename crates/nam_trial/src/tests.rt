@@ -16,3 +16,13 @@ fn a_store_opens_without_versions(rt: HostRuntime) -> Result<(), AllocError> {
     assert_eq!(rt; store.word(place.words_at), 9);
     Ok(())
 }
+
+/// No size is refused that there is memory for.
+#[test]
+fn a_store_may_be_large(rt: HostRuntime) -> Result<(), AllocError> {
+    let store = PlainStore::new(rt.alloc(), plain_shape(1, 4_096, 16, 64))?;
+    let mut store = store.expect(&rt, "a shape within its limits");
+    let place = store.place(0, 4_095).expect(&rt, "the last position");
+    assert_eq!(rt; store.word(place.header_at), 2);
+    Ok(())
+}

@@ -312,3 +312,20 @@ fn committed_rows_are_written_over(rt: HostRuntime) -> Result<(), AllocError> {
     assert_eq!(rt; text.as_str(), " 0 3 31,");
     Ok(())
 }
+
+/// No size is refused that there is memory for.
+#[test]
+fn a_state_may_be_large(rt: HostRuntime) -> Result<(), AllocError> {
+    let alloc = rt.alloc();
+    let mut rows = Vec::new(alloc);
+    let mut history = Vec::new(alloc);
+    for key in 0..8_192 {
+        rows.push(row(0, key, &[1]))?;
+        history.push(entry(vec![in alloc; item(key, Some(value(&[2])))]?))?;
+    }
+    let after = state(alloc, rows.as_slice(), history.as_slice(), history.len())?;
+    assert_eq!(rt; after.len(), 8_192);
+    let text = evaluated(alloc, &[1], &[scan(0, 8_191), add(8_191, true, 5)], &after)?;
+    assert!(rt; text.ends_with(" 0 8191 2, 0 8191 2, writes 0 8191 7, guards"));
+    Ok(())
+}

@@ -10,6 +10,7 @@ pub mod WriteLemmas
 pub mod TellsLemmas
 pub mod TriesLemmas
 mod ExampleWords
+mod TellsExample
 mod TransferExample
 mod FirstCommitterWinsExample
 mod WriteSkewExample

@@ -274,18 +274,24 @@ is_tidying (t ∷ ts) = is_at_noroom t.event ts
 abbrev pub may_be_at_hand : Owed → List Tell → Bool
 may_be_at_hand owed ts = is_tidying ts && ((length ts == 0) || (goes_on owed.stage && nat_lt 0 (length owed.keys)))
 
--- worker j's events so far follow the policy: they are parts, after which so much is owed, and the first events of a
--- tidying that isn't over
-pub record FollowsSoFar (s : Setting) (v : View) (j : ℕ) (ts : List Tell) : Type 0 where
+-- how far a worker has come: the parts of its events, the first events of a tidying that isn't over, and what is owed
+-- after the parts
+pub record Walk : Type 0 where
   pub parts : List Part
   pub at_hand : List Tell
-  pub read : flat_map tells_in parts ++ at_hand ≡ ts
   pub owed : Owed
-  pub along : owed_along s.policy (owes_all (txns_of j s.owners)) parts ≡ Some owed
-  pub begun : IsTrue (may_be_at_hand owed at_hand)
-  pub fulls : IsTrue s.policy.tidy → FullsFollow v j [] parts
+
+-- worker j's events so far follow the policy by this walk
+pub record FollowsSoFar (s : Setting) (v : View) (j : ℕ) (ts : List Tell) (walk : Walk) : Type 0 where
+  pub read : flat_map tells_in walk.parts ++ walk.at_hand ≡ ts
+  pub along : owed_along s.policy (owes_all (txns_of j s.owners)) walk.parts ≡ Some walk.owed
+  pub begun : IsTrue (may_be_at_hand walk.owed walk.at_hand)
+  pub fulls : IsTrue s.policy.tidy → FullsFollow v j [] walk.parts
 
 -- nothing is at hand, and nothing more is owed
-pub record IsThrough (s : Setting) (v : View) (j : ℕ) (ts : List Tell) (so_far : FollowsSoFar s v j ts) : Type 0 where
-  pub over : so_far.at_hand ≡ []
-  pub settled : IsTrue (is_settled so_far.owed)
+abbrev pub is_through : Walk → Bool
+is_through walk = (length walk.at_hand == 0) && is_settled walk.owed
+
+-- of a worker that has done nothing yet
+abbrev pub first_walk : Setting → ℕ → Walk
+first_walk s j = record { parts = []; at_hand = []; owed = owes_all (txns_of j s.owners) }

@@ -10,6 +10,7 @@ pub mod GrowthStart
 pub mod Outcomes
 pub mod GrowthListed
 pub mod GrowthEvent
+pub mod GrowthOldEnd
 pub mod Lifts
 pub mod Standing
 pub mod Counted

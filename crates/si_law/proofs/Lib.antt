@@ -24,9 +24,11 @@ pub mod ListedOnce
 pub mod Fulls
 pub mod TheLaw
 mod GuardBesideExample
+pub mod GrowthScript
 pub mod GrowthSteps
 pub mod GrowthExample
 pub mod GrowthOutcomesExample
 pub mod GrowthEventsExample
 pub mod GrowthOthersExample
 mod GrowthExchangesExample
+mod GrowthScriptExample

@@ -14,7 +14,7 @@ use Rattle.si_model.specs.declared.log.Event.TheVariants.{Tried}
 use Rattle.si_model.specs.declared.log.Log.{Log}
 use Rattle.si_model.specs.Lists.{Listed, concat_of}
 use Rattle.si_model.specs.Rows.{rows_of}
-use Rattle.si_model.specs.Tells.{Tell, CountsFit, tells_of, last_number}
+use Rattle.si_model.specs.Tells.{Tell, CountsFit, tells_of, empty_log, last_number}
 use Rattle.si_model.specs.Commits.{Published, published_from, published_by}
 use Rattle.si_model.specs.View.{View, by_snapshots}
 use Rattle.si_model.specs.Setting.{Setting, Asked, by_script}
@@ -26,7 +26,7 @@ use Rattle.si_model.proofs.ListLemmas.{All-append, listed_append_cases, listed_a
 use Rattle.si_model.proofs.TriesLemmas.{follows_nothing, through_follows, follows_through}
 use Rattle.si_law.specs.Views.{AsksMore, AgreeOn}
 use Rattle.si_law.specs.Growth.{ending, worker_of, IsNoCommit, OwesQuietly, OwesCommit, told_by, OwesForScript}
-use Rattle.si_law.specs.Growth.{IsOfJobs, ScriptQuietGrowth, ScriptCommitGrowth, empty_log, first_walks, ScriptStart}
+use Rattle.si_law.specs.Growth.{IsOfJobs, ScriptQuietGrowth, ScriptCommitGrowth, first_walks, ScriptStart}
 use Rattle.si_law.specs.Growth.{ScriptThrough, ScriptWhole}
 use Rattle.si_law.proofs.GrowthEnds.{number_after, number_is, listed_own}
 use Rattle.si_law.proofs.GrowthCommits.{IsCommitOn}

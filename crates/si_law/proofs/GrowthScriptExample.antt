@@ -11,13 +11,13 @@ use Rattle.si_model.specs.declared.log.Event.TheVariants.{Tried}
 use Rattle.si_model.specs.declared.log.Log.{Log}
 use Rattle.si_model.specs.Rows.{key_at}
 use Rattle.si_model.specs.History.{loader}
-use Rattle.si_model.specs.Tells.{Tell, CountsFit, tells_of, own_snaps, with_tell}
+use Rattle.si_model.specs.Tells.{Tell, empty_log, with_tell}
 use Rattle.si_model.specs.Setting.{Setting, by_script}
 use Rattle.si_model.specs.Tries.{Walk, attempted, tidied, next_owed, FollowsSoFar, first_walk}
 use Rattle.si_model.specs.Tries.Stage.{going, committed}
 use Rattle.si_model.specs.Consistency.{AreConsistentFor, AreConsistentSoFar, view_by}
 use Rattle.si_model.proofs.TriesLemmas.{attempt_follows, tidying_follows}
-use Rattle.si_law.specs.Growth.{OwesQuietly, OwesCommit, OwesForScript, empty_log}
+use Rattle.si_law.specs.Growth.{OwesQuietly, OwesCommit, OwesForScript}
 use Rattle.si_law.proofs.GrowthEvent.{owes_dropped, stops_under_none}
 use Rattle.si_law.proofs.GrowthListed.{listed_nothing}
 use Rattle.si_law.proofs.GrowthSteps.{IsNextSnapshot, owes_with, next_moment, keeps_nothing}

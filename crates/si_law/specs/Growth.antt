@@ -13,7 +13,7 @@ use Rattle.si_model.specs.Lists.{Listed, concat_of}
 use Rattle.si_model.specs.Rows.{writes_key}
 use Rattle.si_model.specs.Evaluation.{evaluation_of}
 use Rattle.si_model.specs.History.{stamp_at, stamp_of, keys_of}
-use Rattle.si_model.specs.Tells.{Tell, CountsFit, tells_of, commit_in, last_number}
+use Rattle.si_model.specs.Tells.{Tell, CountsFit, tells_of, empty_log, commit_in, last_number}
 use Rattle.si_model.specs.Commits.{Published, published_by, snaps_of, snaps_by}
 use Rattle.si_model.specs.Snapshots.{contains}
 use Rattle.si_model.specs.View.{View}
@@ -176,9 +176,6 @@ ScriptCommitGrowth =
     → OwesCommit s (by_script s) (told_by s before) ts was t tail (told_by s after)
     → OwesForScript s (told_by s before) ts was (t ∷ tail) (told_by s after) new next
     → AreConsistentSoFar s (before ++ new ∷ after) (walks ++ next ∷ rest)
-
-abbrev pub empty_log : Log
-empty_log = record { events = []; reads = []; locks = []; writes = []; snaps = [] }
 
 -- of workers from number j on, as many
 abbrev pub first_walks : Setting → ℕ → ℕ → List Walk

@@ -183,3 +183,14 @@ module _ (s : Setting) (v : View) (j : ℕ) where
         (record { parts = walk.parts ++ tidied key (walk.at_hand ++ more) ∷ []; at_hand = []; owed = owed })
     tidying_follows key more owed after =
         part_follows ts walk h more (tidied key (walk.at_hand ++ more)) owed refl after (λ tidy. tt)
+
+-- what a front has come to stays, in another view too, where the whole log goes on from it there
+pub front_follows : (s : Setting) (v w : View) (j : ℕ) (ts : List Tell) (walk : Walk) → FollowsSoFar s v j ts walk
+    → (us : List Tell) (whole : Walk) (ps : List Part) → whole.parts ≡ walk.parts ++ ps → FollowsSoFar s w j us whole
+    → FollowsSoFar s w j ts walk
+front_follows s v w j ts walk h us whole ps goes_on more = record {
+  read = h.read;
+  along = h.along;
+  begun = h.begun;
+  fulls = λ tidy. fulls_front w j [] walk.parts ps (subst (FullsFollow w j []) goes_on (more.fulls tidy));
+}

@@ -118,6 +118,9 @@ pub record OwnsItems (t : Tell) : Type 0 where
   pub snap : is_some (prefix_in t.event) ≡ false → t.snap ≡ []
   pub ops : is_attempt t.event ≡ false → t.ops ≡ []
 
+abbrev pub empty_log : Log
+empty_log = record { events = []; reads = []; locks = []; writes = []; snaps = [] }
+
 -- the log with one more event and what it owns
 abbrev pub with_tell : Log → Tell → Log
 with_tell log t = record {

@@ -14,7 +14,7 @@ use Rattle.si_model.specs.declared.log.Event.TheVariants.{Tried}
 use Rattle.si_model.specs.declared.log.Log.{Log}
 use Rattle.si_model.specs.Lists.{Listed, concat_of}
 use Rattle.si_model.specs.Rows.{rows_of}
-use Rattle.si_model.specs.Tells.{Tell, CountsFit, tells_of, empty_log, last_number}
+use Rattle.si_model.specs.Tells.{Tell, CountsFit, ops_in, tells_of, OwnsItems, empty_log, with_tell, ListsTells, last_number}
 use Rattle.si_model.specs.Commits.{Published, published_from, published_by}
 use Rattle.si_model.specs.View.{View, by_snapshots}
 use Rattle.si_model.specs.Setting.{Setting, Asked, by_script}
@@ -23,6 +23,7 @@ use Rattle.si_model.specs.Tries.{Walk, FollowsSoFar, is_through, first_walk}
 use Rattle.si_model.specs.Consistency.{IsSound, AreSound, AreConsistent, FollowPolicies, AreConsistentFor}
 use Rattle.si_model.specs.Consistency.{FollowSoFar, AreConsistentSoFar, view_by}
 use Rattle.si_model.proofs.ListLemmas.{All-append, listed_append_cases, listed_append_left, listed_append_right}
+use Rattle.si_model.proofs.TellsLemmas.{listed_tells_by_jobs, lists_counts, counts_grow, tells_grow_by_jobs}
 use Rattle.si_model.proofs.TriesLemmas.{follows_nothing, through_follows, follows_through}
 use Rattle.si_law.specs.Views.{AsksMore, AgreeOn}
 use Rattle.si_law.specs.Growth.{ending, worker_of, IsNoCommit, OwesQuietly, OwesCommit, told_by, OwesForScript}
@@ -232,6 +233,32 @@ script_commit_growth s before log new after walks walk next rest ts was t tail s
     owes owes_script =
     commit_so_far s before log after walks walk rest ts was same tells consistent silent new next t tail of_jobs owes
     owes_script
+
+-- ---- what the new log owes, from what it lists
+
+-- a log that lists the front and the new end with their items, each attempt's operations those of its job
+pub owes_script : (s : Setting) (before : List (List Tell)) (ts was now : List Tell) (after : List (List Tell))
+    (log : Log) (walk : Walk) → ListsTells log (ts ++ now) [] [] [] []
+    → AllByRecursion (λ t. t.ops ≡ ops_in s.jobs t.event) (ts ++ now)
+    → FollowsSoFar s (view_by s (ending before ts was after)) (worker_of before) (ts ++ now) walk
+    → OwesForScript s before ts was now after log walk
+owes_script s before ts was now after log walk lists jobs follows = record {
+  counts = lists_counts log (ts ++ now) lists;
+  tells = listed_tells_by_jobs log (ts ++ now) [] [] [] [] lists s.jobs jobs;
+  follows = follows;
+}
+
+-- the log of the front, with one event more, in the place of whatever end
+pub owes_script_event : (s : Setting) (before : List (List Tell)) (front : Log) (was : List Tell) (t : Tell)
+    (after : List (List Tell)) (walk : Walk) → CountsFit front → OwnsItems t → t.ops ≡ ops_in s.jobs t.event
+    → FollowsSoFar s (view_by s (ending before (tells_of s.jobs front) was after)) (worker_of before)
+    (tells_of s.jobs front ++ t ∷ []) walk
+    → OwesForScript s before (tells_of s.jobs front) was (t ∷ []) after (with_tell front t) walk
+owes_script_event s before front was t after walk fits owns job follows = record {
+  counts = counts_grow front t fits owns;
+  tells = tells_grow_by_jobs s.jobs front t fits owns job;
+  follows = follows;
+}
 
 -- ---- the start, and the end
 

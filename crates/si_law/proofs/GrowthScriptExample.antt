@@ -1,7 +1,8 @@
 -- What the growth laws for a script owe can be met: a worker reads, commits and has nothing to tidy, each the smallest,
 -- and is through.
-use Rattle.std.proofs.Common.{◌≡◌, ℕ, true, false, List, [], ◌∷◌, ◌++◌, refl, arith, Some, inl}
-use Rattle.std.proofs.lemmas.Bool.{false≢true}
+use Rattle.std.proofs.Common.{◌≡◌, ℕ, true, List, [], ◌∷◌, length, refl, sym, ◌∙◌, arith, Some, inl}
+use Rattle.std.specs.Prelude.{is_some}
+use Rattle.std.proofs.lemmas.Bool.{false≢true, true≢false}
 use Rattle.si_model.specs.declared.row.Item.{Item}
 use Rattle.si_model.specs.declared.op.Op.{Op}
 use Rattle.si_model.specs.declared.log.Lock.{Lock}
@@ -11,7 +12,8 @@ use Rattle.si_model.specs.declared.log.Event.TheVariants.{Tried}
 use Rattle.si_model.specs.declared.log.Log.{Log}
 use Rattle.si_model.specs.Rows.{key_at}
 use Rattle.si_model.specs.History.{loader}
-use Rattle.si_model.specs.Tells.{Tell, empty_log, with_tell}
+use Rattle.si_model.specs.Tells.{Tell, prefix_in, reads_in, locks_in, writes_in, is_attempt, OwnsItems, empty_log}
+use Rattle.si_model.specs.Tells.{with_tell}
 use Rattle.si_model.specs.Setting.{Setting, by_script}
 use Rattle.si_model.specs.Tries.{Walk, attempted, tidied, next_owed, FollowsSoFar, first_walk}
 use Rattle.si_model.specs.Tries.Stage.{going, committed}
@@ -22,7 +24,8 @@ use Rattle.si_law.proofs.GrowthEvent.{owes_dropped, stops_under_none}
 use Rattle.si_law.proofs.GrowthListed.{listed_nothing}
 use Rattle.si_law.proofs.GrowthSteps.{IsNextSnapshot, owes_with, next_moment, keeps_nothing}
 use Rattle.si_law.proofs.GrowthExample.{setting, put, get, absent, seven, lock_on}
-use Rattle.si_law.proofs.GrowthScript.{script_quiet_growth, script_commit_growth, script_start, script_through}
+use Rattle.si_law.proofs.GrowthScript.{script_quiet_growth, script_commit_growth, owes_script_event, script_start}
+use Rattle.si_law.proofs.GrowthScript.{script_through}
 
 -- one worker with a transaction that reads and one that writes; it tidies, and tries once
 abbrev script : Setting
@@ -62,6 +65,17 @@ read_log = with_tell empty_log reading
 abbrev written_log : Log
 written_log = with_tell read_log writing
 
+-- an attempt with a snapshot counts its items
+owns : (t : Tell) → is_some (prefix_in t.event) ≡ true → reads_in t.event ≡ length t.reads
+    → locks_in t.event ≡ length t.locks → writes_in t.event ≡ length t.writes → is_attempt t.event ≡ true → OwnsItems t
+owns t seen reads locks writes tried = record {
+  reads = reads;
+  locks = locks;
+  writes = writes;
+  snap = λ none. absurd (true≢false (sym seen ∙ none));
+  ops = λ none. absurd (true≢false (sym tried ∙ none));
+}
+
 start : AreConsistentSoFar script (empty_log ∷ []) (first_walk script 1 ∷ [])
 start = script_start script
 
@@ -90,13 +104,10 @@ abbrev read_walk : Walk
 read_walk = record { parts = attempted reading ∷ []; at_hand = []; owed = next_owed [] (2 ∷ []) going }
 
 owes_read_script : OwesForScript script [] [] [] (reading ∷ []) [] read_log read_walk
-owes_read_script = record {
-  counts = record { reads = refl; locks = refl; writes = refl; snaps = refl };
-  tells = refl;
-  follows =
-      attempt_follows script (view_by script ([] ∷ [])) 1 [] (first_walk script 1) start.follow.0 reading
-      (next_owed [] (2 ∷ []) going) refl refl (λ tidy. tt);
-}
+owes_read_script =
+    owes_script_event script [] empty_log [] reading [] read_walk start.counts.0 (owns reading refl refl refl refl refl) refl
+    (attempt_follows script (view_by script ([] ∷ [])) 1 [] (first_walk script 1) start.follow.0 reading
+    (next_owed [] (2 ∷ []) going) refl refl (λ tidy. tt))
 
 read_so_far : AreConsistentSoFar script (read_log ∷ []) (read_walk ∷ [])
 read_so_far =
@@ -145,13 +156,11 @@ written_walk = record {
 }
 
 owes_write_script : OwesForScript script [] (reading ∷ []) [] (writing ∷ []) [] written_log written_walk
-owes_write_script = record {
-  counts = record { reads = refl; locks = refl; writes = refl; snaps = refl };
-  tells = refl;
-  follows =
-      attempt_follows script (view_by script ((reading ∷ []) ∷ [])) 1 (reading ∷ []) read_walk read_so_far.follow.0
-      writing (next_owed (key_at 0 0 ∷ []) [] committed) refl refl (λ tidy. tt);
-}
+owes_write_script =
+    owes_script_event script [] read_log [] writing [] written_walk read_so_far.counts.0
+    (owns writing refl refl refl refl refl) refl
+    (attempt_follows script (view_by script ((reading ∷ []) ∷ [])) 1 (reading ∷ []) read_walk read_so_far.follow.0
+    writing (next_owed (key_at 0 0 ∷ []) [] committed) refl refl (λ tidy. tt))
 
 written_so_far : AreConsistentSoFar script (written_log ∷ []) (written_walk ∷ [])
 written_so_far =
@@ -177,7 +186,7 @@ through_walk = record {
 
 owes_no_move_script : OwesForScript script [] all [] [] [] written_log through_walk
 owes_no_move_script = record {
-  counts = record { reads = refl; locks = refl; writes = refl; snaps = refl };
+  counts = written_so_far.counts.0;
   tells = refl;
   follows =
       tidying_follows script (view_by script (all ∷ [])) 1 all written_walk written_so_far.follow.0 (key_at 0 0) []

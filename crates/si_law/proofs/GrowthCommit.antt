@@ -1,10 +1,9 @@
 -- An end may be exchanged for one that starts with a commit.
-use Rattle.std.proofs.Common.{◌≡◌, ◌≢◌, ℕ, suc, ◌+◌, ◌-◌, ◌<◌, true, false, inl, inr, List, [], ◌∷◌, ◌++◌, length}
-use Rattle.std.proofs.Common.{get_or, refl, ap, sym, ◌∙◌, subst, arith, not, Some}
+use Rattle.std.proofs.Common.{◌≡◌, ◌≢◌, ℕ, suc, ◌+◌, ◌<◌, true, false, inl, inr, List, [], ◌∷◌, ◌++◌, length}
+use Rattle.std.proofs.Common.{refl, ap, sym, ◌∙◌, subst, arith, not, Some}
 use Rattle.std.specs.Prelude.{IsTrue, ◌&&◌, if◌then◌else◌, replicate, map, slice_index_or}
 use Rattle.std.specs.List.{AllByRecursion}
 use Rattle.std.proofs.lemmas.Bool.{cond_both, false≢true, false_from_ne_true, and_parts}
-use Rattle.std.proofs.lemmas.List.{append_assoc}
 use Rattle.si_model.specs.declared.row.Key.{Key}
 use Rattle.si_model.specs.declared.row.Item.{Item}
 use Rattle.si_model.specs.declared.log.Stamp.{Stamp}
@@ -16,7 +15,7 @@ use Rattle.si_model.specs.Rows.{rows_of, item_key, same_key, writes_key}
 use Rattle.si_model.specs.Evaluation.{evaluation_of, guard_keys, keys_from, key_guarded, ops_write}
 use Rattle.si_model.specs.History.{stamp_at, stamp_of, same_stamp, keys_of}
 use Rattle.si_model.specs.Tells.{Tell, prefix_in, last_number}
-use Rattle.si_model.specs.Commits.{Published, entry_of, published_of, published_from, published_by, snaps_of, snaps_by}
+use Rattle.si_model.specs.Commits.{Published, entry_of, published_of, published_by, snaps_of, snaps_by}
 use Rattle.si_model.specs.Snapshots.{contains, rows_in}
 use Rattle.si_model.specs.View.{View}
 use Rattle.si_model.specs.Setting.{Setting, Asked}
@@ -31,7 +30,6 @@ use Rattle.si_law.specs.Views.{AsksMore, Extends, Agrees, AgreeOn, KeepCauses}
 use Rattle.si_law.specs.Growth.{ending, worker_of, known_after_all, IsNoCommit, OwesCommit, CommitGrowth}
 use Rattle.si_model.proofs.ListLemmas.{All-append, listed_append_left, listed_append_right, listed_append_cases}
 use Rattle.si_model.proofs.ListLemmas.{filter_listed, listed_map, any_listed, listed_any}
-use Rattle.si_model.proofs.SnapshotLemmas.{contains_says}
 use Rattle.si_model.proofs.EvaluationLemmas.{same_key-refl, same_key_says, done-writes_key, done-guards}
 use Rattle.si_law.proofs.Moved.{same_stamp-refl, same_stamp_says, moved_answers, moved_sees, moved_causes_after}
 use Rattle.si_law.proofs.Moved.{moved_sound}

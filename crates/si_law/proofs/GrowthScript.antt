@@ -1,16 +1,11 @@
 -- For a script: one worker's log and walk are exchanged, and the walks of the others stay.
-use Rattle.std.proofs.Common.{◌≡◌, ◌≢◌, ℕ, zero, suc, ◌+◌, ◌≤◌, true, inl, inr, List, [], ◌∷◌, ◌++◌, length, refl, ap}
-use Rattle.std.proofs.Common.{sym, ◌∙◌, subst, arith, map}
+use Rattle.std.proofs.Common.{◌≡◌, ℕ, zero, suc, ◌+◌, ◌≤◌, true, inl, inr, List, [], ◌∷◌, ◌++◌, length, refl, ap}
+use Rattle.std.proofs.Common.{sym, ◌∙◌, subst, arith}
 use Rattle.std.specs.Prelude.{replicate}
 use Rattle.std.specs.List.{list_all, AllByRecursion}
 use Rattle.std.proofs.lemmas.Bool.{and_parts}
 use Rattle.std.proofs.lemmas.List.{map-append, length-map}
 use Rattle.si_model.specs.declared.log.Attempt.{Attempt}
-use Rattle.si_model.specs.declared.log.Lock.{Lock}
-use Rattle.si_model.specs.declared.log.Outcome.{Outcome}
-use Rattle.si_model.specs.declared.log.Outcome.TheVariants.{Commit, Full}
-use Rattle.si_model.specs.declared.log.Event.{Event}
-use Rattle.si_model.specs.declared.log.Event.TheVariants.{Tried}
 use Rattle.si_model.specs.declared.log.Log.{Log}
 use Rattle.si_model.specs.Lists.{Listed, concat_of}
 use Rattle.si_model.specs.Rows.{rows_of}
@@ -19,17 +14,17 @@ use Rattle.si_model.specs.Commits.{Published, published_from, published_by}
 use Rattle.si_model.specs.View.{View, by_snapshots}
 use Rattle.si_model.specs.Setting.{Setting, Asked, by_script}
 use Rattle.si_model.specs.Answers.{AnswersIn}
-use Rattle.si_model.specs.Tries.{Walk, FollowsSoFar, is_through, first_walk}
-use Rattle.si_model.specs.Consistency.{IsSound, AreSound, AreConsistent, FollowPolicies, AreConsistentFor}
+use Rattle.si_model.specs.Tries.{Walk, FollowsSoFar, is_through}
+use Rattle.si_model.specs.Consistency.{IsSound, AreSound, AreConsistent, FollowPolicies}
 use Rattle.si_model.specs.Consistency.{FollowSoFar, AreConsistentSoFar, view_by}
-use Rattle.si_model.proofs.ListLemmas.{All-append, listed_append_cases, listed_append_left, listed_append_right}
+use Rattle.si_model.proofs.ListLemmas.{listed_append_cases, listed_append_left, listed_append_right}
 use Rattle.si_model.proofs.TellsLemmas.{listed_tells_by_jobs, lists_counts, counts_grow, tells_grow_by_jobs}
 use Rattle.si_model.proofs.TriesLemmas.{follows_nothing, through_follows, follows_through}
 use Rattle.si_law.specs.Views.{AsksMore, AgreeOn}
 use Rattle.si_law.specs.Growth.{ending, worker_of, IsNoCommit, OwesQuietly, OwesCommit, told_by, OwesForScript}
 use Rattle.si_law.specs.Growth.{IsOfJobs, ScriptQuietGrowth, ScriptCommitGrowth, first_walks, ScriptStart}
 use Rattle.si_law.specs.Growth.{ScriptThrough, ScriptWhole}
-use Rattle.si_law.proofs.GrowthEnds.{number_after, number_is, listed_own}
+use Rattle.si_law.proofs.GrowthEnds.{number_after, number_is}
 use Rattle.si_law.proofs.GrowthCommits.{IsCommitOn}
 use Rattle.si_law.proofs.GrowthKeeps.{All-front}
 use Rattle.si_law.proofs.GrowthQuiet.{quiet_growth, same_published}

@@ -15,14 +15,14 @@ use Rattle.si_model.specs.History.{loader}
 use Rattle.si_model.specs.Tells.{Tell, prefix_in, reads_in, locks_in, writes_in, is_attempt, OwnsItems, empty_log}
 use Rattle.si_model.specs.Tells.{with_tell}
 use Rattle.si_model.specs.Setting.{Setting, by_script}
-use Rattle.si_model.specs.Tries.{Walk, attempted, tidied, next_owed, FollowsSoFar, first_walk}
+use Rattle.si_model.specs.Tries.{Walk, attempted, tidied, next_owed, first_walk}
 use Rattle.si_model.specs.Tries.Stage.{going, committed}
 use Rattle.si_model.specs.Consistency.{AreConsistentFor, AreConsistentSoFar, view_by}
 use Rattle.si_model.proofs.TriesLemmas.{attempt_follows, tidying_follows}
 use Rattle.si_law.specs.Growth.{OwesQuietly, OwesCommit, OwesForScript}
 use Rattle.si_law.proofs.GrowthEvent.{owes_dropped, stops_under_none}
 use Rattle.si_law.proofs.GrowthListed.{listed_nothing}
-use Rattle.si_law.proofs.GrowthSteps.{IsNextSnapshot, owes_with, next_moment, keeps_nothing}
+use Rattle.si_law.proofs.GrowthSteps.{owes_with, next_moment, keeps_nothing}
 use Rattle.si_law.proofs.GrowthExample.{setting, put, get, absent, seven, lock_on}
 use Rattle.si_law.proofs.GrowthScript.{script_quiet_growth, script_commit_growth, owes_script_event, script_start}
 use Rattle.si_law.proofs.GrowthScript.{script_through}

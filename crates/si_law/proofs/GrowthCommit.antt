@@ -1,10 +1,9 @@
 -- An end may be exchanged for one that starts with a commit.
-use Rattle.std.proofs.Common.{◌≡◌, ◌≢◌, ℕ, suc, ◌+◌, ◌-◌, ◌<◌, true, false, inl, inr, List, [], ◌∷◌, ◌++◌, length}
-use Rattle.std.proofs.Common.{get_or, refl, ap, sym, ◌∙◌, subst, arith, not, Some}
+use Rattle.std.proofs.Common.{◌≡◌, ◌≢◌, ℕ, suc, ◌+◌, ◌<◌, true, false, inl, inr, List, [], ◌∷◌, ◌++◌, length}
+use Rattle.std.proofs.Common.{refl, ap, sym, ◌∙◌, subst, arith, not, Some}
 use Rattle.std.specs.Prelude.{IsTrue, ◌&&◌, if◌then◌else◌, replicate, map, slice_index_or}
 use Rattle.std.specs.List.{AllByRecursion}
 use Rattle.std.proofs.lemmas.Bool.{cond_both, false≢true, false_from_ne_true, and_parts}
-use Rattle.std.proofs.lemmas.List.{append_assoc}
 use Rattle.si_model.specs.declared.row.Key.{Key}
 use Rattle.si_model.specs.declared.row.Item.{Item}
 use Rattle.si_model.specs.declared.log.Stamp.{Stamp}
@@ -16,7 +15,7 @@ use Rattle.si_model.specs.Rows.{rows_of, item_key, same_key, writes_key}
 use Rattle.si_model.specs.Evaluation.{evaluation_of, guard_keys, keys_from, key_guarded, ops_write}
 use Rattle.si_model.specs.History.{stamp_at, stamp_of, same_stamp, keys_of}
 use Rattle.si_model.specs.Tells.{Tell, prefix_in, last_number}
-use Rattle.si_model.specs.Commits.{Published, entry_of, published_of, published_from, published_by, snaps_of, snaps_by}
+use Rattle.si_model.specs.Commits.{Published, entry_of, published_of, published_by, snaps_of, snaps_by}
 use Rattle.si_model.specs.Snapshots.{contains, rows_in}
 use Rattle.si_model.specs.View.{View}
 use Rattle.si_model.specs.Setting.{Setting, Asked}
@@ -31,12 +30,11 @@ use Rattle.si_law.specs.Views.{AsksMore, Extends, Agrees, AgreeOn, KeepCauses}
 use Rattle.si_law.specs.Growth.{ending, worker_of, known_after_all, IsNoCommit, OwesCommit, CommitGrowth}
 use Rattle.si_model.proofs.ListLemmas.{All-append, listed_append_left, listed_append_right, listed_append_cases}
 use Rattle.si_model.proofs.ListLemmas.{filter_listed, listed_map, any_listed, listed_any}
-use Rattle.si_model.proofs.SnapshotLemmas.{contains_says}
 use Rattle.si_model.proofs.EvaluationLemmas.{same_key-refl, same_key_says, done-writes_key, done-guards}
 use Rattle.si_law.proofs.Moved.{same_stamp-refl, same_stamp_says, moved_answers, moved_sees, moved_causes_after}
 use Rattle.si_law.proofs.Moved.{moved_sound}
-use Rattle.si_law.proofs.GrowthEnds.{number_after, number_is, published_ending, tells_own, last_number-append}
-use Rattle.si_law.proofs.GrowthEnds.{within_entry, listed_snap, listed_joined_snap, others_joined, listed_own}
+use Rattle.si_law.proofs.GrowthEnds.{number_after, number_is, tells_own, last_number-append}
+use Rattle.si_law.proofs.GrowthEnds.{next_outside, listed_snap, listed_joined_snap, others_joined, listed_own}
 use Rattle.si_law.proofs.GrowthEnds.{snaps_cases}
 use Rattle.si_law.proofs.GrowthCommits.{IsCommitOn, published_on, owned_commit, published_of-append, silent_last}
 use Rattle.si_law.proofs.GrowthCommits.{commit_published, commit_last, last_is, follow_append, published_snap}
@@ -45,7 +43,7 @@ use Rattle.si_law.proofs.GrowthKeeps.{All-front, sees_front, sees_append, causes
 use Rattle.si_law.proofs.GrowthKeeps.{keeps_causes, order_end, owned_end, sound_end, Stops}
 use Rattle.si_law.proofs.GrowthQuiet.{silent_end}
 use Rattle.si_law.proofs.GrowthView.{IsWithOneMore, one_more_listed, one_more_cases, one_more_length, one_more_rows}
-use Rattle.si_law.proofs.GrowthView.{one_more_extends, one_more_agrees}
+use Rattle.si_law.proofs.GrowthView.{one_more_extends, one_more_agrees, one_more_ending}
 
 -- ---- keys of write sets
 
@@ -97,11 +95,11 @@ module _ (s : Setting) (asked more : Asked) (before : List (List Tell)) (ts was 
   abbrev w : View
   w = view_by s new
 
-  tried : (a : Attempt) × (p : ℕ) × IsCommitOn t a p number
+  pub tried : (a : Attempt) × (p : ℕ) × IsCommitOn t a p number
   tried = owned_commit s.start t number owes.owes.owned.0 owes.commit.number
 
   -- the commit as it is listed
-  abbrev mine : Published
+  abbrev pub mine : Published
   mine = published_on worker t tried.0 tried.1 number
 
   abbrev stamp : Stamp
@@ -114,48 +112,31 @@ module _ (s : Setting) (asked more : Asked) (before : List (List Tell)) (ts was 
   last_now = last_number-append s.start ts (t ∷ rest)
       ∙ commit_last (last_number s.start ts) number t rest owes.commit.number owes.silent
 
-  published_now : (j : ℕ) → published_of j (ts ++ t ∷ rest) ≡ published_of j ts
+  pub published_now : (j : ℕ) → published_of j (ts ++ t ∷ rest) ≡ published_of j ts
       ++ published_on j t tried.0 tried.1 number ∷ []
   published_now j =
       published_of-append j ts (t ∷ rest) ∙ ap (λ ds. published_of j ts ++ ds)
       (commit_published j t rest tried.0 tried.1 number tried.2 owes.silent)
 
-  one_more : IsWithOneMore mine cs cs'
+  pub one_more : IsWithOneMore mine cs cs'
   one_more =
-      let own = published_of worker ts in
-      let back = published_from (suc worker) after in
-      record {
-        front = published_by before ++ own;
-        back = back;
-        was =
-            published_ending (ts ++ was) after before
-            ∙ ap (λ ds. published_by before ++ (ds ++ back)) (silent_end worker ts was silent)
-            ∙ sym (append_assoc (published_by before) own back);
-        now = published_ending (ts ++ t ∷ rest) after before
-            ∙ ap (λ ds. published_by before ++ (ds ++ back)) (published_now worker)
-            ∙ ap (λ ds. published_by before ++ ds) (append_assoc own (mine ∷ []) back)
-            ∙ sym (append_assoc (published_by before) own (mine ∷ back));
-      }
+      one_more_ending mine before (ts ++ was) (ts ++ t ∷ rest) after
+      (published_now worker ∙ ap (λ ds. ds ++ mine ∷ []) (sym (silent_end worker ts was silent)))
 
   -- ---- no snapshot contains it, and none of the others bears its stamp
 
   outside : (snap : List ℕ) → IsWithin s.start snap old → contains snap stamp ≡ false
-  outside snap within = false_from_ne_true (contains snap stamp) refuted
-    where
-      refuted : contains snap stamp ≡ true → ⊥
-      refuted e =
-          let says = (contains_says snap stamp e).1 in
-          let entry = within_entry s.start snap before (ts ++ was) after within in
-          let place : worker_of before - 1 ≡ length before = omega arith in
-          omega (arith, says, entry, last_was, ap (λ i. get_or snap i 0) place)
+  outside snap within =
+      ap (λ n. contains snap (stamp_at worker (n + 1))) (sym last_was)
+      ∙ next_outside s.start snap before (ts ++ was) after within
 
-  old_outside : (snap : List ℕ) → Listed snap (snaps_by old) → contains snap stamp ≡ false
+  pub old_outside : (snap : List ℕ) → Listed snap (snaps_by old) → contains snap stamp ≡ false
   old_outside snap l = outside snap (consistent.order.within snap l)
 
-  new_outside : (snap : List ℕ) → Listed snap (snaps_of (t ∷ rest)) → contains snap stamp ≡ false
+  pub new_outside : (snap : List ℕ) → Listed snap (snaps_of (t ∷ rest)) → contains snap stamp ≡ false
   new_outside snap l = outside snap ((owes.owes.moments snap l).within)
 
-  commit_outside : (d : Published) → Listed d cs → contains d.snap stamp ≡ false
+  pub commit_outside : (d : Published) → Listed d cs → contains d.snap stamp ≡ false
   commit_outside d l = old_outside d.snap (published_snap 1 old d l)
 
   own_snap : Listed t.snap (snaps_of (t ∷ rest))
@@ -171,22 +152,22 @@ module _ (s : Setting) (asked more : Asked) (before : List (List Tell)) (ts was 
 
   -- ---- the views
 
-  extends : Extends v w
+  pub extends : Extends v w
   extends = one_more_extends mine cs cs' one_more (rows_of s.rows)
 
   agrees : (u : Tell) → contains u.snap stamp ≡ false → Agrees v w u
   agrees u out = one_more_agrees mine cs cs' one_more (rows_of s.rows) u commit_outside out
 
-  agree_old : (log : List Tell) → ((u : Tell) → Listed u log → Listed u (concat_of old)) → AgreeOn v w log
+  pub agree_old : (log : List Tell) → ((u : Tell) → Listed u log → Listed u (concat_of old)) → AgreeOn v w log
   agree_old log within u l p e = agrees u (old_outside u.snap (listed_joined_snap u old p (within u l) e))
 
-  agree_new : AgreeOn v w (t ∷ rest)
+  pub agree_new : AgreeOn v w (t ∷ rest)
   agree_new u l p e = agrees u (new_outside u.snap (listed_snap u (t ∷ rest) p l e))
 
-  agree_front : AgreeOn v w ts
+  pub agree_front : AgreeOn v w ts
   agree_front = agree_old ts (λ u l. listed_own u before (ts ++ was) after (listed_append_left ts was u l))
 
-  same_rows : (snap : List ℕ) → contains snap stamp ≡ false
+  pub same_rows : (snap : List ℕ) → contains snap stamp ≡ false
       → rows_in (rows_of s.rows) cs snap ≡ rows_in (rows_of s.rows) cs' snap
   same_rows snap out = one_more_rows mine cs cs' one_more (rows_of s.rows) snap out
 

@@ -1,20 +1,23 @@
 -- What logs list where one worker's log has another end.
-use Rattle.std.proofs.Common.{◌≡◌, ◌≢◌, ℕ, zero, suc, ◌+◌, ◌≤◌, Bool, true, false, cond, ◌⊎◌, inl, inr, List, [], ◌∷◌}
+use Rattle.std.proofs.Common.{◌≡◌, ◌≢◌, ℕ, zero, suc, ◌+◌, ◌-◌, ◌≤◌, Bool, true, false, cond, ◌⊎◌, inl, inr, List, [], ◌∷◌}
 use Rattle.std.proofs.Common.{◌++◌, length, get_or, refl, ap, sym, ◌∙◌, subst, arith, Some}
 use Rattle.std.specs.Prelude.{◌==◌, filter, is_some, slice_index_or}
 use Rattle.std.specs.List.{list_any, list_all}
-use Rattle.std.proofs.lemmas.Bool.{cases_Bool, cond_both, true≢false, and_parts, or_cases, or_left, or_right}
+use Rattle.std.proofs.lemmas.Bool.{cases_Bool, cond_both, true≢false, false_from_ne_true, and_parts, or_cases, or_left, or_right}
 use Rattle.std.proofs.lemmas.Bool.Decides.{nat_tests}
 use Rattle.std.proofs.lemmas.List.{append_assoc, append-nil, length-append}
 use Rattle.std.proofs.lemmas.List.Elements.{filter-append}
 use Rattle.std.proofs.lemmas.List.Folds.{list_any-append, list_all-append}
 use Rattle.si_model.specs.Lists.{Listed, concat_of}
+use Rattle.si_model.specs.History.{stamp_at}
 use Rattle.si_model.specs.Tells.{Tell, prefix_in, last_number}
 use Rattle.si_model.specs.Commits.{published_of, published_from, published_by, snaps_of, snaps_by}
+use Rattle.si_model.specs.Snapshots.{contains}
 use Rattle.si_model.specs.Causes.{others_from, others_of, tells_by, moves_into, move_count}
 use Rattle.si_model.specs.Consistency.{IsWithin}
 use Rattle.si_law.specs.Growth.{ending, worker_of}
 use Rattle.si_model.proofs.ListLemmas.{listed_append_cases, listed_append_left, listed_append_right}
+use Rattle.si_model.proofs.SnapshotLemmas.{contains_says}
 
 -- ---- what stands between two lists
 
@@ -220,6 +223,20 @@ within_entry start [] [] ts after h = elim h [ ]
 within_entry start (n ∷ ns) [] ts after h = h.1
 within_entry start [] (b ∷ before) ts after h = elim h [ ]
 within_entry start (n ∷ ns) (b ∷ before) ts after h = within_entry start ns before ts after h.2
+
+-- a snapshot of what is published doesn't contain the commit that the worker makes next
+pub next_outside : (start : ℕ) (snap : List ℕ) (before : List (List Tell)) (ts : List Tell) (after : List (List Tell)) →
+    IsWithin start snap (before ++ ts ∷ after)
+    → contains snap (stamp_at (worker_of before) (last_number start ts + 1)) ≡ false
+next_outside start snap before ts after within =
+    false_from_ne_true (contains snap (stamp_at (worker_of before) (last_number start ts + 1))) refuted
+  where
+    refuted : contains snap (stamp_at (worker_of before) (last_number start ts + 1)) ≡ true → ⊥
+    refuted e =
+        let says = (contains_says snap (stamp_at (worker_of before) (last_number start ts + 1)) e).1 in
+        let entry = within_entry start snap before ts after within in
+        let place : worker_of before - 1 ≡ length before = omega arith in
+        omega (arith, says, entry, ap (λ i. get_or snap i 0) place)
 
 -- ---- members
 

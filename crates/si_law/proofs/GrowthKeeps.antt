@@ -87,7 +87,7 @@ module _ (s : Setting) (before : List (List Tell)) (ts was now : List Tell) (aft
   abbrev new : List (List Tell)
   new = ending before ts now after
 
-  others_any : (p : Tell → Bool) (i : ℕ) → (list_any p was ≡ true → list_any p now ≡ true)
+  pub others_any : (p : Tell → Bool) (i : ℕ) → (list_any p was ≡ true → list_any p now ≡ true)
       → list_any p (others_of i old) ≡ true →
       list_any p (others_of i new) ≡ true
   others_any p i keep h = elim (same_or_apart (worker_of before) i) [
@@ -102,7 +102,7 @@ module _ (s : Setting) (before : List (List Tell)) (ts was now : List Tell) (aft
         (subst (λ xs. list_any p xs ≡ true) (others_of_other i before (ts ++ was) after e) h))
   ]
 
-  others_moves : (b i : ℕ) → move_count b was ≤ move_count b now
+  pub others_moves : (b i : ℕ) → move_count b was ≤ move_count b now
       → move_count b (others_of i old) ≤ move_count b (others_of i new)
   others_moves b i le = elim (same_or_apart (worker_of before) i) [
     | inl e ↦ subst (λ n. move_count b (others_of n old) ≤ move_count b (others_of n new)) e (
@@ -116,7 +116,7 @@ module _ (s : Setting) (before : List (List Tell)) (ts was now : List Tell) (aft
         omega (arith, more, a, c)
   ]
 
-  all_moves : (b : ℕ) → move_count b was ≤ move_count b now
+  pub all_moves : (b : ℕ) → move_count b was ≤ move_count b now
       → move_count b (concat_of old) ≤ move_count b (concat_of new)
   all_moves b le =
       let more = moves_between b (concat_of before) (ts ++ was) (ts ++ now) (concat_of after)
@@ -126,7 +126,7 @@ module _ (s : Setting) (before : List (List Tell)) (ts was now : List Tell) (aft
       omega (arith, more, a, c)
 
   -- a test that all events pass, and those of the new end
-  all_pass_too : (p : Tell → Bool) → list_all p (concat_of old) ≡ true → list_all p now ≡ true
+  pub all_pass_too : (p : Tell → Bool) → list_all p (concat_of old) ≡ true → list_all p now ≡ true
       → list_all p (concat_of new) ≡ true
   all_pass_too p h k =
       let front = concat_of before ++ ts in
@@ -150,7 +150,7 @@ module _ (s : Setting) (before : List (List Tell)) (ts was now : List Tell) (aft
     abbrev last : ℕ
     last = last_number s.start ts
 
-    kept_stops : (key : Key) (q : Stamp) → list_any (λ o. tells_newer key q o.event) log ≡ true → q.thread ≢ i →
+    pub kept_stops : (key : Key) (q : Stamp) → list_any (λ o. tells_newer key q o.event) log ≡ true → q.thread ≢ i →
         ends_locking key (tells_by q.thread old) ≡ true → q.number ≡ last_number s.start (tells_by q.thread old) + 1 →
         (is_written w key q ≡ true) ⊎ ((ends_locking key (tells_by q.thread new) ≡ true)
         × (q.number ≡ last_number s.start (tells_by q.thread new) + 1))

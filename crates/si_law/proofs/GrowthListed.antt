@@ -7,7 +7,10 @@ use Rattle.std.proofs.lemmas.List.{append-nil}
 use Rattle.std.proofs.lemmas.List.Folds.{list_any-append}
 use Rattle.si_model.specs.declared.log.Lock.{Lock}
 use Rattle.si_model.specs.declared.log.Attempt.{Attempt}
-use Rattle.si_model.specs.declared.log.Event.TheVariants.{Tried}
+use Rattle.si_model.specs.declared.log.Stamp.{Stamp}
+use Rattle.si_model.specs.declared.log.Event.{Event}
+use Rattle.si_model.specs.declared.log.Event.TheVariants.{Tried, Moved, Collected}
+use Rattle.si_model.specs.declared.row.Key.{Key}
 use Rattle.si_model.specs.Rows.{same_key}
 use Rattle.si_model.specs.History.{same_stamp}
 use Rattle.si_model.specs.Tells.{Tell}
@@ -72,3 +75,55 @@ listed_locking t u a locks rest is more = record {
 
     none : (b : ℕ) → move_count b (t ∷ []) ≡ 0
     none b = rw (ap (moves_into b) is) refl
+
+-- ---- an event that may be dropped
+
+-- may others rest on the event, its locks apart
+abbrev pub is_rested_on : Event → Bool
+is_rested_on (Moved b table key q how) = true
+is_rested_on (Collected b prefix entries cut) = true
+is_rested_on event = false
+
+module _ (e : Event) (none : is_rested_on e ≡ false) where
+  no_entry : (i n : ℕ) → collects_entry i n e ≡ false
+  no_entry i n = by e none
+    where
+      by : (e : Event) → is_rested_on e ≡ false → collects_entry i n e ≡ false
+      by (Collected b prefix entries cut) h = absurd (false≢true (sym h))
+      by event h = refl
+
+  no_collect : has_collected e ≡ false
+  no_collect = by e none
+    where
+      by : (e : Event) → is_rested_on e ≡ false → has_collected e ≡ false
+      by (Collected b prefix entries cut) h = absurd (false≢true (sym h))
+      by event h = refl
+
+  no_done : (key : Key) (q : Stamp) → moves_version is_done key q e ≡ false
+  no_done key q = by e none
+    where
+      by : (e : Event) → is_rested_on e ≡ false → moves_version is_done key q e ≡ false
+      by (Moved b table k r how) h = absurd (false≢true (sym h))
+      by event h = refl
+
+  no_move : (b : ℕ) → moves_into b e ≡ false
+  no_move b = by e none
+    where
+      by : (e : Event) → is_rested_on e ≡ false → moves_into b e ≡ false
+      by (Moved c table k r how) h = absurd (false≢true (sym h))
+      by event h = refl
+
+-- an event without locks on which nobody rests may be dropped
+pub listed_dropped : (t : Tell) → t.locks ≡ [] → is_rested_on t.event ≡ false → KeepsListed (t ∷ []) []
+listed_dropped t unlocked none = record {
+  locks = λ key q h.
+      absurd (false≢true (sym (ap (λ ls. list_any (λ l. same_key (lock_key l) key && same_stamp l.stamp q) ls || false)
+      unlocked) ∙ h));
+  entries = λ i n h. absurd (false≢true (sym (ap (λ b. b || false) (no_entry t.event none i n)) ∙ h));
+  collects = λ h. absurd (false≢true (sym (ap (λ b. b || false) (no_collect t.event none)) ∙ h));
+  done = λ key q h. absurd (false≢true (sym (ap (λ b. b || false) (no_done t.event none key q)) ∙ h));
+  moves = λ b. subst (λ n. n ≤ 0) (sym (moves_none b)) (omega arith);
+}
+  where
+    moves_none : (b : ℕ) → move_count b (t ∷ []) ≡ 0
+    moves_none b = rw (no_move t.event none b) refl

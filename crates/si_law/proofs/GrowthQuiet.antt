@@ -57,7 +57,7 @@ module _ (s : Setting) (asked more : Asked) (before : List (List Tell)) (ts was 
   same_of : (j : ℕ) → published_of j (ts ++ was) ≡ published_of j (ts ++ now)
   same_of j = silent_end j ts was silent ∙ sym (silent_end j ts now owes.silent)
 
-  same_published : published_by old ≡ published_by new
+  pub same_published : published_by old ≡ published_by new
   same_published =
       published_ending (ts ++ was) after before
       ∙ ap (λ cs. published_by before ++ (cs ++ published_from (suc worker) after)) (same_of worker)

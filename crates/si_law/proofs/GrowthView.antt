@@ -1,9 +1,9 @@
 -- Snapshots that don't contain one more commit say what they said.
-use Rattle.std.proofs.Common.{◌≡◌, ℕ, suc, Bool, true, false, ◌⊎◌, inl, inr, List, ◌∷◌, ◌++◌, length, refl, ap, sym}
+use Rattle.std.proofs.Common.{◌≡◌, ℕ, suc, Bool, true, false, ◌⊎◌, inl, inr, List, [], ◌∷◌, ◌++◌, length, refl, ap, sym}
 use Rattle.std.proofs.Common.{◌∙◌, subst, arith}
 use Rattle.std.specs.Prelude.{◌&&◌, filter, map}
 use Rattle.std.proofs.lemmas.Bool.{cases_Bool, true≢false, false_from_ne_true, or_parts, or_from, and_right}
-use Rattle.std.proofs.lemmas.List.{length-append, length-map}
+use Rattle.std.proofs.lemmas.List.{append_assoc, length-append, length-map}
 use Rattle.std.proofs.lemmas.List.Elements.{filter-append}
 use Rattle.si_model.specs.declared.row.Key.{Key}
 use Rattle.si_model.specs.declared.log.Stamp.{Stamp}
@@ -12,13 +12,15 @@ use Rattle.si_model.specs.Lists.{Listed}
 use Rattle.si_model.specs.Rows.{Rows, writes_key}
 use Rattle.si_model.specs.History.{loader, stamp_of, same_stamp, has_stamp, versions_of, is_version}
 use Rattle.si_model.specs.Tells.{Tell}
-use Rattle.si_model.specs.Commits.{Published, entry_of}
+use Rattle.si_model.specs.Commits.{Published, entry_of, published_of, published_from, published_by}
 use Rattle.si_model.specs.Snapshots.{contains, inside, newest_in, stamp_or_loader, value_by, rows_in, is_after}
 use Rattle.si_model.specs.Snapshots.{later_in}
 use Rattle.si_model.specs.View.{by_snapshots}
 use Rattle.si_model.proofs.ListLemmas.{All-from_listed, listed_append_cases, listed_append_left, listed_append_right}
 use Rattle.si_model.proofs.ListLemmas.{filter_listed, listed_map, map_listed, any_listed, listed_any, filter-none}
 use Rattle.si_law.specs.Views.{Extends, Agrees}
+use Rattle.si_law.specs.Growth.{worker_of}
+use Rattle.si_law.proofs.GrowthEnds.{published_ending}
 use Rattle.si_law.proofs.Moved.{same_stamp-refl, same_stamp_says, version_listed, version_cases, is_version_moves}
 
 -- the second list is the first with one more commit somewhere
@@ -27,6 +29,22 @@ pub record IsWithOneMore (c : Published) (cs more : List Published) : Type 0 whe
   pub back : List Published
   pub was : cs ≡ front ++ back
   pub now : more ≡ front ++ c ∷ back
+
+-- so are the commits of all, where one worker's log has one more
+pub one_more_ending : (c : Published) (before : List (List Tell)) (was now : List Tell) (after : List (List Tell)) →
+    published_of (worker_of before) now ≡ published_of (worker_of before) was ++ c ∷ []
+    → IsWithOneMore c (published_by (before ++ was ∷ after)) (published_by (before ++ now ∷ after))
+one_more_ending c before was now after more =
+    let own = published_of (worker_of before) was in
+    let back = published_from (suc (worker_of before)) after in
+    record {
+      front = published_by before ++ own;
+      back = back;
+      was = published_ending was after before ∙ sym (append_assoc (published_by before) own back);
+      now = published_ending now after before ∙ ap (λ ds. published_by before ++ (ds ++ back)) more
+          ∙ ap (λ ds. published_by before ++ ds) (append_assoc own (c ∷ []) back)
+          ∙ sym (append_assoc (published_by before) own (c ∷ back));
+    }
 
 module _ (c : Published) (cs more : List Published) (adds : IsWithOneMore c cs more) where
   pub one_more_listed : Listed c more

@@ -10,6 +10,7 @@ pub mod GrowthStart
 pub mod Outcomes
 pub mod GrowthListed
 pub mod GrowthEvent
+pub mod GrowthOldEnd
 pub mod Lifts
 pub mod Standing
 pub mod Counted
@@ -23,9 +24,11 @@ pub mod ListedOnce
 pub mod Fulls
 pub mod TheLaw
 mod GuardBesideExample
+pub mod GrowthScript
 pub mod GrowthSteps
 pub mod GrowthExample
 pub mod GrowthOutcomesExample
 pub mod GrowthEventsExample
 pub mod GrowthOthersExample
 mod GrowthExchangesExample
+mod GrowthScriptExample

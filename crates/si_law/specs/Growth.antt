@@ -1,24 +1,30 @@
 -- How one worker's log may grow so that the logs of all stay consistent.
-use Rattle.std.specs.Prelude.{ℕ, suc, ◌+◌, ◌<◌, ◌≤◌, ◌≡◌, ◌⊎◌, Bool, false, IsTrue, List, [], ◌∷◌, ◌++◌, length}
+use Rattle.std.specs.Prelude.{ℕ, zero, suc, ◌+◌, ◌<◌, ◌≤◌, ◌≡◌, ◌⊎◌, Bool, false, IsTrue, List, [], ◌∷◌, ◌++◌, length}
 use Rattle.std.specs.Prelude.{replicate, map, Some, None}
 use Rattle.std.specs.List.{list_any, list_all, AllByRecursion}
 use Rattle.si_model.specs.declared.row.Key.{Key}
+use Rattle.si_model.specs.declared.op.Op.{Op}
 use Rattle.si_model.specs.declared.log.Stamp.{Stamp}
+use Rattle.si_model.specs.declared.log.Event.{Event}
+use Rattle.si_model.specs.declared.log.Event.TheVariants.{Tried}
+use Rattle.si_model.specs.declared.log.Log.{Log}
 use Rattle.si_model.specs.declared.evaluated.Evaluated.TheVariants.{Done}
 use Rattle.si_model.specs.Lists.{Listed, concat_of}
 use Rattle.si_model.specs.Rows.{writes_key}
 use Rattle.si_model.specs.Evaluation.{evaluation_of}
 use Rattle.si_model.specs.History.{stamp_at, stamp_of, keys_of}
-use Rattle.si_model.specs.Tells.{Tell, commit_in, last_number}
+use Rattle.si_model.specs.Tells.{Tell, CountsFit, tells_of, empty_log, commit_in, last_number}
 use Rattle.si_model.specs.Commits.{Published, published_by, snaps_of, snaps_by}
 use Rattle.si_model.specs.Snapshots.{contains}
 use Rattle.si_model.specs.View.{View}
-use Rattle.si_model.specs.Setting.{Setting, Asked}
+use Rattle.si_model.specs.Setting.{Setting, Asked, by_script}
 use Rattle.si_model.specs.Knowledge.{AreAtMost, known_after, SeesForward}
 use Rattle.si_model.specs.Answers.{lock_key, AnswersMatch, AreNewest}
 use Rattle.si_model.specs.Causes.{others_of, lists_lock, collects_entry, has_collected, move_count, moves_version}
 use Rattle.si_model.specs.Causes.{is_done, keeps_bucket, ends_locking, HaveCausesAfter}
-use Rattle.si_model.specs.Consistency.{OwnsSnapshot, IsWithin, KeepsGuards, AreConsistent, view_by}
+use Rattle.si_model.specs.Tries.{Walk, FollowsSoFar, is_through, first_walk}
+use Rattle.si_model.specs.Consistency.{OwnsSnapshot, IsWithin, KeepsGuards, AreConsistent, AreConsistentFor}
+use Rattle.si_model.specs.Consistency.{AreConsistentSoFar, view_by}
 use Rattle.si_law.specs.Views.{AsksMore, moves_key_into, tells_newer}
 
 -- the logs of all, where one worker's log has this end: the logs before it, its front, its end, and the logs after it
@@ -131,3 +137,61 @@ CommitGrowth =
     (after : List (List Tell))
     → AsksMore asked more → AreConsistent s asked (ending before ts was after) → AllByRecursion IsNoCommit was
     → OwesCommit s more before ts was t rest after → AreConsistent s more (ending before ts (t ∷ rest) after)
+
+-- what each log tells by the script's jobs
+abbrev pub told_by : Setting → List Log → List (List Tell)
+told_by s logs = map (tells_of s.jobs) logs
+
+-- what a worker's new log owes for a script besides: its counts fit, and it tells the front and the new end, which
+-- follow the policy so far by this walk, full rings too, in the view before
+pub record OwesForScript (s : Setting) (before : List (List Tell)) (ts was now : List Tell) (after : List (List Tell))
+    (log : Log) (walk : Walk) : Type 0 where
+  pub counts : CountsFit log
+  pub tells : tells_of s.jobs log ≡ ts ++ now
+  pub follows : FollowsSoFar s (view_by s (ending before ts was after)) (worker_of before) (ts ++ now) walk
+
+-- an attempt is at one of these transactions
+abbrev pub IsOfJobs : List (List Op) → Event → Type 0
+IsOfJobs jobs (Tried a) = (1 ≤ a.txn) × (a.txn ≤ length jobs)
+IsOfJobs jobs event = Unit {0}
+
+-- for a script one worker's log may be exchanged for another one, and its walk with it, where the front stays and the
+-- new end publishes nothing
+abbrev pub ScriptQuietGrowth : Type 0
+ScriptQuietGrowth =
+    (s : Setting) (before : List Log) (log new : Log) (after : List Log) (walks : List Walk) (walk next : Walk)
+    (rest : List Walk) (ts was now : List Tell) → length walks ≡ length before → tells_of s.jobs log ≡ ts ++ was
+    → AreConsistentSoFar s (before ++ log ∷ after) (walks ++ walk ∷ rest) → AllByRecursion IsNoCommit was
+    → OwesQuietly s (by_script s) (told_by s before) ts was now (told_by s after)
+    → OwesForScript s (told_by s before) ts was now (told_by s after) new next
+    → AreConsistentSoFar s (before ++ new ∷ after) (walks ++ next ∷ rest)
+
+-- and where the new end starts with a commit
+abbrev pub ScriptCommitGrowth : Type 0
+ScriptCommitGrowth =
+    (s : Setting) (before : List Log) (log new : Log) (after : List Log) (walks : List Walk) (walk next : Walk)
+    (rest : List Walk) (ts was : List Tell) (t : Tell) (tail : List Tell) → length walks ≡ length before
+    → tells_of s.jobs log ≡ ts ++ was → AreConsistentSoFar s (before ++ log ∷ after) (walks ++ walk ∷ rest)
+    → AllByRecursion IsNoCommit was → IsOfJobs s.jobs t.event
+    → OwesCommit s (by_script s) (told_by s before) ts was t tail (told_by s after)
+    → OwesForScript s (told_by s before) ts was (t ∷ tail) (told_by s after) new next
+    → AreConsistentSoFar s (before ++ new ∷ after) (walks ++ next ∷ rest)
+
+-- of workers from number j on, as many
+abbrev pub first_walks : Setting → ℕ → ℕ → List Walk
+first_walks s j zero = []
+first_walks s j (suc n) = first_walk s j ∷ first_walks s (suc j) n
+
+-- for a script logs without events are consistent so far
+abbrev pub ScriptStart : Type 0
+ScriptStart = (s : Setting) → AreConsistentSoFar s (replicate s.workers empty_log) (first_walks s 1 s.workers)
+
+-- where all workers are through, the logs are consistent for the script
+abbrev pub ScriptThrough : Type 0
+ScriptThrough = (s : Setting) (logs : List Log) (walks : List Walk) → AreConsistentSoFar s logs walks
+    → IsTrue (list_all is_through walks) → AreConsistentFor s logs
+
+-- and only there
+abbrev pub ScriptWhole : Type 0
+ScriptWhole = (s : Setting) (logs : List Log) → AreConsistentFor s logs
+    → (walks : List Walk) × AreConsistentSoFar s logs walks × IsTrue (list_all is_through walks)

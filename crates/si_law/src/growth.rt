@@ -8,6 +8,7 @@ ghost use Rattle.std.specs.Prelude.{replicate, []};
 ghost use Rattle.si_model.specs.Setting.{Setting, Asked};
 ghost use Rattle.si_model.specs.Consistency.{AreConsistent};
 ghost use Rattle.si_law.specs.Growth.{QuietGrowth, CommitGrowth};
+ghost use Rattle.si_law.specs.Growth.{ScriptStart, ScriptQuietGrowth, ScriptCommitGrowth, ScriptThrough, ScriptWhole};
 
 /// Logs without events, one for each worker, are consistent, whatever is asked for.
 pub fn start_law()
@@ -44,4 +45,32 @@ pub fn quiet_growth_law()
 ///   version of the key that this one would have published next.
 pub fn commit_growth_law()
     ensures { CommitGrowth }
+{}
+
+/// For a script: logs without events, one for each worker, are consistent so far. Each worker owes all its
+/// transactions.
+pub fn script_start_law()
+    ensures { ScriptStart }
+{}
+
+/// For a script: one worker's log may be exchanged for another, and how far the worker has come with it, while the
+/// others' logs and how far they have come stay.
+///
+/// The new log tells the front that stays and the new end, by the script's transactions. Besides what
+/// [`quiet_growth_law`] or [`commit_growth_law`] says, the worker owes
+/// - that the counts of the new log fit its flat lists;
+/// - that the front and the new end follow the policy so far: they are attempts, tidyings and stops each of which may
+///   stand where it does, and at the end, it may be, the first events of a tidying that isn't over; and where tidying is
+///   on and a ring is full of the worker's own commit, its tidying after that commit failed, in the view before;
+/// - of a commit, that its transaction is one of the script.
+pub fn script_growth_law()
+    ensures quiet { ScriptQuietGrowth }
+    ensures commit { ScriptCommitGrowth }
+{}
+
+/// Logs that are consistent for a script so far, where each worker is through with all that it owes or was stopped, are
+/// consistent for the script. And such logs are consistent so far, with each worker through.
+pub fn script_end_law()
+    ensures through { ScriptThrough }
+    ensures whole { ScriptWhole }
 {}

@@ -7,7 +7,10 @@ pub mod HeldLemmas
 pub mod RangeLemmas
 pub mod StepLemmas
 pub mod WriteLemmas
+pub mod TellsLemmas
+pub mod TriesLemmas
 mod ExampleWords
+mod TellsExample
 mod TransferExample
 mod FirstCommitterWinsExample
 mod WriteSkewExample

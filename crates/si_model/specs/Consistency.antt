@@ -21,7 +21,7 @@ use Rattle.si_model.specs.Arranged.{level_of, guards_write, guards_beside}
 use Rattle.si_model.specs.Knowledge.{AreAtMost, SeesForward}
 use Rattle.si_model.specs.Answers.{AnswersMatch}
 use Rattle.si_model.specs.Causes.{HaveCauses}
-use Rattle.si_model.specs.Tries.{FollowsPolicy}
+use Rattle.si_model.specs.Tries.{FollowsPolicy, Walk, FollowsSoFar}
 
 -- an event's prefix is the sum of its snapshot above start, and a commit has a prefix
 pub record OwnsSnapshot (start : ℕ) (t : Tell) : Type 0 where
@@ -140,3 +140,19 @@ pub record AreConsistentFor (s : Setting) (logs : List Log) : Type 0 where
       (c : Published) → Listed c (published_by (map (tells_of s.jobs) logs)) → (1 ≤ c.line.txn)
       × (c.line.txn ≤ length s.jobs)
   pub policies : FollowPolicies s (view_by s (map (tells_of s.jobs) logs)) 1 (map (tells_of s.jobs) logs)
+
+-- each worker from number j on follows the policy so far, by its walk
+abbrev pub FollowSoFar : Setting → View → ℕ → List (List Tell) → List Walk → Type 0
+FollowSoFar s v j [] [] = Unit {0}
+FollowSoFar s v j [] (walk ∷ walks) = ⊥
+FollowSoFar s v j (ts ∷ tss) [] = ⊥
+FollowSoFar s v j (ts ∷ tss) (walk ∷ walks) = FollowsSoFar s v j ts walk × FollowSoFar s v (suc j) tss walks
+
+-- the logs are consistent for a script so far: their workers may owe more, as their walks say
+pub record AreConsistentSoFar (s : Setting) (logs : List Log) (walks : List Walk) : Type 0 where
+  pub counts : AllByRecursion CountsFit logs
+  pub calls : AreConsistent s (by_script s) (map (tells_of s.jobs) logs)
+  pub jobs_in_range :
+      (c : Published) → Listed c (published_by (map (tells_of s.jobs) logs)) → (1 ≤ c.line.txn)
+      × (c.line.txn ≤ length s.jobs)
+  pub follow : FollowSoFar s (view_by s (map (tells_of s.jobs) logs)) 1 (map (tells_of s.jobs) logs) walks

@@ -1,5 +1,5 @@
 -- The retry policy: which events a worker lists, and in what order.
-use Rattle.std.specs.Prelude.{ℕ, ◌+◌, ◌≡◌, ◌==◌, ◌&&◌, ◌||◌, Bool, true, false, IsTrue, nat_lt, if◌then◌else◌, List, []}
+use Rattle.std.specs.Prelude.{ℕ, ◌+◌, ◌≡◌, ◌==◌, ◌&&◌, ◌||◌, not, Bool, true, false, IsTrue, nat_lt, if◌then◌else◌, List, []}
 use Rattle.std.specs.Prelude.{◌∷◌, ◌++◌, length, Option, Some, None}
 use Rattle.std.specs.List.{flat_map}
 use Rattle.si_model.specs.declared.row.Key.{Key}
@@ -193,6 +193,12 @@ abbrev pub settles : Policy → Owed → List Part → Bool
 settles policy owed [] = is_settled owed
 settles policy owed (p ∷ ps) = elim (owed_after policy owed p) [ None ↦ false | Some next ↦ settles policy next ps ]
 
+-- what is owed after these parts, where they may follow one another
+abbrev pub owed_along : Policy → Owed → List Part → Option Owed
+owed_along policy owed [] = Some owed
+owed_along policy owed (p ∷ ps) =
+    elim (owed_after policy owed p) [ None ↦ None | Some next ↦ owed_along policy next ps ]
+
 -- what a worker owes at first
 abbrev pub owes_all : List ℕ → Owed
 owes_all txns = next_owed [] txns going
@@ -243,3 +249,49 @@ pub record FollowsPolicy (s : Setting) (v : View) (j : ℕ) (ts : List Tell) : T
   pub read : flat_map tells_in parts ≡ ts
   pub settled : IsTrue (settles s.policy (owes_all (txns_of j s.owners)) parts)
   pub fulls : IsTrue s.policy.tidy → FullsFollow v j [] parts
+
+-- a collect of the bucket that went to its end
+abbrev pub is_collect_of : ℕ → Event → Bool
+is_collect_of b (Collected c prefix entries cut) = (c == b) && not cut
+is_collect_of b (CollectAgain c i first second) = c == b
+is_collect_of b event = false
+
+-- behind a first noroom: nothing yet, or one collect of its bucket
+abbrev pub is_at_collect : ℕ → List Tell → Bool
+is_at_collect b [] = true
+is_at_collect b (t ∷ ts) = is_collect_of b t.event && (length ts == 0)
+
+abbrev pub is_at_noroom : Event → List Tell → Bool
+is_at_noroom (NoRoom b) ts = is_at_collect b ts
+is_at_noroom event ts = false
+
+-- the first events of a tidying that isn't over, if any
+abbrev pub is_tidying : List Tell → Bool
+is_tidying [] = true
+is_tidying (t ∷ ts) = is_at_noroom t.event ts
+
+-- may these events stand behind the parts after which so much is owed: a tidying goes on only where a key is owed
+abbrev pub may_be_at_hand : Owed → List Tell → Bool
+may_be_at_hand owed ts = is_tidying ts && ((length ts == 0) || (goes_on owed.stage && nat_lt 0 (length owed.keys)))
+
+-- how far a worker has come: the parts of its events, the first events of a tidying that isn't over, and what is owed
+-- after the parts
+pub record Walk : Type 0 where
+  pub parts : List Part
+  pub at_hand : List Tell
+  pub owed : Owed
+
+-- worker j's events so far follow the policy by this walk
+pub record FollowsSoFar (s : Setting) (v : View) (j : ℕ) (ts : List Tell) (walk : Walk) : Type 0 where
+  pub read : flat_map tells_in walk.parts ++ walk.at_hand ≡ ts
+  pub along : owed_along s.policy (owes_all (txns_of j s.owners)) walk.parts ≡ Some walk.owed
+  pub begun : IsTrue (may_be_at_hand walk.owed walk.at_hand)
+  pub fulls : IsTrue s.policy.tidy → FullsFollow v j [] walk.parts
+
+-- nothing is at hand, and nothing more is owed
+abbrev pub is_through : Walk → Bool
+is_through walk = (length walk.at_hand == 0) && is_settled walk.owed
+
+-- of a worker that has done nothing yet
+abbrev pub first_walk : Setting → ℕ → Walk
+first_walk s j = record { parts = []; at_hand = []; owed = owes_all (txns_of j s.owners) }

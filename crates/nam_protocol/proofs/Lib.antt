@@ -24,6 +24,11 @@ pub mod StepLemmas
 pub mod FallsAttempt
 pub mod Grows
 pub mod GrowsSession
+pub mod RunsTxn
+pub mod RunsClient
+pub mod EndsDriver
+pub mod EndsSession
+pub mod EndsWorld
 pub mod GoesParts
 pub mod GoesTxn
 pub mod GoesCommit

@@ -24,4 +24,6 @@ pub mod FieldLaw
 pub mod OpeningLaw
 pub mod StepLaw
 pub mod Grows
+pub mod SessionFits
+pub mod EndsLaw
 pub mod ProgramCommit

@@ -64,12 +64,6 @@ keys_at [] n l = absurd (omega arith)
 keys_at (k ∷ ks) zero l = refl
 keys_at (k ∷ ks) (suc n) l = rw add-one (rw add-one at (keys_at ks n (omega arith)))
 
-drop_all : {A : Type 0} (xs : List A) (n : ℕ) → length xs ≤ n → drop n xs ≡ []
-drop_all [] zero l = refl
-drop_all [] (suc n) l = refl
-drop_all (x ∷ xs) zero l = absurd (omega arith)
-drop_all (x ∷ xs) (suc n) l = drop_all xs n (omega arith)
-
 is_some_within : {A : Type 0} (xs : List A) (n : ℕ) → n < length xs → is_some (slice_get xs n) ≡ true
 is_some_within [] n l = absurd (omega arith)
 is_some_within (x ∷ xs) zero l = refl

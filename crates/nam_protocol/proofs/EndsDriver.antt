@@ -152,11 +152,11 @@ module _ (shape : Shape) where
   again_figure ops keys nth bucket retry l = rw (keys_at keys nth l) (omega arith)
 
   -- one try less
-  try_figure : (tries nth m bound : ℕ) → tries - nth ≡ suc m → m ≡ tries - (nth + 1)
+  pub try_figure : (tries nth m bound : ℕ) → tries - nth ≡ suc m → m ≡ tries - (nth + 1)
       → bound + (tries - (nth + 1)) * bound ≡ (tries - nth) * bound
   try_figure tries nth m bound e f = rw (e, ← f, suc-mul) (omega arith)
 
-  first_figure : (tries m bound : ℕ) → tries ≡ suc m → m ≡ tries - 1 → bound + (tries - 1) * bound ≡ tries * bound
+  pub first_figure : (tries m bound : ℕ) → tries ≡ suc m → m ≡ tries - 1 → bound + (tries - 1) * bound ≡ tries * bound
   first_figure tries m bound e f = rw (← f, e, suc-mul) (omega arith)
 
   -- 3. The keys that a job writes

@@ -29,6 +29,7 @@ pub mod RunsClient
 pub mod EndsDriver
 pub mod EndsSession
 pub mod EndsWorld
+pub mod RoomDriver
 pub mod GoesParts
 pub mod GoesTxn
 pub mod GoesCommit

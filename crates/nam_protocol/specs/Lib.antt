@@ -26,4 +26,5 @@ pub mod StepLaw
 pub mod Grows
 pub mod SessionFits
 pub mod EndsLaw
+pub mod RoomLaw
 pub mod ProgramCommit

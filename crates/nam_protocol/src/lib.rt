@@ -14,6 +14,7 @@ mod laws_ends;
 mod laws_growth;
 mod laws_left;
 mod laws_opening;
+mod laws_room;
 mod laws_steps;
 mod scan;
 mod session;
@@ -26,6 +27,7 @@ pub use laws_left::{
     attempt_bound, calls_at_fields, client_falls, reached_within, scan_falls, txn_falls,
 };
 pub use laws_opening::{blank_law, opening_law};
+pub use laws_room::room_suffices;
 pub use laws_steps::step_law;
 pub use scan::{ScanAnswer, ScanPlace};
 pub use session::{DriverPlace, DriverState, Job, SessionState};

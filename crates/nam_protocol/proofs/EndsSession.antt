@@ -44,7 +44,8 @@ use Rattle.nam_protocol.specs.Driver.{driver_take}
 use Rattle.nam_protocol.specs.Session.{answer_now, calls_at_most, taken, settle, settled, new_session, session_verb}
 use Rattle.nam_protocol.specs.Session.{session_after, has_ended, session_cut}
 use Rattle.nam_protocol.specs.Bound.{op_bound, verb_bound}
-use Rattle.nam_protocol.specs.Left.{left_of, client_left, commit_bound, jobs_bound, rest_bound, session_left}
+use Rattle.nam_protocol.specs.Left.{left_of, client_left, commit_bound, try_bound, jobs_bound, after_call_bound}
+use Rattle.nam_protocol.specs.Left.{rest_bound, session_left}
 use Rattle.nam_protocol.specs.AttemptLaw.{HasAsked}
 use Rattle.nam_protocol.specs.TxnFits.{TxnCallFits, txn_call_bound}
 use Rattle.nam_protocol.specs.ClientFits.{OpenFits, NowFits, CallPlaceFits, ClientFits, CallFits, open_bound, call_bound}
@@ -55,7 +56,7 @@ use Rattle.nam_protocol.proofs.FallsKeys.{all_at}
 use Rattle.nam_protocol.proofs.FallsAttempt.{ask_asks, attempt_bound}
 use Rattle.nam_protocol.proofs.FallsClient.{client_falls, client_begins}
 use Rattle.nam_protocol.proofs.RunsTxn.{ask_of, ask_commit_runs}
-use Rattle.nam_protocol.proofs.RunsClient.{NowDoes, ClientDoes, stepped_does, commit_does, word_does, take_past}
+use Rattle.nam_protocol.proofs.RunsClient.{IsAnswered, NowDoes, ClientDoes, stepped_does, commit_does, word_does, take_past}
 use Rattle.nam_protocol.proofs.EndsDriver.{call_most, pending, calls_from, calls_after, AsksFrom, GoesOn, begins_pending}
 use Rattle.nam_protocol.proofs.EndsDriver.{takes, drop_from, drop_over}
 
@@ -67,7 +68,7 @@ nth_holds P [] n x all e = absurd (cc)
 nth_holds P (y ∷ ys) zero x all e = let same : y ≡ x = cc in subst P same all.0
 nth_holds P (y ∷ ys) (suc n) x all e = nth_holds P ys n x all.1 e
 
-some_of : {A : Type 0} (o : Option A) → is_some o ≡ true → (x : A) × (o ≡ Some x)
+pub some_of : {A : Type 0} (o : Option A) → is_some o ≡ true → (x : A) × (o ≡ Some x)
 some_of None e = absurd (false≢true e)
 some_of (Some x) e = (x, refl)
 
@@ -107,7 +108,7 @@ module _ (shape : Shape) where
   calls_after_most ops (ToCollect bucket keys nth retry) = omega arith
 
   -- where a call was answered, no more calls follow than these
-  abbrev Few : List Op → DriverPlace → ℕ → Option (Now CallPlace Answer) → Type 0
+  abbrev pub Few : List Op → DriverPlace → ℕ → Option (Now CallPlace Answer) → Type 0
   Few ops place calls (Some (Over end)) = calls_after shape ops place ≤ calls
   Few ops place calls _ = Unit {0}
 
@@ -119,17 +120,17 @@ module _ (shape : Shape) where
 
   -- 2. A call is asked
 
-  is_open : (ops : List Op) (opened : Option Open) → OpenAsked opened ops → IsSome opened
+  pub is_open : (ops : List Op) (opened : Option Open) → OpenAsked opened ops → IsSome opened
   is_open ops None asked = absurd asked
   is_open ops (Some attempt) asked = refl
 
   module _ (limits : FitsLimits shape) (client : ClientState) (fits : ClientFits shape client) (ops : List Op) where
     -- the client after the call: it fits, with no more verbs to come than the call takes
-    record Asked (place : DriverPlace) (calls : ℕ) (after : ClientState) : Type 0 where
-      stands : ClientFits shape after
-      within : client_left shape after ≤ call_most shape ops place
-      does : ClientDoes shape place ops after
-      few : Few ops place calls after.call
+    pub record Asked (place : DriverPlace) (calls : ℕ) (after : ClientState) : Type 0 where
+      pub stands : ClientFits shape after
+      pub within : client_left shape after ≤ call_most shape ops place
+      pub does : ClientDoes shape place ops after
+      pub few : Few ops place calls after.call
 
     module _ (nth : ℕ) (asked : OpenAsked client.txn (take nth ops)) (calls : ℕ)
         (few : length ops - nth + 1 ≤ calls) where
@@ -231,7 +232,7 @@ module _ (shape : Shape) where
       asks_next (Some o) here fit =
           asks_op o here (nth_holds (OpFits (widths_of shape.tables)) ops nth o fit here)
 
-    asks : (txn try tries : ℕ) (place : DriverPlace) (calls : ℕ) → DriverPlaceFits shape tries try place
+    pub asks : (txn try tries : ℕ) (place : DriverPlace) (calls : ℕ) → DriverPlaceFits shape tries try place
         → AsksFrom shape place ops client.txn
         → AllByRecursion (OpFits (widths_of shape.tables)) ops
         → calls_from shape ops place ≤ suc calls
@@ -252,12 +253,12 @@ module _ (shape : Shape) where
 
   -- 3. A session whose call was answered
 
-  record IsReady (session : SessionState) : Type 0 where
-    client : ClientFits shape session.client
-    jobs : AllByRecursion (JobFits shape) session.jobs
-    driver : DriverFits shape session.driver
-    asks : AsksFrom shape session.driver.place (ops_of (slice_get session.jobs session.driver.job)) session.client.txn
-    rests : is_running session.client.call ≡ false
+  pub record IsReady (session : SessionState) : Type 0 where
+    pub client : ClientFits shape session.client
+    pub jobs : AllByRecursion (JobFits shape) session.jobs
+    pub driver : DriverFits shape session.driver
+    pub asks : AsksFrom shape session.driver.place (ops_of (slice_get session.jobs session.driver.job)) session.client.txn
+    pub rests : is_running session.client.call ≡ false
 
   abbrev next_calls : SessionState → ℕ
   next_calls session =
@@ -287,6 +288,25 @@ module _ (shape : Shape) where
     abbrev rest_here : ℕ
     rest_here = rest_bound shape session.driver (drop session.driver.job session.jobs)
 
+    -- its answer is taken
+    answer_taken : (client : ClientState) (end : Answer)
+        → IsAnswered shape session.driver.place job.ops client.txn end
+        → GoesOn shape session.jobs client.txn
+        (after_call_bound shape job.ops session.driver.place
+        + (session.driver.policy.tries - session.driver.nth) * try_bound shape job.ops
+        + jobs_bound shape session.driver.policy (drop (session.driver.job + 1) session.jobs))
+        (calls_after shape job.ops session.driver.place) (driver_take session.jobs session.driver end)
+    answer_taken client end does =
+        takes shape session.jobs client.txn session.driver job here driver.0 driver.1
+        (nth_holds (JobFits shape) session.jobs session.driver.job job jobs here) session.driver.place end driver.2 does
+
+    pub taken_ready : (client : ClientState) (end : Answer) → ClientFits shape client → client.call ≡ Some (Over end)
+        → IsAnswered shape session.driver.place job.ops client.txn end
+        → IsReady (taken session client end)
+    taken_ready client end fits e does =
+        let g = answer_taken client end does in
+        record { client = fits; jobs = jobs; driver = g.fits; asks = g.asks; rests = ap is_running e }
+
     goes_on : (client : ClientState) (calls : ℕ) → Suffices calls → ClientFits shape client
         → (now : Option (Now CallPlace Answer)) → client.call ≡ now
         → NowDoes shape session.driver.place job.ops client.txn now
@@ -308,12 +328,8 @@ module _ (shape : Shape) where
       left_most (record session { client = client }) (client_left shape client) rest_here (omega arith) (omega arith),
     )
     goes_on client calls later fits (Some (Over end)) e does few =
-        let g = takes shape session.jobs client.txn session.driver job here driver.0 driver.1
-        (nth_holds (JobFits shape) session.jobs session.driver.job job jobs here) session.driver.place end driver.2 does in
-        let next = taken session client end in
-        let s = later next
-        record { client = fits; jobs = jobs; driver = g.fits; asks = g.asks; rests = ap is_running e }
-        (let f = g.few in omega arith) in
+        let g = answer_taken client end does in
+        let s = later (taken session client end) (taken_ready client end fits e does) (let f = g.few in omega arith) in
         let same = ap (rest_bound shape session.driver) (drop_from session.jobs session.driver.job job here) in
         (s.0, let l = s.1 in let m = g.left in omega arith)
 
@@ -386,6 +402,18 @@ module _ (shape : Shape) where
 
     -- 6. A new session
 
+    pub new_ready : (worker start : ℕ) (jobs : List Job) (policy : Policy) → IsOf shape.workers worker
+        → AllByRecursion (JobFits shape) jobs
+        → 1 ≤ policy.tries
+        → IsReady (record { client = new_client worker start; driver = new_driver policy; jobs = jobs })
+    new_ready worker start jobs policy is fit least = record {
+      client = (is, tt, tt);
+      jobs = fit;
+      driver = (omega arith, least, tt);
+      asks = tt;
+      rests = refl;
+    }
+
     pub new_session_ends : (worker start : ℕ) (jobs : List Job) (policy : Policy) → IsOf shape.workers worker
         → AllByRecursion (JobFits shape) jobs
         → 1 ≤ policy.tries
@@ -395,14 +423,13 @@ module _ (shape : Shape) where
         record { client = new_client worker start; driver = new_driver policy; jobs = jobs } in
         let c = calls_least jobs in
         let s = settle_ends (calls_at_most jobs) session
-        record { client = (is, tt, tt); jobs = fit; driver = (omega arith, least, tt); asks = tt; rests = refl }
-        (omega arith) in
+        (new_ready worker start jobs policy is fit least) (omega arith) in
         let b = begins_pending shape (new_driver policy) jobs least in
         (s.0, let l = s.1 in omega arith)
 
     -- 7. A word is taken
 
-    verb_stands : (client : ClientState) (verb : VerbAt Field) (cut : Bool) (now : Option (Now CallPlace Answer))
+    pub verb_stands : (client : ClientState) (verb : VerbAt Field) (cut : Bool) (now : Option (Now CallPlace Answer))
         → (if cut then None else verb_of shape client now) ≡ Some verb
         → (cut ≡ false) × ((at : CallPlace) × (now ≡ Some (At at)))
     verb_stands client verb true now e = absurd (cc)

@@ -30,6 +30,8 @@ pub mod EndsDriver
 pub mod EndsSession
 pub mod EndsWorld
 pub mod RoomDriver
+pub mod EventsClient
+pub mod EventsSession
 pub mod GoesParts
 pub mod GoesTxn
 pub mod GoesCommit

@@ -112,17 +112,26 @@ module _ (shape : Shape) where
 
   abbrev pub BeginAnswered : Option Open → Answer → Type 0
   BeginAnswered txn (answer.Begun prefix) = OpenAsked txn []
-  BeginAnswered txn _ = Unit {0}
+  BeginAnswered txn (answer.Again worker first second) = Unit {0}
+  BeginAnswered txn _ = ⊥
 
   abbrev pub TidyAnswered : Answer → Type 0
   TidyAnswered (answer.NoRoom bucket) = bucket < shape.buckets
-  TidyAnswered _ = Unit {0}
+  TidyAnswered answer.Moved = Unit {0}
+  TidyAnswered answer.Back = Unit {0}
+  TidyAnswered answer.Nothing = Unit {0}
+  TidyAnswered _ = ⊥
+
+  abbrev pub CollectAnswered : Answer → Type 0
+  CollectAnswered (answer.Again worker first second) = Unit {0}
+  CollectAnswered (answer.Collected known) = Unit {0}
+  CollectAnswered _ = ⊥
 
   abbrev pub IsAnswered : DriverPlace → List Op → Option Open → Answer → Type 0
   IsAnswered ToBegin ops txn end = BeginAnswered txn end
   IsAnswered (ToAsk nth) ops txn end = AskAnswered ops nth txn end
   IsAnswered (ToTidy keys nth again retry) ops txn end = TidyAnswered end
-  IsAnswered (ToCollect bucket keys nth retry) ops txn end = Unit {0}
+  IsAnswered (ToCollect bucket keys nth retry) ops txn end = CollectAnswered end
 
   -- the call that the driver asked runs, or was answered
   abbrev pub NowDoes : DriverPlace → List Op → Option Open → Option (Now CallPlace Answer) → Type 0

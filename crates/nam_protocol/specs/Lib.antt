@@ -27,4 +27,5 @@ pub mod Grows
 pub mod SessionFits
 pub mod EndsLaw
 pub mod RoomLaw
+pub mod EventsLaw
 pub mod ProgramCommit

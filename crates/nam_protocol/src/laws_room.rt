@@ -1,5 +1,6 @@
 //! The room that is reserved for jobs suffices.
 
+ghost use Rattle.nam_protocol.specs.EventsLaw.{EventsLaw};
 ghost use Rattle.nam_protocol.specs.RoomLaw.{RoomLaw};
 
 /// The room for jobs suffices for all calls of their driver.
@@ -8,4 +9,10 @@ ghost use Rattle.nam_protocol.specs.RoomLaw.{RoomLaw};
 /// its answer, is within what might be asked before.
 pub fn room_suffices()
     ensures { RoomLaw }
+{}
+
+/// A session lists, at each moment and however it is closed, no more events than its jobs have attempts and tidyings,
+/// and one more: the tail cut of a commit that was stopped after it has published.
+pub fn events_within()
+    ensures { EventsLaw }
 {}

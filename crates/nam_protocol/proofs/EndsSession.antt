@@ -68,7 +68,7 @@ nth_holds P [] n x all e = absurd (cc)
 nth_holds P (y ∷ ys) zero x all e = let same : y ≡ x = cc in subst P same all.0
 nth_holds P (y ∷ ys) (suc n) x all e = nth_holds P ys n x all.1 e
 
-pub some_of : {A : Type 0} (o : Option A) → is_some o ≡ true → (x : A) × (o ≡ Some x)
+some_of : {A : Type 0} (o : Option A) → is_some o ≡ true → (x : A) × (o ≡ Some x)
 some_of None e = absurd (false≢true e)
 some_of (Some x) e = (x, refl)
 
@@ -429,7 +429,7 @@ module _ (shape : Shape) where
 
     -- 7. A word is taken
 
-    pub verb_stands : (client : ClientState) (verb : VerbAt Field) (cut : Bool) (now : Option (Now CallPlace Answer))
+    verb_stands : (client : ClientState) (verb : VerbAt Field) (cut : Bool) (now : Option (Now CallPlace Answer))
         → (if cut then None else verb_of shape client now) ≡ Some verb
         → (cut ≡ false) × ((at : CallPlace) × (now ≡ Some (At at)))
     verb_stands client verb true now e = absurd (cc)
@@ -437,39 +437,66 @@ module _ (shape : Shape) where
     verb_stands client verb false (Some (At at)) e = (refl, (at, refl))
     verb_stands client verb false (Some (Over end)) e = absurd (cc)
 
+    -- what is known of a session that takes a word: its call's place and its job, and what the client does then
+    pub record TakesWord (session : SessionState) (found : ℕ) : Type 0 where
+      pub at : CallPlace
+      pub is : session.client.call ≡ Some (At at)
+      pub uncut : session.client.cut ≡ false
+      pub place : CallPlaceFits shape session.client.txn at
+      pub job : Job
+      pub here : slice_get session.jobs session.driver.job ≡ Some job
+      pub after : call_after shape session.client at found ≡ client_after shape session.client found
+      pub falls : ClientFits shape (client_after shape session.client found)
+          × (client_left shape (client_after shape session.client found) < client_left shape session.client)
+      pub does : ClientDoes shape session.driver.place job.ops (client_after shape session.client found)
+
+    pub takes_word : (session : SessionState) (verb : VerbAt Field) (found : ℕ) → SessionFits shape session
+        → session_verb shape session ≡ Some verb
+        → TakesWord session found
+    takes_word session verb found fits e =
+        let driver = session.driver in
+        let stands = verb_stands session.client verb session.client.cut session.client.call e in
+        let at = stands.1.0 in
+        let is = stands.1.1 in
+        let some = some_of (slice_get session.jobs driver.job) (sym fits.stands ∙ ap is_running is) in
+        let place : CallPlaceFits shape session.client.txn at =
+        subst (NowFits shape session.client.txn) is fits.client.2 in
+        let runs = subst (NowRuns driver.place (ops_of (slice_get session.jobs driver.job)) session.client.txn) is fits.runs
+        in
+        let runs_here = subst (λ o. NowRuns driver.place (ops_of o) session.client.txn (Some (At at))) some.1 runs in
+        let after : call_after shape session.client at found ≡ client_after shape session.client found =
+        ap (λ (now : Option (Now CallPlace Answer)). after_call shape session.client now found) (sym is) in
+        let does = word_does shape limits some.0.ops session.client fits.client.1 found driver.place at place runs_here in
+        record {
+          at = at;
+          is = is;
+          uncut = stands.0;
+          place = place;
+          job = some.0;
+          here = some.1;
+          after = after;
+          falls = client_falls shape limits session.client at found fits.client stands.0 is;
+          does = subst (ClientDoes shape driver.place some.0.ops) after does;
+        }
+
     pub session_word : (session : SessionState) (verb : VerbAt Field) (found : ℕ) → SessionFits shape session
         → session_verb shape session ≡ Some verb
         → SessionFits shape (session_after shape session found)
         × (session_left shape (session_after shape session found) < session_left shape session)
     session_word session verb found fits e =
-        let stands = verb_stands session.client verb session.client.cut session.client.call e in
-        let at = stands.1.0 in
-        let is = stands.1.1 in
+        let t = takes_word session verb found fits e in
         let driver = session.driver in
-        let some = some_of (slice_get session.jobs driver.job) (sym fits.stands ∙ ap is_running is) in
-        let job = some.0 in
-        let here = some.1 in
-        let place : CallPlaceFits shape session.client.txn at =
-        subst (NowFits shape session.client.txn) is fits.client.2 in
-        let runs = subst (NowRuns driver.place (ops_of (slice_get session.jobs driver.job)) session.client.txn) is fits.runs
-        in
-        let runs_here = subst (λ o. NowRuns driver.place (ops_of o) session.client.txn (Some (At at))) here runs in
-        let falls = client_falls shape limits session.client at found fits.client stands.0 is in
-        let does = word_does shape limits job.ops session.client fits.client.1 found driver.place at place runs_here in
         let client = client_after shape session.client found in
-        let goes : call_after shape session.client at found ≡ client =
-        ap (λ (now : Option (Now CallPlace Answer)). after_call shape session.client now found) (sym is) in
-        let few = calls_suffice session.jobs driver.job job here in
-        let most = calls_after_most job.ops driver.place in
-        let g = goes_on session fits.jobs fits.driver job here client (calls_at_most session.jobs)
-        (settle_ends (calls_at_most session.jobs)) falls.0 client.call refl
-        (subst (ClientDoes shape driver.place job.ops) goes does)
-        (few_any job.ops driver.place (calls_at_most session.jobs) client.call (omega arith)) in
+        let few = calls_suffice session.jobs driver.job t.job t.here in
+        let most = calls_after_most t.job.ops driver.place in
+        let g = goes_on session fits.jobs fits.driver t.job t.here client (calls_at_most session.jobs)
+        (settle_ends (calls_at_most session.jobs)) t.falls.0 client.call refl t.does
+        (few_any t.job.ops driver.place (calls_at_most session.jobs) client.call (omega arith)) in
         let left : session_left shape session ≡ client_left shape session.client
         + rest_bound shape driver (drop driver.job session.jobs) =
         ap (λ (cut : Bool). if cut then 0
-        else client_left shape session.client + rest_bound shape driver (drop driver.job session.jobs)) stands.0 in
-        (g.0, let l = g.1 in let m = falls.1 in omega arith)
+        else client_left shape session.client + rest_bound shape driver (drop driver.job session.jobs)) t.uncut in
+        (g.0, let l = g.1 in let m = t.falls.1 in omega arith)
 
 -- 8. Sessions are settled, and nothing is to come of one that was cut
 

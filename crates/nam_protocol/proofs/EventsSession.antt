@@ -51,7 +51,7 @@ use Rattle.nam_protocol.specs.EventsLaw.{IsReached, is_new, by_word, by_cut, Eve
 use Rattle.nam_protocol.proofs.FallsClient.{client_falls}
 use Rattle.nam_protocol.proofs.RunsClient.{NowDoes, ClientDoes, word_does}
 use Rattle.nam_protocol.proofs.EndsDriver.{AsksFrom, calls_from}
-use Rattle.nam_protocol.proofs.EndsSession.{IsReady, asks, taken_ready, nth_holds, some_of, is_open, verb_stands, new_ready}
+use Rattle.nam_protocol.proofs.EndsSession.{IsReady, asks, taken_ready, nth_holds, is_open, takes_word, new_ready}
 use Rattle.nam_protocol.proofs.EndsSession.{new_session_ends, session_word, session_cut_ends}
 use Rattle.nam_protocol.proofs.RoomDriver.{room_suffices}
 use Rattle.nam_protocol.proofs.EventsClient.{NowLists, ClientLists, NeedsOpen, closing, word_lists, ask_lists, closed_lists}
@@ -293,29 +293,13 @@ module _ (shape : Shape) (limits : FitsLimits shape) (whole : ℕ) where
       → session_verb shape session ≡ Some verb
       → Holds (session_after shape session found)
   word_holds session verb found fits holds e =
-      let stands = verb_stands shape limits session.client verb session.client.cut session.client.call e in
-      let at = stands.1.0 in
-      let is = stands.1.1 in
-      let driver = session.driver in
+      let t = takes_word shape limits session verb found fits e in
       let n = length session.client.log.events in
-      let some = some_of (slice_get session.jobs driver.job) (sym fits.stands ∙ ap is_running is) in
-      let job = some.0 in
-      let here = some.1 in
-      let place : CallPlaceFits shape session.client.txn at =
-      subst (NowFits shape session.client.txn) is fits.client.2 in
-      let runs = subst (NowRuns driver.place (ops_of (slice_get session.jobs driver.job)) session.client.txn) is fits.runs
-      in
-      let runs_here = subst (λ o. NowRuns driver.place (ops_of o) session.client.txn (Some (At at))) here runs in
-      let falls = client_falls shape limits session.client at found fits.client stands.0 is in
-      let does = word_does shape limits job.ops session.client fits.client.1 found driver.place at place runs_here in
-      let lists = word_lists n shape session.client (omega arith) at found place in
       let client = client_after shape session.client found in
-      let goes : call_after shape session.client at found ≡ client =
-      ap (λ (now : Option (Now CallPlace Answer)). after_call shape session.client now found) (sym is) in
-      goes_on_holds session fits.jobs fits.driver holds job here client (calls_at_most session.jobs)
-      (settle_holds (calls_at_most session.jobs)) falls.0 client.call refl
-      (subst (ClientDoes shape driver.place job.ops) goes does)
-      (subst (ClientLists n (is_some session.client.txn)) goes lists)
+      let lists = word_lists n shape session.client (omega arith) t.at found t.place in
+      goes_on_holds session fits.jobs fits.driver holds t.job t.here client (calls_at_most session.jobs)
+      (settle_holds (calls_at_most session.jobs)) t.falls.0 client.call refl t.does
+      (subst (ClientLists n (is_some session.client.txn)) t.after lists)
 
   cut_holds : (session : SessionState) → Holds session → Holds (session_cut session)
   cut_holds session holds =

@@ -133,7 +133,7 @@ module _ (ws : List Item) (gs : List Key) (ops : List Op) (asked : KeysAsked ws 
   one_more widths (Scan t low high) value = unchanged (Scan t low high) refl refl
 
   -- an operation that claims nothing changes nothing
-  unclaimed : (op : Op) → op_claims op ≡ false → KeysAsked ws gs (ops ++ op ∷ [])
+  pub unclaimed : (op : Op) → op_claims op ≡ false → KeysAsked ws gs (ops ++ op ∷ [])
   unclaimed (Get t k) e = unchanged (Get t k) refl refl
   unclaimed (Put t k v) e = absurd (false≢true (sym e))
   unclaimed (Add t k f up by) e = absurd (false≢true (sym e))

@@ -36,7 +36,7 @@ use Rattle.nam_protocol.proofs.FallsKeys.{record_placed, records_length}
 use Rattle.nam_protocol.proofs.FallsTxn.{op_begins}
 
 -- the record of a claimed key bears that key
-record_key : (cs : List Record) (key : Key) → is_claimed cs key ≡ true → (record_in cs key).key ≡ key
+pub record_key : (cs : List Record) (key : Key) → is_claimed cs key ≡ true → (record_in cs key).key ≡ key
 record_key [] key e = absurd (false≢true e)
 record_key (c ∷ cs) key e =
     by_test (λ (r : Record). r.key ≡ key) (same_key c.key key) c (record_in cs key) (λ f. same_key_says c.key key f)

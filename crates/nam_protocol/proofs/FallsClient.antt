@@ -158,7 +158,7 @@ module _ (shape : Shape) (limits : FitsLimits shape) where
 
   -- 4. A scan
 
-  gathered_keeps : (P : ℕ → Option Open → Type 0) (client : ClientState) (position key : ℕ) (value : Option (List ℕ))
+  pub gathered_keeps : (P : ℕ → Option Open → Type 0) (client : ClientState) (position key : ℕ) (value : Option (List ℕ))
       → P client.worker client.txn
       → P (gathered client position key value).worker (gathered client position key value).txn
   gathered_keeps P client position key None p = p

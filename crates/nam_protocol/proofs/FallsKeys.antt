@@ -113,7 +113,7 @@ all_wrote P (w ∷ ws) i all new =
     either (AllByRecursion P) (same_key (item_key w) (item_key i)) (i ∷ ws) (w ∷ wrote ws i) (new, all.1)
     (all.0, all_wrote P ws i all.1 new)
 
-all_guarded : (P : Key → Type 0) (gs : List Key) (key : Key) → AllByRecursion P gs → P key
+pub all_guarded : (P : Key → Type 0) (gs : List Key) (key : Key) → AllByRecursion P gs → P key
     → AllByRecursion P (guarded gs key)
 all_guarded P [] key all new = (new, tt)
 all_guarded P (g ∷ gs) key all new =

@@ -25,6 +25,14 @@ pub mod StepLemmas
 pub mod FallsAttempt
 pub mod Grows
 pub mod GrowsSession
+pub mod RunsTxn
+pub mod RunsClient
+pub mod EndsDriver
+pub mod EndsSession
+pub mod EndsWorld
+pub mod RoomDriver
+pub mod EventsClient
+pub mod EventsSession
 pub mod GoesParts
 pub mod GoesTxn
 pub mod GoesCommit

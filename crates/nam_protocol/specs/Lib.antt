@@ -24,4 +24,8 @@ pub mod FieldLaw
 pub mod OpeningLaw
 pub mod StepLaw
 pub mod Grows
+pub mod SessionFits
+pub mod EndsLaw
+pub mod RoomLaw
+pub mod EventsLaw
 pub mod ProgramCommit

@@ -6,24 +6,29 @@
 //! transaction and of a client the number of verbs to come falls with each word and begins within its bound, that an
 //! attempt takes no more than the sum of these, that each verb is at the field of the layout that its place names, what
 //! each field has at the opening, what a step of the world does to the fields, that clients' and sessions' logs only
-//! grow, and that a commit is one straight program.
+//! grow, that a commit is one straight program, that sessions settle and each simulated run reaches its one end, and that
+//! the room for jobs suffices.
 #![tactic(auto)]
 
 mod client;
+mod laws_ends;
 mod laws_growth;
 mod laws_left;
 mod laws_opening;
+mod laws_room;
 mod laws_steps;
 mod scan;
 mod session;
 mod txn;
 
 pub use client::{Answer, Call, CallPlace, ClientState, Open, Scanned};
+pub use laws_ends::{runs_end, sessions_settle, turns_fall};
 pub use laws_growth::{commit_program_law, logs_grow_law, session_logs_grow_law};
 pub use laws_left::{
     attempt_bound, calls_at_fields, client_falls, reached_within, scan_falls, txn_falls,
 };
 pub use laws_opening::{blank_law, opening_law};
+pub use laws_room::{events_within, room_suffices};
 pub use laws_steps::step_law;
 pub use scan::{ScanAnswer, ScanPlace};
 pub use session::{DriverPlace, DriverState, Job, SessionState};

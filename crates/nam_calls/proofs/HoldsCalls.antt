@@ -245,12 +245,12 @@ module _ (places : List Place) where
       (give_back_holds held 0 found h.0)
   lock_holds seen (GiveBack held given word) found h is = give_back_holds held (given + 1) word h
 
-  pub lock_writes : (worker : ℕ) (at : LockPlace) → worker ≤ MOST_WORKERS → LockHolds at
+  pub lock_word : (worker : ℕ) (at : LockPlace) → worker ≤ MOST_WORKERS → LockHolds at
       → WritesWord (lock_verb worker places at)
-  lock_writes worker (Peek held) l h = tt
-  lock_writes worker (Seize held header) l h =
+  lock_word worker (Peek held) l h = tt
+  lock_word worker (Seize held header) l h =
       locked_word (nth_place places (length held)).form worker header l h.1
-  lock_writes worker (GiveBack held given found) l h = words_at held given h
+  lock_word worker (GiveBack held given found) l h = words_at held given h
 
 -- 4. A move
 
@@ -303,28 +303,28 @@ module _ (place : Place) (cells : Cells) where
   move_holds (MoveFlag slot header) found h is = tt
   move_holds (MoveBack header cell tag) found h is = tt
 
-  claim_writes : (at : ClaimPlace) → ClaimHolds at → WritesWord (claim_verb cells at)
-  claim_writes (ClaimLook cell) h = tt
-  claim_writes (ClaimTake cell tag) h = written_word tag h
+  claim_word : (at : ClaimPlace) → ClaimHolds at → WritesWord (claim_verb cells at)
+  claim_word (ClaimLook cell) h = tt
+  claim_word (ClaimTake cell tag) h = written_word tag h
 
-  fill_writes : (cell owner : ℕ) (version : Version) (at : FillPlace) → IsWord owner → VersionHolds version
+  fill_word : (cell owner : ℕ) (version : Version) (at : FillPlace) → IsWord owner → VersionHolds version
       → WritesWord (fill_verb cells cell owner version at)
-  fill_writes cell owner version FillOwner o v = o
-  fill_writes cell owner version FillBegin o v = v.0
-  fill_writes cell owner version FillEnding o v = v.1
-  fill_writes cell owner version (FillWord nth) o v = words_at version.value nth v.2
+  fill_word cell owner version FillOwner o v = o
+  fill_word cell owner version FillBegin o v = v.0
+  fill_word cell owner version FillEnding o v = v.1
+  fill_word cell owner version (FillWord nth) o v = words_at version.value nth v.2
 
-  pub move_writes : (at : MovePlace) → IsWord place.row → MoveHolds at → WritesWord (move_verb place cells at)
-  move_writes MoveCount r h = tt
-  move_writes (MoveHead slot) r h = tt
-  move_writes (MoveEnding slot header) r h = tt
-  move_writes (MoveClaim slot header ending at) r h = claim_writes at h.2
-  move_writes (MoveWords slot header ending cell tag got) r h = tt
-  move_writes (MoveFill slot header cell tag version at) r h = fill_writes cell place.row version at r h.2
-  move_writes (MoveAgain slot header cell tag) r h = tt
-  move_writes (MoveFull slot header cell tag) r h = full_word tag h.1
-  move_writes (MoveFlag slot header) r h = moved_word place.form header h
-  move_writes (MoveBack header cell tag) r h = freed_word tag h
+  pub move_word : (at : MovePlace) → IsWord place.row → MoveHolds at → WritesWord (move_verb place cells at)
+  move_word MoveCount r h = tt
+  move_word (MoveHead slot) r h = tt
+  move_word (MoveEnding slot header) r h = tt
+  move_word (MoveClaim slot header ending at) r h = claim_word at h.2
+  move_word (MoveWords slot header ending cell tag got) r h = tt
+  move_word (MoveFill slot header cell tag version at) r h = fill_word cell place.row version at r h.2
+  move_word (MoveAgain slot header cell tag) r h = tt
+  move_word (MoveFull slot header cell tag) r h = full_word tag h.1
+  move_word (MoveFlag slot header) r h = moved_word place.form header h
+  move_word (MoveBack header cell tag) r h = freed_word tag h
 
 -- 5. A collection
 
@@ -353,9 +353,9 @@ module _ (cells : Cells) (seen : List ℕ) where
       (collect_next cells known cell) h (collect_next_holds known cell)
   collect_holds workers (CollectFree known cell tag) found h is = collect_next_holds known cell
 
-  pub collect_writes : (at : CollectPlace) → AreWords seen → CollectHolds at → WritesWord (collect_verb cells seen at)
-  collect_writes (HorizonLook known) s h = tt
-  collect_writes (HorizonRaise known found) s h = words_at seen (length known) s
-  collect_writes (CollectTag known cell) s h = tt
-  collect_writes (CollectEnding known cell tag) s h = tt
-  collect_writes (CollectFree known cell tag) s h = freed_word tag h
+  pub collect_word : (at : CollectPlace) → AreWords seen → CollectHolds at → WritesWord (collect_verb cells seen at)
+  collect_word (HorizonLook known) s h = tt
+  collect_word (HorizonRaise known found) s h = words_at seen (length known) s
+  collect_word (CollectTag known cell) s h = tt
+  collect_word (CollectEnding known cell tag) s h = tt
+  collect_word (CollectFree known cell tag) s h = freed_word tag h

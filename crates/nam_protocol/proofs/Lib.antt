@@ -30,3 +30,8 @@ pub mod GoesCommit
 pub mod GoesClient
 pub mod GoesView
 pub mod ProgramsCommit
+pub mod CallWrites
+pub mod HoldsTxn
+pub mod HoldsClient
+pub mod HoldsVerbs
+pub mod HoldsSession

@@ -25,3 +25,6 @@ pub mod OpeningLaw
 pub mod StepLaw
 pub mod Grows
 pub mod ProgramCommit
+pub mod HoldsWords
+pub mod WordsLaw
+pub mod CallWrites

@@ -6,7 +6,7 @@
 //! transaction and of a client the number of verbs to come falls with each word and begins within its bound, that an
 //! attempt takes no more than the sum of these, that each verb is at the field of the layout that its place names, what
 //! each field has at the opening, what a step of the world does to the fields, that clients' and sessions' logs only
-//! grow, and that a commit is one straight program.
+//! grow, that a commit is one straight program, and that words stay below 2^64.
 #![tactic(auto)]
 
 mod client;
@@ -14,6 +14,7 @@ mod laws_growth;
 mod laws_left;
 mod laws_opening;
 mod laws_steps;
+mod laws_words;
 mod scan;
 mod session;
 mod txn;
@@ -25,6 +26,7 @@ pub use laws_left::{
 };
 pub use laws_opening::{blank_law, opening_law};
 pub use laws_steps::step_law;
+pub use laws_words::words_law;
 pub use scan::{ScanAnswer, ScanPlace};
 pub use session::{DriverPlace, DriverState, Job, SessionState};
 pub use txn::{CommitPlace, Record, TxnAnswer, TxnCall, TxnPlace, TxnState};

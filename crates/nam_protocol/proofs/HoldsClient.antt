@@ -61,9 +61,9 @@ module _ (shape : Shape) where
       → Holds (answered (on_answer client attempt answer) (client_answer.Txn answer))
   answered_holds client attempt answer last state ends =
       on_answer_goes (λ c. Holds (answered c (client_answer.Txn answer))) client attempt answer
-      record { last_is = last; opened = state; running = tt }
-      (λ outcome. record { last_is = last; opened = tt; running = tt })
-      (λ outcome. record { last_is = last; opened = tt; running = tt })
+      (λ e. record { last_is = last; opened = state; running = tt })
+      (λ outcome e. record { last_is = last; opened = tt; running = tt })
+      (λ outcome e. record { last_is = last; opened = tt; running = tt })
       (λ number e. record { last_is = subst (TxnEndHolds shape.form) e ends; opened = tt; running = tt })
 
   pub stepped_holds : (client : ClientState) (attempt : Open) (before : ℕ) (step : Stepped)
@@ -93,9 +93,11 @@ module _ (shape : Shape) where
   take_scan_holds client table low high at None found h o = h
   take_scan_holds client table low high at (Some attempt) found h o =
       scan_goes Holds shape client attempt table low high _ _
-      (λ rows next. record { last_is = h.last_is; opened = h.opened; running = tt })
+      (λ next e. record { last_is = h.last_is; opened = h.opened; running = tt })
+      (λ key e. record { last_is = h.last_is; opened = h.opened; running = tt })
+      (λ rows e. record { last_is = h.last_is; opened = h.opened; running = tt })
       (λ rows. record { last_is = h.last_is; opened = o; running = tt })
-      (λ outcome end. record { last_is = h.last_is; opened = tt; running = tt })
+      (λ outcome end e. record { last_is = h.last_is; opened = tt; running = tt })
 
   module _ (client : ClientState) (h : Holds client) where
     idle : (call : Option (Now CallPlace Answer)) → RunHolds shape.form client.txn call

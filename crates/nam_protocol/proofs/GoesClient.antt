@@ -142,7 +142,7 @@ module _ (P : ClientState → Type 0) where
     -- 3. The scan: it stays, reads at a key of the range, leaves the position with some rows, lists its rows, or ends
     -- the attempt
 
-    left_goes : (client : ClientState) (attempt : Open) (table low high position key : ℕ) (value : Option (List ℕ))
+    pub left_goes : (client : ClientState) (attempt : Open) (table low high position key : ℕ) (value : Option (List ℕ))
         → ((rows : List Scanned) → position + 1 ≢ capacity_of shape table
         → P (go (with_rows client rows) (Scanning table low high (ScanKey (position + 1)))))
         → ((rows : List Scanned) → P (scan_listed (with_rows client rows) attempt table))

@@ -35,3 +35,6 @@ pub mod HoldsTxn
 pub mod HoldsClient
 pub mod HoldsVerbs
 pub mod HoldsSession
+pub mod PlainLemmas
+pub mod ReaderLemmas
+pub mod SortsLemmas

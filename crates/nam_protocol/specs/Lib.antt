@@ -28,3 +28,6 @@ pub mod ProgramCommit
 pub mod HoldsWords
 pub mod WordsLaw
 pub mod CallWrites
+pub mod Plain
+pub mod Reader
+pub mod Sorts

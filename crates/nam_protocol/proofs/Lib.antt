@@ -38,3 +38,6 @@ pub mod HoldsSession
 pub mod PlainLemmas
 pub mod ReaderLemmas
 pub mod SortsLemmas
+pub mod SteppedLemmas
+pub mod OwnLemmas
+pub mod StageLemmas

@@ -31,3 +31,4 @@ pub mod CallWrites
 pub mod Plain
 pub mod Reader
 pub mod Sorts
+pub mod Own

@@ -9,6 +9,8 @@ pub mod Lock
 pub mod Reading
 pub mod Left
 pub mod Fits
+pub mod Holds
+pub mod Writes
 pub mod FallsLaw
 pub mod Memory
 pub mod Program

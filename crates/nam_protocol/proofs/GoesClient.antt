@@ -1,6 +1,7 @@
 -- Where a client's call goes on. For any property of clients: if it holds at each place that may follow, and of each
 -- answered client, then it holds after the word.
 use Rattle.std.proofs.Common.{◌≡◌, ℕ, ◌+◌, false, List, [], ◌∷◌, ◌++◌, length, Option, Some, None, refl}
+use Rattle.std.proofs.Common.{◌≢◌}
 use Rattle.std.proofs.lemmas.Bool.{cond_both}
 use Rattle.si_model.specs.declared.log.Outcome.{Outcome}
 use Rattle.si_model.specs.declared.log.Stamp.{Stamp}
@@ -11,6 +12,7 @@ use Rattle.si_model.specs.declared.log.Event.TheVariants as event
 use Rattle.nam_verbs.specs.declared.now.Now.{Now}
 use Rattle.nam_verbs.specs.declared.now.Now.TheVariants.{At, Over}
 use Rattle.nam_verbs.specs.Falls.{nothing}
+use Rattle.nam_verbs.proofs.TestLemmas.{by_equal}
 use Rattle.nam_catalog.specs.declared.shape.Shape.{Shape}
 use Rattle.nam_vector.specs.declared.snap.SnapPlace.{SnapPlace}
 use Rattle.nam_vector.specs.declared.snap.SnapEnd.{SnapEnd}
@@ -21,6 +23,8 @@ use Rattle.nam_calls.specs.declared.mover.MovePlace.{MovePlace}
 use Rattle.nam_calls.specs.declared.mover.MoveAnswer.{MoveAnswer}
 use Rattle.nam_calls.specs.Mover.{move_begin}
 use Rattle.nam_calls.specs.Horizon.{collect_begin}
+use Rattle.nam_calls.specs.Reading.{read_begin}
+use Rattle.nam_calls.specs.Words.{capacity_of}
 use Rattle.nam_calls.specs.declared.index.FindEnd.TheVariants as found_key
 use Rattle.nam_calls.specs.declared.mover.MoveAnswer.TheVariants as move_end
 use Rattle.nam_protocol.specs.declared.txn.TxnPlace.{TxnPlace}
@@ -32,6 +36,7 @@ use Rattle.nam_protocol.specs.declared.client.CallPlace.TheVariants.{Snapping, C
 use Rattle.nam_protocol.specs.declared.client.Open.{Open}
 use Rattle.nam_protocol.specs.declared.client.Scanned.{Scanned}
 use Rattle.nam_protocol.specs.declared.client.ClientState.{ClientState}
+use Rattle.nam_protocol.specs.declared.scan.ScanPlace.TheVariants.{ScanKey, ScanRead}
 use Rattle.nam_protocol.specs.Operations.{own_value}
 use Rattle.nam_protocol.specs.Txn.{Stepped}
 use Rattle.nam_protocol.specs.TxnCalls.{taken_now}
@@ -41,6 +46,7 @@ use Rattle.nam_protocol.specs.Telling.{go, answered, opened, told, ended, commit
 use Rattle.nam_protocol.specs.Telling.{on_answer, on_call, stepped}
 use Rattle.nam_protocol.specs.ScanCall.{gathered, scan_listed, scan_ended, on_skip, on_scan}
 use Rattle.nam_protocol.specs.Client.{on_begin, on_seek, on_move, on_snap, on_collect}
+use Rattle.nam_protocol.specs.Telling.{read_ended}
 use Rattle.nam_protocol.specs.declared.txn.TxnAnswer.TheVariants as txn_answer
 use Rattle.nam_protocol.specs.declared.scan.ScanAnswer.TheVariants as scan_answer
 use Rattle.nam_protocol.specs.declared.client.Answer.TheVariants as client_answer
@@ -59,6 +65,20 @@ begun client txn nth seen =
 -- the client with these rows of a scan
 abbrev pub with_rows : ClientState → List Scanned → ClientState
 with_rows client rows = record client { scanned = rows }
+
+-- how an answer ends the attempt, where it does
+abbrev pub outcome_of : Open → TxnAnswer → Option Outcome
+outcome_of attempt (txn_answer.Committed number) = Some (outcome.Commit number)
+outcome_of attempt txn_answer.ReadOnly = Some outcome.ReadOnly
+outcome_of attempt (txn_answer.TooOld worker entry horizon) = Some (outcome.TooOld worker entry horizon)
+outcome_of attempt (txn_answer.NoSpace table) = Some (outcome.NoSpace table)
+outcome_of attempt txn_answer.Declined = Some (outcome.Declined attempt.ops)
+outcome_of attempt txn_answer.Spent = Some outcome.Spent
+outcome_of attempt (txn_answer.Locked lock) = Some (outcome.Locked lock)
+outcome_of attempt (txn_answer.Newer lock) = Some (outcome.Newer lock)
+outcome_of attempt (txn_answer.Full lock) = Some (outcome.Full lock)
+outcome_of attempt txn_answer.Astray = Some outcome.Left
+outcome_of attempt _ = None
 
 -- a step of the transaction, and how many new locks it lists
 abbrev pub step_lists : ClientState → ℕ → Stepped → ClientState
@@ -92,76 +112,74 @@ module _ (P : ClientState → Type 0) where
   stepped_goes client attempt before step stays over =
       on_call_goes (step_lists client before step) (step_opens attempt before step) step.call stays over
 
-  -- the transaction stays open and lists what was read, or it ends, or it is committed
+  -- the transaction stays open and lists what was read, or it ends, having listed it or not, or it is committed
   pub on_answer_goes : (client : ClientState) (attempt : Open) (answer : TxnAnswer)
-      → P (read_listed client attempt (items_of attempt.state.read))
-      → ((outcome : Outcome) → P (ended client attempt outcome))
-      → ((outcome : Outcome) → let items = items_of attempt.state.read in
-      P (ended (read_listed client attempt items) (record attempt { reads = attempt.reads + length items }) outcome))
+      → (outcome_of attempt answer ≡ None → P (read_listed client attempt (items_of attempt.state.read)))
+      → ((outcome : Outcome) → outcome_of attempt answer ≡ Some outcome → P (ended client attempt outcome))
+      → ((outcome : Outcome) → outcome_of attempt answer ≡ Some outcome
+      → P (read_ended client attempt (items_of attempt.state.read) outcome))
       → ((number : ℕ) → answer ≡ txn_answer.Committed number → P (committed client attempt number))
       → P (on_answer client attempt answer)
-  on_answer_goes client attempt (txn_answer.Value value) stays over read_over commits = stays
-  on_answer_goes client attempt txn_answer.Written stays over read_over commits = stays
-  on_answer_goes client attempt (txn_answer.Added n) stays over read_over commits = stays
-  on_answer_goes client attempt txn_answer.Met stays over read_over commits = stays
+  on_answer_goes client attempt (txn_answer.Value value) stays over read_over commits = stays refl
+  on_answer_goes client attempt txn_answer.Written stays over read_over commits = stays refl
+  on_answer_goes client attempt (txn_answer.Added n) stays over read_over commits = stays refl
+  on_answer_goes client attempt txn_answer.Met stays over read_over commits = stays refl
   on_answer_goes client attempt (txn_answer.Committed number) stays over read_over commits = commits number refl
-  on_answer_goes client attempt txn_answer.ReadOnly stays over read_over commits = over outcome.ReadOnly
+  on_answer_goes client attempt txn_answer.ReadOnly stays over read_over commits = over outcome.ReadOnly refl
   on_answer_goes client attempt (txn_answer.TooOld worker entry horizon) stays over read_over commits =
-      over (outcome.TooOld worker entry horizon)
+      over (outcome.TooOld worker entry horizon) refl
   on_answer_goes client attempt (txn_answer.NoSpace table) stays over read_over commits =
-      read_over (outcome.NoSpace table)
+      read_over (outcome.NoSpace table) refl
   on_answer_goes client attempt txn_answer.Declined stays over read_over commits =
-      read_over (outcome.Declined attempt.ops)
-  on_answer_goes client attempt txn_answer.Spent stays over read_over commits = over outcome.Spent
-  on_answer_goes client attempt (txn_answer.Locked lock) stays over read_over commits = over (outcome.Locked lock)
-  on_answer_goes client attempt (txn_answer.Newer lock) stays over read_over commits = over (outcome.Newer lock)
-  on_answer_goes client attempt (txn_answer.Full lock) stays over read_over commits = over (outcome.Full lock)
-  on_answer_goes client attempt txn_answer.Astray stays over read_over commits = over outcome.Left
+      read_over (outcome.Declined attempt.ops) refl
+  on_answer_goes client attempt txn_answer.Spent stays over read_over commits = over outcome.Spent refl
+  on_answer_goes client attempt (txn_answer.Locked lock) stays over read_over commits = over (outcome.Locked lock) refl
+  on_answer_goes client attempt (txn_answer.Newer lock) stays over read_over commits = over (outcome.Newer lock) refl
+  on_answer_goes client attempt (txn_answer.Full lock) stays over read_over commits = over (outcome.Full lock) refl
+  on_answer_goes client attempt txn_answer.Astray stays over read_over commits = over outcome.Left refl
 
   module _ (shape : Shape) where
-    -- 3. The scan: whatever it comes to, it has some rows, and goes on, lists them, or ends the attempt
+    -- 3. The scan: it stays, reads at a key of the range, leaves the position with some rows, lists its rows, or ends
+    -- the attempt
 
-    on_skip_goes : (client : ClientState) (attempt : Open) (table low high : ℕ) (now : Now ScanPlace ScanAnswer)
-        → ((place : ScanPlace) → P (go client (Scanning table low high place)))
-        → P (scan_listed client attempt table)
-        → P (on_skip client attempt table low high now)
-    on_skip_goes client attempt table low high (At place) stays listed = stays place
-    on_skip_goes client attempt table low high (Over end) stays listed = listed
-
-    gathered_goes : (client : ClientState) (attempt : Open) (table low high position key : ℕ) (value : Option (List ℕ))
-        (now : Now ScanPlace ScanAnswer)
-        → ((rows : List Scanned) (place : ScanPlace) → P (go (with_rows client rows) (Scanning table low high place)))
+    pub left_goes : (client : ClientState) (attempt : Open) (table low high position key : ℕ) (value : Option (List ℕ))
+        → ((rows : List Scanned) → position + 1 ≢ capacity_of shape table
+        → P (go (with_rows client rows) (Scanning table low high (ScanKey (position + 1)))))
         → ((rows : List Scanned) → P (scan_listed (with_rows client rows) attempt table))
-        → P (on_skip (gathered client position key value) attempt table low high now)
-    gathered_goes client attempt table low high position key None now stays listed =
-        on_skip_goes client attempt table low high now (stays client.scanned) (listed client.scanned)
-    gathered_goes client attempt table low high position key (Some value) now stays listed =
+        → P (on_skip (gathered client position key value) attempt table low high (scan_skip shape table position))
+    left_goes client attempt table low high position key None next listed =
+        by_equal (λ now. P (on_skip client attempt table low high now)) (position + 1) (capacity_of shape table) _ _
+        (λ e. listed client.scanned) (next client.scanned)
+    left_goes client attempt table low high position key (Some value) next listed =
         let rows = client.scanned ++ record { position = position; key = key; value = value } ∷ [] in
-        on_skip_goes (with_rows client rows) attempt table low high now (stays rows) (listed rows)
+        by_equal (λ now. P (on_skip (with_rows client rows) attempt table low high now)) (position + 1)
+        (capacity_of shape table) _ _ (λ e. listed rows) (next rows)
 
     pub scan_goes : (client : ClientState) (attempt : Open) (table low high position : ℕ)
         (now : Now ScanPlace ScanAnswer)
-        → ((rows : List Scanned) (place : ScanPlace) → P (go (with_rows client rows) (Scanning table low high place)))
+        → ((place : ScanPlace) → now ≡ At place → P (go client (Scanning table low high place)))
+        → ((key : ℕ) → now ≡ Over (scan_answer.Key key)
+        → P (go client (Scanning table low high (ScanRead position key read_begin))))
+        → ((rows : List Scanned) → position + 1 ≢ capacity_of shape table
+        → P (go (with_rows client rows) (Scanning table low high (ScanKey (position + 1)))))
         → ((rows : List Scanned) → P (scan_listed (with_rows client rows) attempt table))
-        → ((outcome : Outcome) (end : TxnAnswer) → P (scan_ended client attempt outcome end))
+        → ((outcome : Outcome) (end : TxnAnswer) → outcome_of attempt end ≡ Some outcome
+        → P (scan_ended client attempt outcome end))
         → P (on_scan shape client attempt table low high position now)
-    scan_goes client attempt table low high position (At place) stays listed over = stays client.scanned place
-    scan_goes client attempt table low high position (Over (scan_answer.Key key)) stays listed over =
+    scan_goes client attempt table low high position (At place) stays reads next listed over = stays place refl
+    scan_goes client attempt table low high position (Over (scan_answer.Key key)) stays reads next listed over =
         let own = key_at table key in
         cond_both (writes_key attempt.state.writes own) _ _ P
-        (λ e. gathered_goes client attempt table low high position key (own_value attempt.state.writes own)
-        (scan_skip shape table position) stays listed)
-        (λ e. on_skip_goes client attempt table low high (scan_read position key) (stays client.scanned)
-        (listed client.scanned))
-    scan_goes client attempt table low high position (Over (scan_answer.Row item)) stays listed over =
-        gathered_goes client attempt table low high position item.key item.value
-        (scan_skip shape table position) stays listed
-    scan_goes client attempt table low high position (Over scan_answer.Done) stays listed over = listed client.scanned
-    scan_goes client attempt table low high position
-        (Over (scan_answer.TooOld worker entry horizon)) stays listed over =
-        over (outcome.TooOld worker entry horizon) (txn_answer.TooOld worker entry horizon)
-    scan_goes client attempt table low high position (Over scan_answer.Astray) stays listed over =
-        over outcome.Left txn_answer.Astray
+        (λ e. left_goes client attempt table low high position key (own_value attempt.state.writes own) next listed)
+        (λ e. reads key refl)
+    scan_goes client attempt table low high position (Over (scan_answer.Row item)) stays reads next listed over =
+        left_goes client attempt table low high position item.key item.value next listed
+    scan_goes client attempt table low high position (Over scan_answer.Done) stays reads next listed over =
+        listed client.scanned
+    scan_goes client attempt table low high position (Over (scan_answer.TooOld worker entry horizon)) stays reads next
+        listed over = over (outcome.TooOld worker entry horizon) (txn_answer.TooOld worker entry horizon) refl
+    scan_goes client attempt table low high position (Over scan_answer.Astray) stays reads next listed over =
+        over outcome.Left txn_answer.Astray refl
 
     -- 4. Begin, tidy, collect
 

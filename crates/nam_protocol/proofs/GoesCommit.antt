@@ -1,6 +1,7 @@
 -- Where a commit goes on: first by what each of its steps has come to, then of each place whole.
 use Rattle.std.proofs.Common.{◌≡◌, ℕ, ◌+◌, true, false, List, [], ◌∷◌, ◌++◌, length, None, refl}
 use Rattle.std.specs.Prelude.{◌==◌}
+use Rattle.std.proofs.Common.{inl, inr, ◌⊎◌}
 use Rattle.std.proofs.lemmas.Bool.{cond_both}
 use Rattle.si_model.specs.declared.log.Lock.{Lock}
 use Rattle.nam_verbs.specs.declared.now.Now.{Now}
@@ -118,31 +119,62 @@ module _ (P : Stepped → Type 0) (state : TxnState) where
 
   -- 3. Each place whole
 
+  -- where a commit may go on from a place, its state unchanged
+  abbrev pub GoesTo : CommitPlace → CommitPlace → Type 0
+  GoesTo (Locking at) next = (later : LockPlace) × (next ≡ Locking later)
+  GoesTo (Checking at) next =
+      ((later : SlotPlace) × (next ≡ Checking later)) ⊎ ((full : Lock) × (next ≡ Returning 0 full))
+  GoesTo (Returning given full) next = (later : ℕ) × (next ≡ Returning later full)
+  GoesTo (Saving nth got) next =
+      ((more : List ℕ) × (next ≡ Saving nth more)) ⊎ ((old : List ℕ) × (next ≡ Copying nth old CopyMark))
+  GoesTo (Copying nth old at) next =
+      ((later : CopyPlace) × (next ≡ Copying nth old later))
+      ⊎ (next ≡ Installing nth (install_begin (value_at state nth)))
+  GoesTo (Installing nth at) next =
+      ((later : InstallPlace) × (next ≡ Installing nth later))
+      ⊎ ((next ≡ Publishing) ⊎ (next ≡ Saving (nth + 1) []))
+  GoesTo Publishing next = next ≡ Freeing (length state.writes)
+  GoesTo (Freeing nth) next = next ≡ Freeing (nth + 1)
+
+  -- how it may be answered there
+  abbrev pub EndsAs : CommitPlace → TxnAnswer → Type 0
+  EndsAs (Locking at) answer = (lock : Lock) × ((answer ≡ Locked lock) ⊎ (answer ≡ Newer lock))
+  EndsAs (Returning given full) answer = answer ≡ Full full
+  EndsAs Publishing answer = answer ≡ Committed (state.last + 1)
+  EndsAs (Freeing nth) answer = answer ≡ Committed (state.last + 1)
+  EndsAs _ answer = ⊥
+
+  -- a count is added only where a slot was looked at, and locks are all held only after the last
   pub commit_goes : (place : CommitPlace) (found : ℕ)
-      → ((next : CommitPlace) → P (go state next))
-      → ((headers : List ℕ) → P (go (holding_locks state headers) (Checking CheckCount)))
-      → ((count : ℕ) (next : CommitPlace) → P (go (with_count state count) next))
-      → ((answer : TxnAnswer) → P (answered state answer))
+      → ((next : CommitPlace) → GoesTo place next → P (go state next))
+      → ((at : LockPlace) (headers : List ℕ) → place ≡ Locking at
+      → P (go (holding_locks state headers) (Checking CheckCount)))
+      → ((at : SlotPlace) (count : ℕ) → place ≡ Checking at → P (go (with_count state count) (Saving 0 [])))
+      → ((at : SlotPlace) (count : ℕ) → place ≡ Checking at → P (go (with_count state count) (Checking CheckCount)))
+      → ((answer : TxnAnswer) → EndsAs place answer → P (answered state answer))
       → P (commit_after state place found)
-  commit_goes (Locking at) found stays held counted answer =
-      on_lock_goes _ (λ next e. stays (Locking next)) (λ headers e. held headers)
-      (λ nth word e. answer (Locked (lock_at state nth word))) (λ nth word e. answer (Newer (lock_at state nth word)))
-  commit_goes (Checking at) found stays held counted answer =
-      on_slot_goes _ (λ next e. stays (Checking next)) (λ count e f. counted count (Saving 0 []))
-      (λ count e f. counted count (Checking CheckCount))
-      (λ slot word e. stays (Returning 0 (lock_at state (length state.counts) word)))
-  commit_goes (Returning given full) found stays held counted answer =
-      on_return_goes full _ (λ next e. stays (Returning next full)) (λ e. answer (Full full))
-  commit_goes (Saving nth got) found stays held counted answer =
-      on_words_goes nth _ (λ next e. stays (Saving nth next)) (λ old e. stays (Copying nth old CopyMark))
-  commit_goes (Copying nth old at) found stays held counted answer =
-      on_copy_goes nth old _ (λ next e. stays (Copying nth old next))
-      (λ e. stays (Installing nth (install_begin (value_at state nth))))
-  commit_goes (Installing nth at) found stays held counted answer =
-      on_install_goes nth _ (λ next e. stays (Installing nth next)) (λ e f. stays Publishing)
-      (λ e f. stays (Saving (nth + 1) []))
-  commit_goes Publishing found stays held counted answer =
-      next_free_goes (length state.writes) (λ e. answer (Committed (state.last + 1)))
-      (λ e. stays (Freeing (length state.writes)))
-  commit_goes (Freeing nth) found stays held counted answer =
-      next_free_goes (nth + 1) (λ e. answer (Committed (state.last + 1))) (λ e. stays (Freeing (nth + 1)))
+  commit_goes (Locking at) found stays held last next answer =
+      on_lock_goes _ (λ later e. stays (Locking later) (later, refl)) (λ headers e. held at headers refl)
+      (λ nth word e. let lock = lock_at state nth word in answer (Locked lock) (lock, inl refl))
+      (λ nth word e. let lock = lock_at state nth word in answer (Newer lock) (lock, inr refl))
+  commit_goes (Checking at) found stays held last next answer =
+      on_slot_goes _ (λ later e. stays (Checking later) (inl (later, refl))) (λ count e f. last at count refl)
+      (λ count e f. next at count refl)
+      (λ slot word e. let full = lock_at state (length state.counts) word in
+      stays (Returning 0 full) (inr (full, refl)))
+  commit_goes (Returning given full) found stays held last next answer =
+      on_return_goes full _ (λ later e. stays (Returning later full) (later, refl)) (λ e. answer (Full full) refl)
+  commit_goes (Saving nth got) found stays held last next answer =
+      on_words_goes nth _ (λ more e. stays (Saving nth more) (inl (more, refl)))
+      (λ old e. stays (Copying nth old CopyMark) (inr (old, refl)))
+  commit_goes (Copying nth old at) found stays held last next answer =
+      on_copy_goes nth old _ (λ later e. stays (Copying nth old later) (inl (later, refl)))
+      (λ e. stays (Installing nth (install_begin (value_at state nth))) (inr refl))
+  commit_goes (Installing nth at) found stays held last next answer =
+      on_install_goes nth _ (λ later e. stays (Installing nth later) (inl (later, refl)))
+      (λ e f. stays Publishing (inr (inl refl))) (λ e f. stays (Saving (nth + 1) []) (inr (inr refl)))
+  commit_goes Publishing found stays held last next answer =
+      next_free_goes (length state.writes) (λ e. answer (Committed (state.last + 1)) refl)
+      (λ e. stays (Freeing (length state.writes)) refl)
+  commit_goes (Freeing nth) found stays held last next answer =
+      next_free_goes (nth + 1) (λ e. answer (Committed (state.last + 1)) refl) (λ e. stays (Freeing (nth + 1)) refl)

@@ -18,7 +18,8 @@ use Rattle.nam_calls.specs.declared.index.ClaimKeyPlace.TheVariants.{KeyLook}
 use Rattle.nam_calls.specs.declared.index.ClaimKeyEnd.{ClaimKeyEnd}
 use Rattle.nam_calls.specs.declared.reading.ReadPlace.{ReadPlace}
 use Rattle.nam_calls.specs.declared.reading.ReadingEnd.{ReadingEnd}
-use Rattle.nam_calls.specs.Reading.{read_begin}
+use Rattle.nam_calls.specs.Index.{find_after, claim_key_after}
+use Rattle.nam_calls.specs.Reading.{sight_of, read_begin, read_after}
 use Rattle.nam_calls.specs.declared.index.FindEnd.TheVariants as found_key
 use Rattle.nam_calls.specs.declared.index.ClaimKeyEnd.TheVariants as claimed_key
 use Rattle.nam_calls.specs.declared.reading.ReadingEnd.TheVariants as read_end
@@ -26,7 +27,7 @@ use Rattle.nam_protocol.specs.declared.txn.TxnState.{TxnState}
 use Rattle.nam_protocol.specs.declared.txn.TxnPlace.TheVariants.{Finding, Reading, Claiming}
 use Rattle.nam_protocol.specs.declared.txn.TxnAnswer.{TxnAnswer}
 use Rattle.nam_protocol.specs.declared.txn.TxnAnswer.TheVariants.{Committed, TooOld, NoSpace, Declined, Astray}
-use Rattle.nam_protocol.specs.Operations.{holding, own_value, read_of, value_in, answer_of}
+use Rattle.nam_protocol.specs.Operations.{op_path, holding, own_value, read_of, value_in, answer_of}
 use Rattle.nam_protocol.specs.Txn.{Stepped, at, answered, with_op, ask_op, decided, valued, on_find, on_read}
 use Rattle.nam_protocol.specs.Txn.{on_claim, claimed}
 use Rattle.nam_protocol.specs.TxnCalls.{txn_after}
@@ -125,34 +126,40 @@ module _ (shape : Shape) (P : Stepped → Type 0) (op : Op) where
   on_claim_goes state (Over claimed_key.NoSpace) stays none found = none refl
   on_claim_goes state (Over (claimed_key.At position)) stays none found = found position refl
 
-  -- 4. Each place whole
+  -- 4. Each place whole, with what its part has come to
 
-  pub finding_goes : (state : TxnState) (passed found : ℕ)
-      → ((next : ℕ) → P (at state (Finding op next)))
-      → ((position : ℕ) → P (at state (Reading op position read_begin)))
-      → (op_claims op ≡ true → P (at (knowing state op None) (Claiming op (KeyLook 0))))
-      → ((answer : TxnAnswer) → IsSilent answer → P (answered (knowing state op None) answer))
+  pub finding_goes : (state : TxnState) (passed found : ℕ) → let now = find_after (op_path shape op) passed found in
+      ((next : ℕ) → now ≡ At next → P (at state (Finding op next)))
+      → ((position : ℕ) → now ≡ Over (found_key.At position) → P (at state (Reading op position read_begin)))
+      → (now ≡ Over found_key.Absent → op_claims op ≡ true → P (at (knowing state op None) (Claiming op (KeyLook 0))))
+      → (now ≡ Over found_key.Absent → (answer : TxnAnswer) → IsSilent answer
+      → P (answered (knowing state op None) answer))
       → P (txn_after shape state (Finding op passed) found)
   finding_goes state passed found stays reading claiming answer =
-      on_find_goes state _ (λ next e. stays next) (λ position e. reading position)
-      (λ e. valued_goes state None claiming answer)
+      on_find_goes state _ stays reading (λ e. valued_goes state None (claiming e) (answer e))
 
   pub reading_goes : (state : TxnState) (position : ℕ) (place : ReadPlace) (found : ℕ)
-      → ((next : ReadPlace) → P (at state (Reading op position next)))
-      → ((value : Option (List ℕ)) → op_claims op ≡ true → P (at (knowing state op value) (Claiming op (KeyLook 0))))
-      → ((value : Option (List ℕ)) (answer : TxnAnswer) → IsSilent answer
+      → let now = read_after (sight_of shape (op_key op).table position) state.seen place found in
+      ((next : ReadPlace) → now ≡ At next → P (at state (Reading op position next)))
+      → ((value : Option (List ℕ)) → now ≡ Over (read_end.Got value) → op_claims op ≡ true
+      → P (at (knowing state op value) (Claiming op (KeyLook 0))))
+      → ((value : Option (List ℕ)) → now ≡ Over (read_end.Got value) → (answer : TxnAnswer) → IsSilent answer
       → P (answered (knowing state op value) answer))
-      → ((answer : TxnAnswer) → IsSilent answer → P (answered state answer))
+      → ((worker entry horizon : ℕ) → now ≡ Over (read_end.Passed worker entry horizon)
+      → P (answered state (TooOld worker entry horizon)))
+      → (now ≡ Over read_end.Astray → P (answered state Astray))
       → P (txn_after shape state (Reading op position place) found)
-  reading_goes state position place found stays claiming answer ended =
-      on_read_goes state position _ (λ next e. stays next)
-      (λ value e. valued_goes state value (claiming value) (answer value))
-      (λ worker entry horizon e. ended (TooOld worker entry horizon) tt) (λ e. ended Astray tt)
+  reading_goes state position place found stays claiming answer passed astray =
+      on_read_goes state position _ stays
+      (λ value e. valued_goes state value (claiming value e) (answer value e)) passed astray
 
   pub claiming_goes : (state : TxnState) (place : ClaimKeyPlace) (found : ℕ)
-      → ((next : ClaimKeyPlace) → P (at state (Claiming op next)))
-      → P (answered state (NoSpace (op_key op).table))
-      → ((position : ℕ) → P (answered (claimed shape state op position) (answer_of op (value_in state.read))))
+      → let now = claim_key_after (op_path shape op) place found in
+      ((next : ClaimKeyPlace) → now ≡ At next → P (at state (Claiming op next)))
+      → (now ≡ Over claimed_key.NoSpace → P (answered state (NoSpace (op_key op).table)))
+      → ((position : ℕ) → now ≡ Over (claimed_key.At position) → (answer : TxnAnswer) → IsSilent answer
+      → answer ≡ answer_of op (value_in state.read) → P (answered (claimed shape state op position) answer))
       → P (txn_after shape state (Claiming op place) found)
   claiming_goes state place found stays none done =
-      on_claim_goes state _ (λ next e. stays next) (λ e. none) (λ position e. done position)
+      on_claim_goes state _ stays none
+      (λ position e. done position e (answer_of op (value_in state.read)) (silent_answer op (value_in state.read)) refl)

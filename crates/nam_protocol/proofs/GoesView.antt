@@ -56,19 +56,20 @@ module _ (shape : Shape) (client : ClientState) (attempt : Open) where
 
   pub finding_quiet : (op : Op) (passed found : ℕ) → Quiet (txn_after shape attempt.state (Finding op passed) found)
   finding_quiet op passed found =
-      finding_goes shape Quiet op attempt.state passed found (λ next. refl) (λ position. refl) (λ e. refl)
-      (λ answer s. refl)
+      finding_goes shape Quiet op attempt.state passed found (λ next e. refl) (λ position e. refl)
+      (λ e f. refl) (λ e answer s. refl)
 
   pub reading_quiet : (op : Op) (position : ℕ) (place : ReadPlace) (found : ℕ)
       → Quiet (txn_after shape attempt.state (Reading op position place) found)
   reading_quiet op position place found =
-      reading_goes shape Quiet op attempt.state position place found (λ next. refl) (λ value e. refl)
-      (λ value answer s. refl) (λ answer s. refl)
+      reading_goes shape Quiet op attempt.state position place found (λ next e. refl)
+      (λ value e f. refl) (λ value e answer s. refl) (λ worker entry horizon e. refl) (λ e. refl)
 
   pub claiming_quiet : (op : Op) (place : ClaimKeyPlace) (found : ℕ)
       → Quiet (txn_after shape attempt.state (Claiming op place) found)
   claiming_quiet op place found =
-      claiming_goes shape Quiet op attempt.state place found (λ next. refl) refl (λ position. refl)
+      claiming_goes shape Quiet op attempt.state place found (λ next e. refl) (λ e. refl)
+      (λ position e answer s f. refl)
 
   pub ask_quiet : (op : Op) → Quiet (ask_op shape attempt.state op)
   ask_quiet op = ask_goes shape Quiet op attempt.state (λ e f. refl) (λ e f. refl) (λ e f. refl) (λ e f. refl)
@@ -107,7 +108,8 @@ module _ (shape : Shape) where
       low high place txn found)
   scan_quiet client table low high place None found = refl
   scan_quiet client table low high place (Some attempt) found =
-      scan_goes Idle shape _ attempt table low high _ _ (λ rows next. refl) (λ rows. refl) (λ outcome end. refl)
+      scan_goes Idle shape _ attempt table low high _ _ (λ next e. refl) (λ key e. refl)
+      (λ rows e. refl) (λ rows. refl) (λ outcome end e. refl)
 
   pub word_quiet : (client : ClientState) (place : CallPlace) (found : ℕ)
       → Idle (go client place) → Idle (client_after shape (go client place) found)

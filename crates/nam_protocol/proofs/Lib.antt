@@ -39,3 +39,14 @@ pub mod GoesCommit
 pub mod GoesClient
 pub mod GoesView
 pub mod ProgramsCommit
+pub mod CallWrites
+pub mod HoldsTxn
+pub mod HoldsClient
+pub mod HoldsVerbs
+pub mod HoldsSession
+pub mod PlainLemmas
+pub mod ReaderLemmas
+pub mod SortsLemmas
+pub mod SteppedLemmas
+pub mod OwnLemmas
+pub mod StageLemmas

@@ -29,3 +29,10 @@ pub mod EndsLaw
 pub mod RoomLaw
 pub mod EventsLaw
 pub mod ProgramCommit
+pub mod HoldsWords
+pub mod WordsLaw
+pub mod CallWrites
+pub mod Plain
+pub mod Reader
+pub mod Sorts
+pub mod Own

@@ -6,8 +6,8 @@
 //! transaction and of a client the number of verbs to come falls with each word and begins within its bound, that an
 //! attempt takes no more than the sum of these, that each verb is at the field of the layout that its place names, what
 //! each field has at the opening, what a step of the world does to the fields, that clients' and sessions' logs only
-//! grow, that a commit is one straight program, that sessions settle and each simulated run reaches its one end, and that
-//! the room for jobs suffices.
+//! grow, that a commit is one straight program, that words stay below 2^64, that sessions settle and each simulated run
+//! reaches its one end, and that the room for jobs suffices.
 #![tactic(auto)]
 
 mod client;
@@ -17,6 +17,7 @@ mod laws_left;
 mod laws_opening;
 mod laws_room;
 mod laws_steps;
+mod laws_words;
 mod scan;
 mod session;
 mod txn;
@@ -30,6 +31,7 @@ pub use laws_left::{
 pub use laws_opening::{blank_law, opening_law};
 pub use laws_room::{events_within, room_suffices};
 pub use laws_steps::step_law;
+pub use laws_words::words_law;
 pub use scan::{ScanAnswer, ScanPlace};
 pub use session::{DriverPlace, DriverState, Job, SessionState};
 pub use txn::{CommitPlace, Record, TxnAnswer, TxnCall, TxnPlace, TxnState};

@@ -1,0 +1,146 @@
+-- Words below 2^64: what is asked of a client, and what it holds that it may still write.
+use Rattle.std.specs.List.{AllByRecursion}
+use Rattle.std.specs.Prelude.{List, None, Option, Some, ℕ, ◌<◌, ◌≤◌}
+use Rattle.si_model.specs.declared.op.Op.TheVariants.{Get, Put, Add, Del, Need, Guard, Scan}
+use Rattle.si_model.specs.declared.op.Op.{Op}
+use Rattle.si_model.specs.declared.row.Item.{Item}
+use Rattle.si_model.specs.Evaluation.{changed, field_of}
+use Rattle.nam_verbs.specs.declared.now.Now.TheVariants.{At}
+use Rattle.nam_verbs.specs.declared.now.Now.{Now}
+use Rattle.nam_catalog.specs.declared.form.Form.{Form}
+use Rattle.nam_catalog.specs.declared.shape.Shape.{Shape}
+use Rattle.nam_catalog.specs.Greatest.{greatest_number}
+use Rattle.nam_calls.specs.Holds.{AreWords, CollectHolds, HasWords, HoldsNow, LockHolds, MoveHolds, ReadHolds}
+use Rattle.nam_calls.specs.Holds.{IsWord}
+use Rattle.nam_calls.specs.Holds.{SnapHolds}
+use Rattle.nam_calls.specs.Words.{key_word}
+use Rattle.nam_protocol.specs.declared.client.Answer.{Answer}
+use Rattle.nam_protocol.specs.declared.client.Call.{Call}
+use Rattle.nam_protocol.specs.declared.client.CallPlace.TheVariants.{Collecting, InTxn, Moving, Snapping}
+use Rattle.nam_protocol.specs.declared.client.CallPlace.{CallPlace}
+use Rattle.nam_protocol.specs.declared.client.ClientState.{ClientState}
+use Rattle.nam_protocol.specs.declared.client.Open.{Open}
+use Rattle.nam_protocol.specs.declared.session.Job.{Job}
+use Rattle.nam_protocol.specs.declared.session.SessionState.{SessionState}
+use Rattle.nam_protocol.specs.declared.txn.CommitPlace.TheVariants.{Copying, Locking, Saving}
+use Rattle.nam_protocol.specs.declared.txn.CommitPlace.{CommitPlace}
+use Rattle.nam_protocol.specs.declared.txn.TxnAnswer.TheVariants.{Committed}
+use Rattle.nam_protocol.specs.declared.txn.TxnAnswer.{TxnAnswer}
+use Rattle.nam_protocol.specs.declared.txn.TxnCall.{TxnCall}
+use Rattle.nam_protocol.specs.declared.txn.TxnPlace.TheVariants.{Finding, Reading, Claiming, Committing}
+use Rattle.nam_protocol.specs.declared.txn.TxnPlace.{TxnPlace}
+use Rattle.nam_protocol.specs.declared.txn.TxnState.{TxnState}
+use Rattle.nam_protocol.specs.Driver.{call_of}
+use Rattle.nam_protocol.specs.Operations.{value_in}
+use Rattle.nam_protocol.specs.Txn.{Stepped}
+use Rattle.nam_protocol.specs.World.{World}
+use Rattle.nam_protocol.specs.declared.client.Call.TheVariants as call
+use Rattle.nam_protocol.specs.declared.txn.TxnCall.TheVariants as txn_call
+
+-- 1. What is asked: each value's words, and the word that a claimed position would bear
+
+-- an operation on one key
+abbrev pub OpHolds : Op → Type 0
+OpHolds (Get t k) = IsWord (key_word k)
+OpHolds (Put t k v) = IsWord (key_word k) × AreWords v
+OpHolds (Add t k f up by) = IsWord (key_word k)
+OpHolds (Del t k) = IsWord (key_word k)
+OpHolds (Need t k f least) = IsWord (key_word k)
+OpHolds (Guard t k) = IsWord (key_word k)
+OpHolds (Scan t low high) = ⊥
+
+abbrev pub TxnCallHolds : TxnCall → Type 0
+TxnCallHolds (txn_call.Get t k) = OpHolds (Get t k)
+TxnCallHolds (txn_call.Put t k v) = OpHolds (Put t k v)
+TxnCallHolds (txn_call.Add t k f up by) = OpHolds (Add t k f up by)
+TxnCallHolds (txn_call.Del t k) = OpHolds (Del t k)
+TxnCallHolds (txn_call.Need t k f least) = OpHolds (Need t k f least)
+TxnCallHolds (txn_call.Guard t k) = OpHolds (Guard t k)
+TxnCallHolds txn_call.Commit = Unit {0}
+
+-- no other call brings words with it
+abbrev pub CallHolds : Call → Type 0
+CallHolds (call.Txn asked) = TxnCallHolds asked
+CallHolds _ = Unit {0}
+
+-- 2. What a transaction has at hand
+
+abbrev pub ItemHolds : Item → Type 0
+ItemHolds item = HasWords item.value
+
+-- its last number is one of the form; the values that it writes, the one that it has read, and the headers of its locks
+pub record HandHolds (form : Form) (last : ℕ) (writes : List Item) (read : Option Item) (held : List ℕ) : Type 0 where
+  pub last_is : last ≤ greatest_number form
+  pub written : AllByRecursion ItemHolds writes
+  pub found : HasWords (value_in read)
+  pub headers : AreWords held
+
+-- the field that an addition leaves is a word
+abbrev pub ResultHolds : Op → Option (List ℕ) → Type 0
+ResultHolds (Add t k f up by) value = IsWord (changed up (field_of value f) by)
+ResultHolds _ value = Unit {0}
+
+abbrev pub CommitPlaceHolds : CommitPlace → Type 0
+CommitPlaceHolds (Locking at) = LockHolds at
+CommitPlaceHolds (Saving nth got) = AreWords got
+CommitPlaceHolds (Copying nth old at) = AreWords old
+CommitPlaceHolds _ = Unit {0}
+
+module _ (form : Form) where
+  abbrev pub StateHolds : TxnState → Type 0
+  StateHolds state = HandHolds form state.last state.writes state.read state.held
+
+  -- a commit has a number of the form to publish
+  abbrev pub TxnPlaceHolds : TxnState → TxnPlace → Type 0
+  TxnPlaceHolds state (Finding op passed) = OpHolds op
+  TxnPlaceHolds state (Reading op position at) = OpHolds op × ReadHolds at
+  TxnPlaceHolds state (Claiming op at) = OpHolds op × ResultHolds op (value_in state.read)
+  TxnPlaceHolds state (Committing at) = (state.last < greatest_number form) × CommitPlaceHolds at
+
+  abbrev pub TxnEndHolds : TxnAnswer → Type 0
+  TxnEndHolds (Committed number) = number ≤ greatest_number form
+  TxnEndHolds _ = Unit {0}
+
+  abbrev pub StepHolds : Stepped → Type 0
+  StepHolds step =
+      StateHolds step.state × HoldsNow (TxnPlaceHolds step.state) TxnEndHolds step.call
+
+  -- 3. A client
+
+  abbrev pub OpenHolds : Option Open → Type 0
+  OpenHolds None = Unit {0}
+  OpenHolds (Some attempt) = StateHolds attempt.state
+
+  abbrev pub OpenPlaceHolds : Option Open → TxnPlace → Type 0
+  OpenPlaceHolds None at = Unit {0}
+  OpenPlaceHolds (Some attempt) at = TxnPlaceHolds attempt.state at
+
+  -- a begin's snapshot and a scan's rows are not written
+  abbrev pub CallPlaceHolds : Option Open → CallPlace → Type 0
+  CallPlaceHolds opened (InTxn at) = OpenPlaceHolds opened at
+  CallPlaceHolds opened (Moving table key position at) = MoveHolds at
+  CallPlaceHolds opened (Snapping bucket at) = SnapHolds at
+  CallPlaceHolds opened (Collecting bucket prefix seen at) = AreWords seen × CollectHolds at
+  CallPlaceHolds opened _ = Unit {0}
+
+  abbrev pub RunHolds : Option Open → Option (Now CallPlace Answer) → Type 0
+  RunHolds opened (Some (At place)) = CallPlaceHolds opened place
+  RunHolds opened _ = Unit {0}
+
+-- all that a client may still write is below 2^64
+pub record HoldsWords (shape : Shape) (client : ClientState) : Type 0 where
+  pub last_is : client.last ≤ greatest_number shape.form
+  pub opened : OpenHolds shape.form client.txn
+  pub running : RunHolds shape.form client.txn client.call
+
+-- 4. A session and a world
+
+-- each operation of the job, as a call
+abbrev pub JobHolds : Job → Type 0
+JobHolds job = AllByRecursion (λ op. CallHolds (call_of op)) job.ops
+
+abbrev pub SessionHolds : Shape → SessionState → Type 0
+SessionHolds shape session = HoldsWords shape session.client × AllByRecursion JobHolds session.jobs
+
+abbrev pub WorldHolds : Shape → World → Type 0
+WorldHolds shape world = AreWords world.words × AllByRecursion (SessionHolds shape) world.sessions

@@ -1,0 +1,13 @@
+//! Words stay below 2^64.
+
+ghost use Rattle.nam_protocol.specs.WordsLaw.{ClientKeepsLaw, ClientWritesLaw, SessionKeepsLaw, WorldKeepsLaw};
+
+/// All that a client may still write is below 2^64: of a new client, after each call whose values and key are words,
+/// and after each found word below 2^64. Its verb writes such a word, or none. So it is with a session whose jobs bring
+/// words, and in a world all words stay below 2^64 with each turn of a worker whose client fits.
+pub fn words_law()
+    ensures client { ClientKeepsLaw }
+    ensures writes { ClientWritesLaw }
+    ensures session { SessionKeepsLaw }
+    ensures world { WorldKeepsLaw }
+{}

@@ -26,3 +26,16 @@ mod ConsistentSnapshotAgainExample
 mod CauseWithoutEffectExample
 mod OrderUnderGuardsExample
 mod NotRunsExample
+mod ChangedReports
+mod AgainTwiceExample
+mod OldBesideExample
+mod FullAfterMoveExample
+mod TidyingFailedExample
+mod StoppedHolderExample
+mod WorkedVariantsExample
+mod PartingSearch
+mod RefusedHistoryExample
+mod RefusedAnswersExample
+mod RefusedCausesExample
+mod RefusedPolicyExample
+mod RefusedAuditExample

@@ -1,0 +1,63 @@
+-- Worked rows in which an event has no cause are no runs.
+use Rattle.std.proofs.Common.{◌≡◌, ℕ, List, [], ◌∷◌, refl, ap, sym, arith, Some, inl, inr}
+use Rattle.std.specs.Prelude.{slice_index}
+use Rattle.std.proofs.lemmas.Bool.{false≢true}
+use Rattle.si_model.specs.declared.log.Outcome.TheVariants.{Commit, Locked, Newer, Full}
+use Rattle.si_model.specs.declared.log.MoveEnd.TheVariants.{Back}
+use Rattle.si_model.specs.declared.log.Event.TheVariants.{NoRoom, Moved, TailCut}
+use Rattle.si_model.specs.Run.{IsRun}
+use Rattle.si_model.proofs.ExampleWords.{item, lock, stamp, tried, moved, collected}
+use Rattle.si_model.proofs.ChangedReports.{in_log, event_at, read_at, with_events, with_locks}
+use Rattle.si_model.proofs.FirstCommitterWinsExample as first
+use Rattle.si_model.proofs.RingIsFullExample as full
+use Rattle.si_model.proofs.ReaderTooOldExample as old
+use Rattle.si_model.proofs.TransferExample as transfer
+
+-- ---- locked, newer and full
+
+-- the lock that it met is listed by its own earlier attempt alone
+own_lock_met : IsRun full.setting (in_log 1 (λ l. with_locks (lock 0 0 0 0 ∷ lock 0 0 1 1 ∷ [])
+    (event_at 3 (tried 3 1 (Some 1) 1 0 (Locked (lock 0 0 1 1))) l)) full.report) → ⊥
+own_lock_met run = false≢true run.workers.0.causes.1.1.0.0
+
+-- the version is in the prefix
+newer_in_prefix : IsRun first.setting (in_log 2 (λ l. read_at 1 (item 0 0 105)
+    (event_at 1 (tried 2 1 (Some 1) 1 0 (Newer (lock 0 0 1 1))) l)) first.report) → ⊥
+newer_in_prefix run = false≢true (sym run.workers.1.0.causes.0.1)
+
+-- no version stands after this one yet
+full_of_current : IsRun full.setting (in_log 1 (event_at 2 (tried 2 1 (Some 1) 1 1 (Full (lock 0 0 1 1)))) full.report)
+    → ⊥
+full_of_current run = omega (arith, run.workers.0.causes.1.0.1)
+
+-- ---- tidying
+
+-- no prefix has these entries
+collect_of_no_prefix : IsRun old.setting (in_log 1 (event_at 5 (collected 0 2 (2 ∷ 1 ∷ []))) old.report) → ⊥
+collect_of_no_prefix run = omega (arith, ap (λ (ns : List ℕ). slice_index ns 1) run.workers.0.causes.1.1.1.1.0)
+
+-- the version was moved by the worker itself before, and by nobody else
+own_move_met : IsRun old.setting (in_log 1 (event_at 6 (Moved 0 0 0 (stamp 0 0) Back)) old.report) → ⊥
+own_move_met run = false≢true (run.workers.0.causes.1.1.1.1.1.0.2 refl)
+
+-- nothing was moved
+no_room_at_first : IsRun old.setting (in_log 1 (with_events (tried 1 1 (Some 0) 1 1 (Commit 1)
+    ∷ tried 2 1 (Some 1) 1 1 (Commit 2) ∷ NoRoom 0 ∷ collected 0 2 (2 ∷ 0 ∷ []) ∷ moved 0 0 0 1 1 ∷ [])) old.report) → ⊥
+no_room_at_first run = elim run.workers.0.causes.1.1.0 [
+  | inl filled ↦ omega (arith, filled)
+  | inr used ↦ omega (arith, used)
+]
+
+-- what was moved is within the worker's own collect
+no_room_after_collect : IsRun old.setting (in_log 1 (event_at 6 (NoRoom 0)) old.report) → ⊥
+no_room_after_collect run = elim run.workers.0.causes.1.1.1.1.1.0 [
+  | inl filled ↦ omega (arith, filled)
+  | inr used ↦ omega (arith, used)
+]
+
+-- ---- stops
+
+-- nothing is left to be done after a commit that guards nothing
+tail_cut_without_guards : IsRun transfer.setting (in_log 1 (with_events (tried 1 1 (Some 0) 3 2 (Commit 1) ∷ TailCut
+    ∷ [])) transfer.report) → ⊥
+tail_cut_without_guards run = false≢true run.workers.0.causes.1.0

@@ -27,6 +27,7 @@ mod CauseWithoutEffectExample
 mod OrderUnderGuardsExample
 mod NotRunsExample
 mod ChangedReports
+mod PlaceSearch
 mod AgainTwiceExample
 mod OldBesideExample
 mod FullAfterMoveExample

@@ -5,6 +5,9 @@ use Rattle.si_model.specs.Run.{IsRun}
 use Rattle.si_model.proofs.ExampleWords.{audited, marked}
 use Rattle.si_model.proofs.TransferExample as transfer
 use Rattle.si_model.proofs.MedicVerbByVerbExample as medic
+use Rattle.si_model.proofs.GuardForbidsSkewExample as skew
+use Rattle.si_model.proofs.StoppedHolderExample as holder
+use Rattle.si_model.proofs.WorkedVariantsExample as variants
 
 -- a key stands there twice
 key_twice : IsRun transfer.setting (record transfer.report {
@@ -21,3 +24,11 @@ absent_unmarked run = false≢true (run.audit.lines.1.1.0.absent refl)
 -- the commit was rolled on, and its lock stays
 mark_after_roll : IsRun medic.setting (record medic.report { audit = marked 0 0 1 ∷ audited 0 1 1 ∷ [] }) → ⊥
 mark_after_roll run = false≢true (run.audit.lines.0.locked refl)
+
+-- the stopped worker's lock was given back, and stays
+mark_after_undo : IsRun holder.held_setting (record holder.finished { audit = marked 0 0 0 ∷ audited 0 1 0 ∷ [] }) → ⊥
+mark_after_undo run = false≢true (run.audit.lines.0.locked refl)
+
+-- the key is written, and the lock that is left is the guard's
+mark_beside_guard : IsRun skew.setting (record variants.guard_left { audit = marked 0 0 0 ∷ marked 0 1 60 ∷ [] }) → ⊥
+mark_beside_guard run = false≢true (run.audit.lines.0.locked refl)

@@ -6,12 +6,16 @@ use Rattle.si_model.specs.declared.log.Outcome.TheVariants.{Commit, Locked, Newe
 use Rattle.si_model.specs.declared.log.MoveEnd.TheVariants.{Back}
 use Rattle.si_model.specs.declared.log.Event.TheVariants.{NoRoom, Moved, TailCut}
 use Rattle.si_model.specs.Run.{IsRun}
-use Rattle.si_model.proofs.ExampleWords.{item, lock, stamp, tried, moved, collected}
+use Rattle.si_model.proofs.ExampleWords.{item, lock, stamp, tried, moved, collected, entry}
 use Rattle.si_model.proofs.ChangedReports.{in_log, event_at, read_at, with_events, with_locks}
 use Rattle.si_model.proofs.FirstCommitterWinsExample as first
 use Rattle.si_model.proofs.RingIsFullExample as full
 use Rattle.si_model.proofs.ReaderTooOldExample as old
 use Rattle.si_model.proofs.TransferExample as transfer
+use Rattle.si_model.proofs.WorkedVariantsExample as variants
+use Rattle.si_model.proofs.StoppedHolderExample as holder
+use Rattle.si_model.proofs.FullAfterMoveExample as beside
+use Rattle.si_model.proofs.NumbersAreSpentExample as spent
 
 -- ---- locked, newer and full
 
@@ -29,6 +33,30 @@ newer_in_prefix run = false≢true (sym run.workers.1.0.causes.0.1)
 full_of_current : IsRun full.setting (in_log 1 (event_at 2 (tried 2 1 (Some 1) 1 1 (Full (lock 0 0 1 1)))) full.report)
     → ⊥
 full_of_current run = omega (arith, run.workers.0.causes.1.0.1)
+
+-- the lock was listed on a version that the prefix overwrites
+lock_of_overwritten : IsRun first.setting (in_log 2 (λ l. read_at 1 (item 0 0 105)
+    (event_at 1 (tried 2 1 (Some 1) 1 0 (Locked (lock 0 0 0 0))) l)) variants.lock_met) → ⊥
+lock_of_overwritten run = omega (arith, run.workers.1.0.causes.0.1 refl)
+
+-- a stopped worker had begun to write its next number, and no other
+number_after_stopped : IsRun holder.setting (holder.report (Newer (lock 0 0 1 2))) → ⊥
+number_after_stopped run = elim run.workers.1.0.causes.0.2 [
+  | inl written ↦ false≢true written
+  | inr unfinished ↦ omega (arith, unfinished.1)
+]
+
+-- the worker itself has moved the version
+full_of_moved : IsRun beside.setting (in_log 1 (event_at 3 (tried 3 1 (Some 2) 0 1 (Full (lock 0 0 0 0)))) beside.report)
+    → ⊥
+full_of_moved run = false≢true (sym run.workers.0.causes.1.1.0.2)
+
+-- numbers follow up to the greatest
+spent_early : IsRun (record spent.setting { start = 4294967293 }) (record (in_log 1 (event_at 1
+    (tried 1 1 (Some 0) 0 1 (Commit 4294967294))) spent.report) {
+  history = entry 1 4294967294 0 1 (item 0 0 2 ∷ []) ∷ [];
+}) → ⊥
+spent_early run = omega (arith, run.workers.0.causes.1.0)
 
 -- ---- tidying
 

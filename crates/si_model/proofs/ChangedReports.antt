@@ -25,9 +25,12 @@ read_at k i l = record l { reads = slice_set l.reads (k - 1) i }
 abbrev pub lock_at : ℕ → Lock → Log → Log
 lock_at k x l = record l { locks = slice_set l.locks (k - 1) x }
 
--- with other events, or other locks
+-- with other events, reads or locks
 abbrev pub with_events : List Event → Log → Log
 with_events es l = record l { events = es }
+
+abbrev pub with_reads : List Item → Log → Log
+with_reads is l = record l { reads = is }
 
 abbrev pub with_locks : List Lock → Log → Log
 with_locks ls l = record l { locks = ls }

@@ -1,8 +1,10 @@
 -- Worked rows with an audit that isn't of the final state, or with a mark that nobody left, are no runs.
 use Rattle.std.proofs.Common.{◌≡◌, ℕ, [], ◌∷◌, false, refl, None}
 use Rattle.std.proofs.lemmas.Bool.{false≢true}
+use Rattle.si_model.specs.declared.log.Outcome.TheVariants.{Locked}
+use Rattle.si_model.specs.Rows.{key_at}
 use Rattle.si_model.specs.Run.{IsRun}
-use Rattle.si_model.proofs.ExampleWords.{audited, marked}
+use Rattle.si_model.proofs.ExampleWords.{lock, audited, marked}
 use Rattle.si_model.proofs.TransferExample as transfer
 use Rattle.si_model.proofs.MedicVerbByVerbExample as medic
 use Rattle.si_model.proofs.GuardForbidsSkewExample as skew
@@ -32,3 +34,13 @@ mark_after_undo run = false≢true (run.audit.lines.0.locked refl)
 -- the key is written, and the lock that is left is the guard's
 mark_beside_guard : IsRun skew.setting (record variants.guard_left { audit = marked 0 0 0 ∷ marked 0 1 60 ∷ [] }) → ⊥
 mark_beside_guard run = false≢true (run.audit.lines.0.locked refl)
+
+-- the stopped worker hadn't locked this key
+mark_of_unlocked : IsRun holder.setting (record (holder.report (Locked (lock 0 0 0 0))) {
+  audit = marked 0 0 0 ∷ marked 0 1 0 ∷ [];
+}) → ⊥
+mark_of_unlocked run = false≢true (run.audit.lines.1.0.locked refl)
+
+-- a row is left out
+row_missing : IsRun transfer.setting (record transfer.report { audit = audited 0 0 90 ∷ [] }) → ⊥
+row_missing run = absurd (let held = run.audit.state.same (key_at 0 1) in cc)

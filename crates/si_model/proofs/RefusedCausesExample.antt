@@ -1,13 +1,14 @@
 -- Worked rows in which an event has no cause are no runs.
-use Rattle.std.proofs.Common.{◌≡◌, ℕ, List, [], ◌∷◌, refl, ap, sym, arith, Some, inl, inr}
+use Rattle.std.proofs.Common.{◌≡◌, ℕ, List, [], ◌∷◌, refl, ap, sym, arith, Some, None, inl, inr}
 use Rattle.std.specs.Prelude.{slice_index}
 use Rattle.std.proofs.lemmas.Bool.{false≢true}
-use Rattle.si_model.specs.declared.log.Outcome.TheVariants.{Commit, Locked, Newer, Full}
+use Rattle.si_model.specs.declared.log.Outcome.TheVariants.{Commit, Locked, Newer, Full, Again, TooOld}
+use Rattle.si_model.specs.declared.log.Finish.TheVariants.{RolledOn, Undone}
 use Rattle.si_model.specs.declared.log.MoveEnd.TheVariants.{Back}
-use Rattle.si_model.specs.declared.log.Event.TheVariants.{NoRoom, Moved, TailCut}
+use Rattle.si_model.specs.declared.log.Event.TheVariants.{NoRoom, Moved, CollectAgain, TailCut, Finished}
 use Rattle.si_model.specs.Run.{IsRun}
 use Rattle.si_model.proofs.ExampleWords.{item, lock, stamp, tried, moved, collected, entry}
-use Rattle.si_model.proofs.ChangedReports.{in_log, event_at, read_at, with_events, with_locks}
+use Rattle.si_model.proofs.ChangedReports.{in_log, event_at, read_at, with_events, with_reads, with_locks}
 use Rattle.si_model.proofs.FirstCommitterWinsExample as first
 use Rattle.si_model.proofs.RingIsFullExample as full
 use Rattle.si_model.proofs.ReaderTooOldExample as old
@@ -16,6 +17,9 @@ use Rattle.si_model.proofs.WorkedVariantsExample as variants
 use Rattle.si_model.proofs.StoppedHolderExample as holder
 use Rattle.si_model.proofs.FullAfterMoveExample as beside
 use Rattle.si_model.proofs.NumbersAreSpentExample as spent
+use Rattle.si_model.proofs.GuardForbidsSkewExample as skew
+use Rattle.si_model.proofs.TidyingFailedExample as failed
+use Rattle.si_model.proofs.MedicVerbByVerbExample as medic
 
 -- ---- locked, newer and full
 
@@ -58,6 +62,45 @@ spent_early : IsRun (record spent.setting { start = 4294967293 }) (record (in_lo
 }) → ⊥
 spent_early run = omega (arith, run.workers.0.causes.1.0)
 
+-- the other worker's lock is of another key, or of another version
+lock_of_other_key : IsRun holder.setting (in_log 2 (λ l. with_locks []
+    (event_at 1 (tried 2 1 (Some 0) 0 0 (Locked (lock 0 1 0 0))) l)) (holder.report (Locked (lock 0 0 0 0)))) → ⊥
+lock_of_other_key run = false≢true run.workers.1.0.causes.0.0
+
+lock_of_other_version : IsRun holder.setting (holder.report (Locked (lock 0 0 0 1))) → ⊥
+lock_of_other_version run = false≢true run.workers.1.0.causes.0.0
+
+-- the newer version is the worker's own, is one of a key that was guarded alone, or one of a key that the stopped worker
+-- hadn't locked
+newer_of_itself : IsRun first.setting (in_log 2 (event_at 1 (tried 2 1 (Some 0) 1 0 (Newer (lock 0 0 2 1)))) first.report)
+    → ⊥
+newer_of_itself run = run.workers.1.0.causes.0.0 refl
+
+newer_of_guarded : IsRun skew.setting (in_log 2 (λ l. with_locks []
+    (event_at 1 (tried 2 1 (Some 0) 4 0 (Newer (lock 0 1 1 1))) l)) skew.report) → ⊥
+newer_of_guarded run = elim run.workers.1.0.causes.0.2 [
+  | inl written ↦ false≢true written
+  | inr unfinished ↦ false≢true unfinished.0
+]
+
+newer_of_unlocked : IsRun holder.setting (in_log 2 (λ l. with_locks []
+    (event_at 1 (tried 2 1 (Some 0) 0 0 (Newer (lock 0 1 1 1))) l)) (holder.report (Newer (lock 0 0 1 1)))) → ⊥
+newer_of_unlocked run = elim run.workers.1.0.causes.0.2 [
+  | inl written ↦ false≢true written
+  | inr unfinished ↦ false≢true unfinished.0
+]
+
+-- ---- again and old
+
+-- nobody else published (what the worker knows refuses it too)
+again_by_itself : IsRun first.setting (in_log 2 (λ l. with_reads (item 0 0 105 ∷ [])
+    (event_at 1 (tried 2 1 None 0 0 (Again 2 0 1)) l)) first.report) → ⊥
+again_by_itself run = run.workers.1.0.causes.0.0 refl
+
+-- the prefix has another entry for the worker
+old_entry_changed : IsRun old.setting (in_log 2 (event_at 1 (tried 3 1 (Some 0) 0 0 (TooOld 1 1 2))) old.report) → ⊥
+old_entry_changed run = omega (arith, run.workers.1.0.causes.0.1)
+
 -- ---- tidying
 
 -- no prefix has these entries
@@ -83,9 +126,32 @@ no_room_after_collect run = elim run.workers.0.causes.1.1.1.1.1.0 [
   | inr used ↦ omega (arith, used)
 ]
 
+-- no such version was ever written
+move_of_no_version : IsRun old.setting (in_log 1 (event_at 2 (moved 0 0 0 1 7)) old.report) → ⊥
+move_of_no_version run = false≢true run.workers.0.causes.1.0.0
+
+-- a key's versions are moved into two buckets
+move_elsewhere : IsRun old.setting (in_log 1 (event_at 6 (moved 1 0 0 1 1)) old.report) → ⊥
+move_elsewhere run = false≢true run.workers.0.causes.1.0.1
+
+-- both passes of a collect found the same number
+same_number_collect : IsRun failed.setting (in_log 1 (event_at 3 (CollectAgain 0 2 1 1)) failed.report) → ⊥
+same_number_collect run = omega (arith, run.workers.0.causes.1.1.0.1)
+
 -- ---- stops
 
 -- nothing is left to be done after a commit that guards nothing
 tail_cut_without_guards : IsRun transfer.setting (in_log 1 (with_events (tried 1 1 (Some 0) 3 2 (Commit 1) ∷ TailCut
     ∷ [])) transfer.report) → ⊥
 tail_cut_without_guards run = false≢true run.workers.0.causes.1.0
+
+-- locks don't name their holder
+finished_unheld : IsRun holder.setting holder.finished → ⊥
+finished_unheld run = false≢true run.workers.0.causes.1.0.0
+
+-- a cut attempt is no commit that could be completed, and a commit none that could be given back
+cut_rolled_on : IsRun holder.held_setting (in_log 1 (event_at 2 (Finished RolledOn)) holder.finished) → ⊥
+cut_rolled_on run = false≢true run.workers.0.causes.1.0.1
+
+commit_undone : IsRun medic.setting (in_log 1 (event_at 2 (Finished Undone)) medic.report) → ⊥
+commit_undone run = false≢true run.workers.0.causes.1.0.1

@@ -27,6 +27,7 @@ mod CauseWithoutEffectExample
 mod OrderUnderGuardsExample
 mod NotRunsExample
 mod ChangedReports
+mod ReadsForwardExample
 mod PlaceSearch
 mod AgainTwiceExample
 mod OldBesideExample

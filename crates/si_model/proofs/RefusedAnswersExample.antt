@@ -11,7 +11,7 @@ use Rattle.si_model.specs.declared.log.Outcome.TheVariants.{Newer, Full, NoSpace
 use Rattle.si_model.specs.declared.evaluated.Evaluated.{Evaluated}
 use Rattle.si_model.specs.declared.evaluated.Evaluated.TheVariants.{Done, Declined}
 use Rattle.si_model.specs.Rows.{key_at, same_key, has_key, writes_key}
-use Rattle.si_model.specs.Answers.{LocksAll, LocksBefore}
+use Rattle.si_model.specs.Answers.{LocksAll, LocksBefore, LocksFront}
 use Rattle.si_model.specs.Run.{IsRun}
 use Rattle.si_model.proofs.ExampleWords.{item, lock, tried, log}
 use Rattle.si_model.proofs.ChangedReports.{in_log, event_at, read_at, lock_at, with_reads, with_locks, done_as}
@@ -159,6 +159,15 @@ cut_locking_while_reading : IsRun transfer.setting (in_log 1 (λ l. with_locks (
 cut_locking_while_reading run = elim run.workers.0.answers.0.0.1 [
   | inl none ↦ absurd cc
   | inr all ↦ absurd (let same = all.2 in cc)
+]
+
+-- the second key is locked before the first
+cut_out_of_order : IsRun transfer.setting (in_log 1 (lock_at 1 (lock 0 1 0 0)) variants.cut_locking) → ⊥
+cut_out_of_order run = elim run.workers.0.answers.0.0.1 [
+  | inl none ↦ absurd cc
+  | inr all ↦
+      let front = done_as (LocksFront (key_at 0 1 ∷ [])) all.2 all.3 in
+      false≢true (sym (ap (λ (ks : List Key). same_key (slice_index_or ks 0 (key_at 0 0)) (key_at 0 1)) front.1.1))
 ]
 
 -- no caller leaves an attempt of a script

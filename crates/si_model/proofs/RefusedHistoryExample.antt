@@ -8,13 +8,15 @@ use Rattle.si_model.specs.declared.log.Outcome.TheVariants.{Commit, ReadOnly, Ag
 use Rattle.si_model.specs.History.{keys_of, none_writes}
 use Rattle.si_model.specs.Run.{IsRun}
 use Rattle.si_model.proofs.ExampleWords.{item, lock, tried, entry, log, audited}
-use Rattle.si_model.proofs.ChangedReports.{in_log, event_at, with_locks, done_as, same_number}
+use Rattle.si_model.proofs.ChangedReports.{in_log, event_at, read_at, with_locks, done_as, same_number}
 use Rattle.si_model.proofs.FirstCommitterWinsExample as first
 use Rattle.si_model.proofs.SnapshotAgainExample as again
 use Rattle.si_model.proofs.AgainTwiceExample as twice
 use Rattle.si_model.proofs.GuardForbidsSkewExample as skew
 use Rattle.si_model.proofs.NumbersAreSpentExample as spent
 use Rattle.si_model.proofs.ReaderTooOldExample as old
+use Rattle.si_model.proofs.ReadsForwardExample as forward
+use Rattle.si_model.proofs.WorkedVariantsExample as variants
 
 -- ---- numbers and prefixes
 
@@ -98,3 +100,13 @@ own_commit_unseen run = omega (arith, run.workers.0.sees.1.0.0.1.0)
 -- there is no worker 0
 old_of_nobody : IsRun old.setting (in_log 2 (event_at 1 (tried 3 1 (Some 0) 0 0 (TooOld 0 0 2))) old.report) → ⊥
 old_of_nobody run = omega (arith, run.workers.1.0.sees.0.1.0)
+
+-- the first read was after the other's commit, and the second before
+reads_backward : IsRun forward.setting (in_log 1 (λ l. log (tried 1 1 (Some 1) 1 0 ReadOnly
+    ∷ tried 2 1 (Some 0) 1 0 ReadOnly ∷ []) (item 0 0 101 ∷ item 0 0 100 ∷ []) []) forward.report) → ⊥
+reads_backward run = omega (arith, run.workers.0.sees.1.0.0.1.1.0)
+
+-- the second try begins below the horizon that the first was told
+horizon_forgotten : IsRun variants.two_tries (in_log 2 (λ l. read_at 1 (item 0 0 6)
+    (event_at 2 (tried 3 2 (Some 1) 1 0 ReadOnly) l)) variants.old_then_read) → ⊥
+horizon_forgotten run = omega (arith, run.workers.1.0.sees.1.0.0.1.0)

@@ -1,6 +1,6 @@
 -- The operation that an attempt stopped at is looked for among all, so that an attempt that has none is seen by computing.
 use Rattle.std.proofs.Common.{◌≡◌, ℕ, zero, suc, Bool, true, false, List, [], ◌∷◌, ◌++◌, refl, ap, sym, subst}
-use Rattle.std.proofs.Common.{Option, Some, None, take, arith, append-nil}
+use Rattle.std.proofs.Common.{Option, Some, None, take, length, arith, append-nil}
 use Rattle.std.specs.Prelude.{◌==◌, ◌&&◌, ◌||◌, not, IsTrue}
 use Rattle.std.specs.List.{AllByRecursion}
 use Rattle.std.proofs.lemmas.Bool.Decides.{nat_tests}
@@ -14,7 +14,7 @@ use Rattle.si_model.specs.declared.log.Event.{Event}
 use Rattle.si_model.specs.declared.log.Event.TheVariants.{Tried}
 use Rattle.si_model.specs.declared.evaluated.Evaluated.{Evaluated}
 use Rattle.si_model.specs.Lists.{StandsAt}
-use Rattle.si_model.specs.Evaluation.{key_claimed, ops_claim}
+use Rattle.si_model.specs.Evaluation.{key_claimed, ops_claim, reads_from}
 use Rattle.si_model.specs.Tells.{Tell}
 use Rattle.si_model.specs.View.{View}
 use Rattle.si_model.specs.Setting.{Setting, Asked, by_script, is_crowded}
@@ -60,10 +60,15 @@ room_lacked s asked table before op (key, (claimed, same, new), crowded) =
     let here : (key.table == table) ≡ true = grind (arith, nat_tests) in
     subst (λ found. room_lacking s asked table before found ≡ true) (sym claimed) (rw (here, new) crowded)
 
+-- may the operation have been too old, so that as many reads are listed as those before it give
+abbrev pub too_old_at : Setting → View → Tell → List Op → Op → Bool
+too_old_at s v t before op =
+    reads_overtaken v t before op && (length t.reads == length (reads_from s.widths (v.value t) [] before))
+
 module _ (s : Setting) (v : View) (t : Tell) where
   abbrev pub outcome_placed : Outcome → Bool
   outcome_placed (NoSpace table) = any_place (lacks_room s (by_script s) table) [] t.ops
-  outcome_placed (TooOld i entry horizon) = any_place (reads_overtaken v t) [] t.ops
+  outcome_placed (TooOld i entry horizon) = any_place (too_old_at s v t) [] t.ops
   outcome_placed outcome = true
 
   -- where an attempt had no position, or was too old: is there an operation that this can be said of
@@ -77,7 +82,10 @@ outcome_places s v j t a e p (NoSpace table) (k, op, stands, lacks, reads, none)
     placed (lacks_room s (by_script s) table) [] k op t.ops stands
     (room_lacked s (by_script s) table (take k t.ops) op lacks)
 outcome_places s v j t a e p (TooOld i entry horizon) (k, op, stands, overtaken, reads, none) =
-    placed (reads_overtaken v t) [] k op t.ops stands overtaken
+    let many : length t.reads ≡ length (reads_from s.widths (v.value t) [] (take k t.ops)) = ap length reads.1 in
+    let same : (length t.reads == length (reads_from s.widths (v.value t) [] (take k t.ops))) ≡ true =
+        grind (arith, nat_tests) in
+    placed (too_old_at s v t) [] k op t.ops stands (rw (overtaken, same) refl)
 outcome_places s v j t a e p outcome h = refl
 
 untaken_places : (s : Setting) (v : View) (t : Tell) (o : Outcome) → AnswersWithout t o → outcome_placed s v t o ≡ true

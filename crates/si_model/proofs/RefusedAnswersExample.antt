@@ -149,6 +149,15 @@ space_with_lock : IsRun space.setting (in_log 1 (λ l. with_locks (lock 0 0 0 0 
     (event_at 1 (tried 1 1 (Some 0) 1 1 (NoSpace 0)) l)) space.report) → ⊥
 space_with_lock run = absurd (let none = run.workers.0.answers.0.0.5 in cc)
 
+-- the read before isn't listed, and one too many is
+space_without_read : IsRun space.setting (in_log 1 (λ l. log (tried 1 1 (Some 0) 0 0 (NoSpace 0) ∷ []) [] []) space.report)
+    → ⊥
+space_without_read run = absurd (let none = run.workers.0.answers.0.0.4.1 in cc)
+
+old_with_read : IsRun (old.setting (Get 0 1)) (in_log 2 (λ l. with_reads (item 0 1 6 ∷ [])
+    (event_at 1 (tried 3 1 (Some 1) 1 0 (TooOld 1 1 2)) l)) old.report) → ⊥
+old_with_read run = false≢true (places_may run.workers.1.0).0
+
 old_with_lock : IsRun (old.setting (Get 0 1)) (in_log 2 (λ l. with_locks (lock 0 0 1 1 ∷ [])
     (event_at 1 (tried 3 1 (Some 1) 0 1 (TooOld 1 1 2)) l)) old.report) → ⊥
 old_with_lock run = absurd (let none = run.workers.1.0.answers.0.0.5 in cc)

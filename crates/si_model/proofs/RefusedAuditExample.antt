@@ -17,6 +17,10 @@ key_twice : IsRun transfer.setting (record transfer.report {
 }) → ⊥
 key_twice run = false≢true run.audit.state.ordered.0.0
 
+-- the rows are exchanged
+rows_exchanged : IsRun transfer.setting (record transfer.report { audit = audited 0 1 10 ∷ audited 0 0 90 ∷ [] }) → ⊥
+rows_exchanged run = false≢true run.audit.state.ordered.0.0
+
 -- an absent row stands there without a mark
 absent_unmarked : IsRun transfer.setting (record transfer.report {
   audit = audited 0 0 90 ∷ audited 0 1 10 ∷ record { table = 0; key = 2; value = None; locked = false } ∷ [];

@@ -57,6 +57,14 @@ tidied_out_of_order : IsRun failed.setting (in_log 2 (with_events (tried 3 1 (So
     ∷ moved 1 0 1 0 0 ∷ [])) failed.report) → ⊥
 tidied_out_of_order run = false≢true (follows_may 9 run.workers.1.0.follows)
 
+-- a key is moved twice, or one that the commit doesn't write
+moved_twice : IsRun failed.setting (in_log 2 (with_events (tried 3 1 (Some 0) 0 2 (Commit 1) ∷ moved 1 0 1 0 0
+    ∷ moved 1 0 1 0 0 ∷ moved 0 0 2 0 0 ∷ [])) failed.report) → ⊥
+moved_twice run = false≢true (follows_may 9 run.workers.1.0.follows)
+
+other_key_moved : IsRun failed.setting (in_log 2 (event_at 3 (moved 0 0 0 0 0)) failed.report) → ⊥
+other_key_moved run = false≢true (follows_may 9 run.workers.1.0.follows)
+
 -- no collect stands between the two norooms, or one of another bucket; or the second is of another bucket
 collect_left_out : IsRun failed.setting (in_log 1 (with_events
     (

@@ -24,7 +24,7 @@ report = record {
   audit = audited 0 0 112 ∷ [];
 }
 
-run : IsRun setting report
+pub run : IsRun setting report
 run = record {
   one_log_each = refl;
   legal = (

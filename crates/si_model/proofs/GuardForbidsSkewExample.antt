@@ -32,7 +32,7 @@ report = record {
   audit = audited 0 0 0 ∷ audited 0 1 60 ∷ [];
 }
 
-run : IsRun setting report
+pub run : IsRun setting report
 run = record {
   one_log_each = refl;
   legal = (

@@ -36,7 +36,7 @@ report = record {
   audit = audited 0 0 7 ∷ [];
 }
 
-run : IsRun setting report
+pub run : IsRun setting report
 run = record {
   one_log_each = refl;
   legal = (

@@ -21,7 +21,7 @@ report = record {
   audit = audited 0 0 90 ∷ audited 0 1 10 ∷ [];
 }
 
-run : IsRun setting report
+pub run : IsRun setting report
 run = record {
   one_log_each = refl;
   legal = (

@@ -17,6 +17,7 @@ use Rattle.nam_catalog.specs.declared.shape.Table.{Table}
 use Rattle.nam_catalog.specs.Tables.{name_of, first_named, widths_of, capacities_of}
 use Rattle.nam_catalog.specs.Words.{tables_words, table_words, cell_words, intent_words}
 use Rattle.nam_catalog.specs.Fits.{FitsTable, FitsLimits}
+use Rattle.nam_text.specs.Token.{is_name}
 use Rattle.nam_text.proofs.Takes.{if_then}
 use Rattle.nam_script.specs.declared.refusal.Kind.{Kind}
 use Rattle.nam_script.specs.declared.checks.Found.{Found}
@@ -166,7 +167,7 @@ finds ts first t lt =
     (sym is.width ∙ ap (slice_index (widths_of ts)) at) (sym is.capacity ∙ ap (slice_index (capacities_of ts)) at))
 
 pub name_at : (ts : List Table) (t : ℕ) → AllByRecursion IsNamed ts → t < length ts
-    → IsNamed (record { name = name_of ts t; width = 0; capacity = 0; ring = 0 })
+    → is_name (name_of ts t) ≡ true
 name_at [] t named lt = absurd (omega arith)
 name_at (u ∷ ts) zero named lt = named.0
 name_at (u ∷ ts) (suc t) named lt = name_at ts t named.1 (omega arith)

@@ -24,3 +24,4 @@ pub mod Whole
 pub mod BankLemmas
 pub mod BankLimits
 pub mod GroupingLemmas
+pub mod Printed

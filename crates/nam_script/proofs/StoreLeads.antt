@@ -42,7 +42,7 @@ use Rattle.nam_script.specs.Checks.{within, small, all_small, key_of, all_stints
 use Rattle.nam_script.specs.Checks.{total_within, steps_of, op_cost, ops_cost, txns_cost, keys_after}
 use Rattle.nam_script.specs.Admit.{no_body, start, is_held, with_table, push_op, admit}
 use Rattle.nam_script.specs.Parse.{whole_script, turns_of, script_of, Gives}
-use Rattle.nam_script.specs.Limits.{IsNamed, Fits64Bits, IsKey, OpNumbersFit, TxnFits, StintFits, TurnsFit, IsScript}
+use Rattle.nam_script.specs.Limits.{IsNamed, AreDistinct, Fits64Bits, IsKey, OpNumbersFit, TxnFits, StintFits, TurnsFit, IsScript}
 use Rattle.nam_script.specs.Spelling.{IsGood, somes, spelt, setting_lines, table_line, row_line, op_line, txn_lines}
 use Rattle.nam_script.specs.Spelling.{turns_line, line_text, text_of}
 use Rattle.nam_script.specs.Text.{settings_text, table_text, row_text, txn_text, group_text, IsSpelt}
@@ -145,7 +145,7 @@ row_leads s is before r rest all =
     let limits = fits_limits s.shape is.shape in
     let fits = all_at _ before r rest (subst (AllByRecursion _) (sym all) is.rows.fit) in
     let numbers = all_at _ before r rest (subst (AllByRecursion _) (sym all) is.rows.numbers) in
-    let distinct = subst _ (sym all) is.rows.distinct in
+    let distinct = subst AreDistinct (sym all) is.rows.distinct in
     let lt = place_below ts r.table fits.0.0 in
     let room = row_has_room before r rest (slice_index (capacities_of ts) r.table)
     (subst (λ (rs : List Row). rows_in rs r.table ≤ slice_index (capacities_of ts) r.table) (sym all)

@@ -1,7 +1,8 @@
 -- Each kind of line, admitted.
-use Rattle.std.proofs.Common.{◌≡◌, ℕ, ◌-◌, ◌^◌, ◌<◌, ◌≤◌, Bool, true, eqb, ltb, leb, not, List, [], ◌∷◌, ◌++◌, length}
+use Rattle.std.proofs.Common.{◌≡◌, ℕ, zero, suc, ◌-◌, ◌^◌, ◌<◌, ◌≤◌, Bool, true, eqb, ltb, leb, not, List, [], ◌∷◌, ◌++◌, length}
 use Rattle.std.proofs.Common.{Option, Some, None, Ok, refl, sym, ap, ◌∙◌, subst, arith}
 use Rattle.std.specs.Prelude.{is_some, is_ok, slice_index}
+use Rattle.std.specs.List.{AllByRecursion}
 use Rattle.std.proofs.lemmas.Bool.{leb-true, ltb-true, eqb-true}
 use Rattle.std.proofs.lemmas.List.{length-map}
 use Rattle.si_model.specs.declared.row.Row.{Row}
@@ -21,8 +22,9 @@ use Rattle.nam_script.specs.Stages.{is_at, takes_table, takes_row, is_loaded, ta
 use Rattle.nam_script.specs.Checks.{within, small, all_small, key_of, all_stints, place_of, is_given, rows_in}
 use Rattle.nam_script.specs.Checks.{total_within, steps_of}
 use Rattle.nam_script.specs.Admit.{is_held, with_table, admit}
-use Rattle.nam_script.specs.Limits.{RowsFit, RowFits, IsKey}
-use Rattle.nam_script.specs.Lines.{spelt_line}
+use Rattle.nam_text.specs.Spelling.{FitsWord, IsWord}
+use Rattle.nam_script.specs.Limits.{Fits64Bits, RowsFit, RowFits, RowNumbersFit}
+use Rattle.nam_script.specs.Lines.{FitsChange, spelt_line}
 use Rattle.nam_script.specs.Spelling.{IsGood, LineIsSmall, somes, spelt}
 use Rattle.nam_script.proofs.Chains.{ok_then, must_then, same_Ok, within_fits, total_is, all_small_is, all_stints_are}
 use Rattle.nam_script.proofs.Chains.{found_is, at_is}
@@ -30,6 +32,21 @@ use Rattle.nam_script.proofs.Kept.{InOrder, before_row, all_more, distinct_more,
 use Rattle.nam_script.proofs.Steps.{Stands, Follows, setting_follows, not_true, none_some, table_follows, row_follows}
 use Rattle.nam_script.proofs.Steps.{txn_follows, all_somes, all_spelt, table_is, pushes, end_follows, turns_follow}
 use Rattle.nam_script.proofs.Steps.{seed_follows}
+
+-- where its numbers are small, the line is spelt right
+abbrev IsGoodIfSmall : Line → Type 0
+IsGoodIfSmall l = LineIsSmall l → IsGood l
+
+is_word : (o : Option ℕ) (n : ℕ) → o ≡ Some n → IsWord o
+is_word o n is = subst IsWord (sym is) tt
+
+fit_bits : (ms : List ℕ) → AllByRecursion FitsWord (somes ms) → AllByRecursion Fits64Bits ms
+fit_bits [] h = tt
+fit_bits (m ∷ ms) h = (h.0, fit_bits ms h.1)
+
+not_zero : (n : ℕ) → (◌≡◌ {A = Option ℕ} (Some n) (Some 0) → ⊥) → 1 ≤ n
+not_zero zero h = absurd (h refl)
+not_zero (suc n) h = omega arith
 
 version_line : (d e : Draft) → Stands d → admit d line.Version ≡ Ok e → Follows d line.Version e
 unfolding admit spelt_line
@@ -133,32 +150,35 @@ overflow_line d e buckets cells s given =
     ts b. (ts, b)) (tt, tt)))))))
 
 table_line : (d e : Draft) (name : List ℕ) (width capacity ring : Option ℕ) → Stands d
-    → admit d (line.Table name width capacity ring) ≡ Ok e → Follows d (line.Table name width capacity ring) e
+    → IsGoodIfSmall (line.Table name width capacity ring) → admit d (line.Table name width capacity ring) ≡ Ok e
+    → Follows d (line.Table name width capacity ring) e
 unfolding admit spelt_line
-table_line d e name width capacity ring s given =
+table_line d e name width capacity ring s good given =
     must_then (takes_table d.stage) kind.Word _ e given (λ t e1.
     must_then (not (is_ok (place_of d.shape.tables name))) kind.Name _ e e1 (λ _ e2.
-    ok_then (within 1 8 width) _ e e2 (λ w ew e3.
-    ok_then (within 1 4096 capacity) _ e e3 (λ k ek e4.
-    ok_then (within 1 16 ring) _ e e4 (λ r er e5.
+    ok_then (within 1 _ width) _ e e2 (λ w ew e3.
+    ok_then (within 1 _ capacity) _ e e3 (λ k ek e4.
+    ok_then (within 1 _ ring) _ e e4 (λ r er e5.
     must_then (ltb (length d.shape.tables) 8) kind.Size _ e e5 (λ few e6.
     must_then
     (not (is_some (fault_of (with_table d.shape (record { name = name; width = w; capacity = k; ring = r })))))
-    kind.Size _ e e6 (λ good e7.
-    let fw = within_fits 1 8 width w ew in
-    let fk = within_fits 1 4096 capacity k ek in
-    let fr = within_fits 1 16 ring r er in
+    kind.Size _ e e6 (λ fits e7.
+    let fw = within_fits 1 _ width w ew in
+    let fk = within_fits 1 _ capacity k ek in
+    let fr = within_fits 1 _ ring r er in
+    let small : LineIsSmall (line.Table name width capacity ring) = (tt, (is_word width w fw.is, (is_word capacity k fk.is, is_word ring r fr.is))) in
     let made = table_follows d e (record { name = name; width = w; capacity = k; ring = r })
-    (line.Table name (Some w) (Some k) (Some r)) s t (ltb-true _ _ few) (none_some _ good) (sym (same_Ok _ _ e7))
-    refl (tt, (tt, (tt, tt))) in
+    (line.Table name (Some w) (Some k) (Some r)) s t (ltb-true _ _ few) (none_some _ fits) (good small).0
+    (sym (same_Ok _ _ e7)) refl (tt, (tt, (tt, tt))) in
     subst (λ (x : Option ℕ). Follows d (line.Table name x capacity ring) e) (sym fw.is)
     (subst (λ (x : Option ℕ). Follows d (line.Table name (Some w) x ring) e) (sym fk.is)
     (subst (λ (x : Option ℕ). Follows d (line.Table name (Some w) (Some k) x) e) (sym fr.is) made)))))))))
 
 row_line : (d e : Draft) (table : List ℕ) (key : Option ℕ) (values : List (Option ℕ)) → Stands d
-    → admit d (line.Row table key values) ≡ Ok e → Follows d (line.Row table key values) e
+    → IsGoodIfSmall (line.Row table key values) → admit d (line.Row table key values) ≡ Ok e
+    → Follows d (line.Row table key values) e
 unfolding admit spelt_line
-row_line d e table key values s given =
+row_line d e table key values s good given =
     must_then (takes_row d.stage) kind.Word _ e given (λ t e1.
     ok_then (place_of d.shape.tables table) _ e e1 (λ f ef e2.
     ok_then (key_of key) _ e e2 (λ k ek e3.
@@ -170,6 +190,8 @@ row_line d e table key values s given =
     let at = found_is d.shape.tables table f ef in
     let fk = within_fits 0 (2 ^ 64 - 2) key k ek in
     let iv = all_small_is values vs ev in
+    let small : LineIsSmall (line.Row table key values) = (tt, (is_word key k fk.is, subst (AllByRecursion IsWord) (sym iv) (all_somes vs))) in
+    let words = fit_bits vs (subst (AllByRecursion FitsWord) iv (good small).1.1.0) in
     let r : Row = record { table = f.table; key = k; value = vs } in
     let old = s.kept.rows in
     let caps = capacities_of d.shape.tables in
@@ -178,7 +200,7 @@ row_line d e table key values s given =
     let fit : RowsFit d.shape.tables (d.body.rows ++ r ∷ []) = record {
       fit = all_more (RowFits (widths_of d.shape.tables)) d.body.rows r old.fit
           (table_is d.shape table f b.shape at, eqb-true _ _ wide ∙ sym at.width);
-      keys = all_more (λ q. IsKey q.key) d.body.rows r old.keys fk.most;
+      numbers = all_more RowNumbersFit d.body.rows r old.numbers (fk.most, words);
       distinct = distinct_more d.body.rows r old.distinct (not_true _ new);
       loaded = λ u lt. subst (λ (n : ℕ). n ≤ slice_index caps u) (sym (rows_in_more d.body.rows r u))
           (loaded_at (eqb f.table u) (rows_in d.body.rows u) (slice_index caps u)
@@ -247,9 +269,10 @@ guard_line d e table key s given =
     (ap (λ (x : List ℕ). line.Guard x (Some k)) at.named ∙ ap (λ (x : Option ℕ). line.Guard table x) (sym fk.is)))))
 
 put_line : (d e : Draft) (table : List ℕ) (key : Option ℕ) (values : List (Option ℕ)) → Stands d
-    → admit d (line.Put table key values) ≡ Ok e → Follows d (line.Put table key values) e
-unfolding admit
-put_line d e table key values s given =
+    → IsGoodIfSmall (line.Put table key values) → admit d (line.Put table key values) ≡ Ok e
+    → Follows d (line.Put table key values) e
+unfolding admit spelt_line
+put_line d e table key values s good given =
     must_then (is_at d.stage stage.Open) kind.Word _ e given (λ t e1.
     ok_then (place_of d.shape.tables table) _ e e1 (λ f ef e2.
     ok_then (key_of key) _ e e2 (λ k ek e3.
@@ -258,15 +281,18 @@ put_line d e table key values s given =
     let at = found_is d.shape.tables table f ef in
     let fk = within_fits 0 (2 ^ 64 - 2) key k ek in
     let iv = all_small_is values vs ev in
+    let small : LineIsSmall (line.Put table key values) = (tt, (is_word key k fk.is, subst (AllByRecursion IsWord) (sym iv) (all_somes vs))) in
+    let words = fit_bits vs (subst (AllByRecursion FitsWord) iv (good small).1.1.0) in
     pushes d (op.Put f.table k vs) 1 e (line.Put table key values) s t e5
-    (table_is d.shape table f (open_shape d s t) at, eqb-true _ _ wide ∙ sym at.width) fk.most refl
+    (table_is d.shape table f (open_shape d s t) at, eqb-true _ _ wide ∙ sym at.width) (fk.most, words) refl
     (ap (λ (x : List ℕ). line.Put x (Some k) (somes vs)) at.named ∙ ap (λ (x : Option ℕ). line.Put table x (somes vs))
     (sym fk.is) ∙ ap (λ (x : List (Option ℕ)). line.Put table key x) (sym iv)))))))
 
 add_line : (d e : Draft) (table : List ℕ) (key field : Option ℕ) (change : Change) → Stands d
-    → admit d (line.Add table key field change) ≡ Ok e → Follows d (line.Add table key field change) e
-unfolding admit
-add_line d e table key field change s given =
+    → IsGoodIfSmall (line.Add table key field change) → admit d (line.Add table key field change) ≡ Ok e
+    → Follows d (line.Add table key field change) e
+unfolding admit spelt_line
+add_line d e table key field change s good given =
     must_then (is_at d.stage stage.Open) kind.Word _ e given (λ t e1.
     ok_then (place_of d.shape.tables table) _ e e1 (λ f ef e2.
     ok_then (key_of key) _ e e2 (λ k ek e3.
@@ -276,9 +302,11 @@ add_line d e table key field change s given =
     let fk = within_fits 0 (2 ^ 64 - 2) key k ek in
     let fg = within_fits 1 f.width field g eg in
     let fn = within_fits 0 (2 ^ 64 - 1) change.by n en in
+    let small : LineIsSmall (line.Add table key field change) = (tt, (is_word key k fk.is, (is_word field g fg.is, is_word change.by n fn.is))) in
+    let fits : FitsChange change = (good small).1.1.1 in
     pushes d (op.Add f.table k g change.up n) 1 e (line.Add table key field change) s t e5
     (table_is d.shape table f (open_shape d s t) at, (fg.least, subst (λ (m : ℕ). g ≤ m) (sym at.width) fg.most))
-    fk.most refl
+    (fk.most, omega (arith, fn.most), λ down. not_zero n (λ zero. fits.1 down (fn.is ∙ zero))) refl
     (ap (λ (x : List ℕ). line.Add x (Some k) (Some g) (record { up = change.up; by = Some n })) at.named
     ∙ ap (λ (x : Option ℕ). line.Add table x (Some g) (record { up = change.up; by = Some n })) (sym fk.is)
     ∙ ap (λ (x : Option ℕ). line.Add table key x (record { up = change.up; by = Some n })) (sym fg.is)
@@ -299,7 +327,7 @@ need_line d e table key field least s given =
     let fn = within_fits 0 (2 ^ 64 - 1) least n en in
     pushes d (op.Need f.table k g n) 1 e (line.Need table key field least) s t e5
     (table_is d.shape table f (open_shape d s t) at, (fg.least, subst (λ (m : ℕ). g ≤ m) (sym at.width) fg.most))
-    fk.most refl
+    (fk.most, omega (arith, fn.most)) refl
     (ap (λ (x : List ℕ). line.Need x (Some k) (Some g) (Some n)) at.named
     ∙ ap (λ (x : Option ℕ). line.Need table x (Some g) (Some n)) (sym fk.is)
     ∙ ap (λ (x : Option ℕ). line.Need table key x (Some n)) (sym fg.is)
@@ -330,7 +358,7 @@ end_line d e s given =
     must_then (ltb 0 (length d.body.ops)) kind.Word _ e e1 (λ some e2.
     subst (Follows d line.End) (same_Ok _ _ e2) (end_follows d s t (ltb-true _ _ some))))
 
-turns_line : (d e : Draft) (ss : List SpeltStint) → Stands d → (LineIsSmall (line.Turns ss) → IsGood (line.Turns ss))
+turns_line : (d e : Draft) (ss : List SpeltStint) → Stands d → IsGoodIfSmall (line.Turns ss)
     → admit d (line.Turns ss) ≡ Ok e → Follows d (line.Turns ss) e
 unfolding admit spelt_line
 turns_line d e ss s good given =
@@ -360,9 +388,9 @@ seed_line d e seed picks s given =
     subst (Follows d (line.Seed seed picks)) (same_Ok _ _ e3)
     (subst (λ (x : Option ℕ). Follows d (line.Seed x picks) next) (sym fn.is)
     (subst (λ (x : Option ℕ). Follows d (line.Seed (Some n) x) next) (sym fp.is)
-    (seed_follows d n p s t fp.most))))))
+    (seed_follows d n p s t (omega (arith, fn.most)) fp.most))))))
 
-pub admitted : (d : Draft) (l : Line) (e : Draft) → Stands d → (LineIsSmall l → IsGood l) → admit d l ≡ Ok e
+pub admitted : (d : Draft) (l : Line) (e : Draft) → Stands d → IsGoodIfSmall l → admit d l ≡ Ok e
     → Follows d l e
 admitted d line.Version e s good given = version_line d e s given
 admitted d (line.Header form) e s good given = header_line d e form s given
@@ -371,12 +399,12 @@ admitted d (line.Tries n) e s good given = tries_line d e n s given
 admitted d (line.Tidy on) e s good given = tidy_line d e on s given
 admitted d (line.Start n) e s good given = start_line d e n s given
 admitted d (line.Overflow buckets cells) e s good given = overflow_line d e buckets cells s given
-admitted d (line.Table name width capacity ring) e s good given = table_line d e name width capacity ring s given
-admitted d (line.Row table key values) e s good given = row_line d e table key values s given
+admitted d (line.Table name width capacity ring) e s good given = table_line d e name width capacity ring s good given
+admitted d (line.Row table key values) e s good given = row_line d e table key values s good given
 admitted d (line.Txn worker) e s good given = txn_line d e worker s given
 admitted d (line.Get table key) e s good given = get_line d e table key s given
-admitted d (line.Put table key values) e s good given = put_line d e table key values s given
-admitted d (line.Add table key field change) e s good given = add_line d e table key field change s given
+admitted d (line.Put table key values) e s good given = put_line d e table key values s good given
+admitted d (line.Add table key field change) e s good given = add_line d e table key field change s good given
 admitted d (line.Del table key) e s good given = del_line d e table key s given
 admitted d (line.Need table key field least) e s good given = need_line d e table key field least s given
 admitted d (line.Guard table key) e s good given = guard_line d e table key s given

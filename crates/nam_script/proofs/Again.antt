@@ -42,12 +42,12 @@ first_again l ls s =
     ap lines_of (append_assoc (text k) (10 ∷ []) (text_of ls))
     ∙ slice_split_at (λ b. eqb b 10) (text k) 10 (text_of ls) (All-from_recursion _ _ clean) refl
 
-all_then : (d : Draft) (l : Line) (ls : List Line) (e : Draft) (P : Type 0) → admit_all d (l ∷ ls) ≡ Ok e
+pub all_then : (d : Draft) (l : Line) (ls : List Line) (e : Draft) (P : Type 0) → admit_all d (l ∷ ls) ≡ Ok e
     → ((c : Draft) → admit d l ≡ Ok c → admit_all c ls ≡ Ok e → P) → P
 unfolding admit_all
 all_then d l ls e P given p = ok_then (admit d l) _ e given p
 
-done : (d e : Draft) → admit_all d [] ≡ Ok e → d ≡ e
+pub done : (d e : Draft) → admit_all d [] ≡ Ok e → d ≡ e
 unfolding admit_all
 done d e given = same_Ok d e given
 

@@ -39,7 +39,7 @@ both x y z w e f = rw (e, f) refl
 left_nested : (a t r x g l : List ℕ) → a ++ (t ++ (r ++ (x ++ (g ++ l)))) ≡ a ++ t ++ r ++ x ++ g ++ l
 left_nested a t r x g l = sym (append_assoc _ g l ∙ append_assoc _ x _ ∙ append_assoc _ r _ ∙ append_assoc a t _)
 
-joined_text : (s : Shape) (p : Policy) (rs : List Row) (xs : List ScriptTxn) (gs : List (List Stint)) (sd : List Line)
+pub joined_text : (s : Shape) (p : Policy) (rs : List Row) (xs : List ScriptTxn) (gs : List (List Stint)) (sd : List Line)
     → text_of (joined (setting_lines s p) s.tables rs xs [] gs sd)
     ≡ settings_text s p ++ flat_map table_text s.tables ++ flat_map (row_text s.tables) rs ++ flat_map
     (txn_text s.tables) xs ++ flat_map group_text gs ++ text_of sd
@@ -54,7 +54,7 @@ joined_text s p rs xs gs sd =
     ∙ left_nested (settings_text s p) (flat_map table_text s.tables) (flat_map (row_text s.tables) rs)
     (flat_map (txn_text s.tables) xs) (flat_map group_text gs) (text_of sd)
 
-ended_by : (x y z : List ℕ) → y ≡ z → (x ++ []) ++ y ≡ x ++ z
+pub ended_by : (x y z : List ℕ) → y ≡ z → (x ++ []) ++ y ≡ x ++ z
 ended_by x y z e = rw (append-nil x, e) refl
 
 -- the two ways of a script's end
@@ -85,6 +85,8 @@ law d t s good ops fit =
     record {
       shape = good;
       form = k.form;
+      few_tables = k.few_tables;
+      names = k.names;
       tries = s.tries;
       rows = k.rows;
       few = omega (arith, k.few);
@@ -136,7 +138,7 @@ seeded d text t at =
             (row_text d.shape.tables) d.body.rows ++ flat_map (txn_text d.shape.tables) d.body.txns) (text_of
             (l ∷ [])) _ (append-nil (line_text l));
       };
-      good = law d (turns.Seed d.body.seed d.body.picks) s o.0 o.1 k.picks;
+      good = law d (turns.Seed d.body.seed d.body.picks) s o.0 o.1 (k.seed, k.picks);
     })
 
 final : (d : Draft) (text : List ℕ) → Taken d text → IsFinal text (whole_script d)

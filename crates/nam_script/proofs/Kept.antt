@@ -24,7 +24,7 @@ use Rattle.nam_script.specs.declared.stage.Stage.TheVariants.{Overflow, Tables, 
 use Rattle.nam_script.specs.Stages.{rank, is_at, takes_table, takes_row, is_loaded, takes_turns}
 use Rattle.nam_script.specs.Checks.{is_given, rows_in, ops_cost, txns_cost, op_cost, keys_with, steps_of}
 use Rattle.nam_script.specs.Admit.{no_body, is_held}
-use Rattle.nam_script.specs.Limits.{RowsFit, AreDistinct, OpsFit, TxnFits, StintFits}
+use Rattle.nam_script.specs.Limits.{IsNamed, Fits64Bits, RowsFit, AreDistinct, OpsFit, TxnFits, StintFits}
 use Rattle.nam_script.proofs.Chains.{at_is, either, same_Ok}
 
 -- ---- which parts are empty at a stage
@@ -135,6 +135,7 @@ opened st = cond (is_at st Open) 1 0
 pub record Kept (st : Stage) (s : Shape) (b : Body) : Type 0 where
   pub few_tables : length s.tables ≤ 8
   pub fit_tables : AllByRecursion FitsTable s.tables
+  pub names : AllByRecursion IsNamed s.tables
   pub form : is_held s.form ≡ false
   pub rows : RowsFit s.tables b.rows
   pub few : length b.txns + opened st ≤ 8192
@@ -147,6 +148,7 @@ pub record Kept (st : Stage) (s : Shape) (b : Body) : Type 0 where
   pub stints : AllByRecursion (StintFits s.workers) b.stints
   pub steps : b.steps ≡ steps_of b.stints
   pub most_steps : b.steps ≤ 10000000
+  pub seed : Fits64Bits b.seed
   pub picks : b.picks ≤ 1000000
 
 few_opened : (st : Stage) → is_at st Open ≡ false → opened st ≡ 0
@@ -160,16 +162,17 @@ pub absent_worker : (st : Stage) (P : Type 0) → is_at st Open ≡ false → is
 absent_worker st P e t = absurd (differ (is_at st Open) e t)
 
 pub no_rows_fit : (s : Shape) → RowsFit s.tables []
-no_rows_fit s = record { fit = tt; keys = tt; distinct = tt; loaded = λ t lt. omega arith }
+no_rows_fit s = record { fit = tt; numbers = tt; distinct = tt; loaded = λ t lt. omega arith }
 
 pub no_ops_fit : (s : Shape) → OpsFit s.tables []
-no_ops_fit s = record { fit = tt; keys = tt; few = omega arith; claims = omega arith }
+no_ops_fit s = record { fit = tt; numbers = tt; few = omega arith; claims = omega arith }
 
 pub bare_kept : (st : Stage) (s : Shape) → length s.tables ≤ 8 → AllByRecursion FitsTable s.tables
-    → is_held s.form ≡ false → is_at st Open ≡ false → Kept st s no_body
-bare_kept st s few fit form closed = record {
+    → AllByRecursion IsNamed s.tables → is_held s.form ≡ false → is_at st Open ≡ false → Kept st s no_body
+bare_kept st s few fit names form closed = record {
   few_tables = few;
   fit_tables = fit;
+  names = names;
   form = form;
   rows = no_rows_fit s;
   few = omega (arith, few_opened st closed);
@@ -182,6 +185,7 @@ bare_kept st s few fit form closed = record {
   stints = tt;
   steps = refl;
   most_steps = omega arith;
+  seed = omega arith;
   picks = omega arith;
 }
 
@@ -211,23 +215,26 @@ distinct_more (q ∷ rs) r h e =
     let p = neither _ (is_given rs r.table r.key) e in
     (all_more (λ x. same_key (row_key q) (row_key x) ≡ false) rs r h.0 p.0, distinct_more rs r h.1 p.1)
 
+pub rows_in_both : (rs qs : List Row) (t : ℕ) → rows_in (rs ++ qs) t ≡ rows_in rs t + rows_in qs t
+rows_in_both [] qs t = omega arith
+rows_in_both (r ∷ rs) qs t = omega (arith, rows_in_both rs qs t)
+
 pub rows_in_more : (rs : List Row) (r : Row) (t : ℕ)
     → rows_in (rs ++ r ∷ []) t ≡ rows_in rs t + cond (eqb r.table t) 1 0
-rows_in_more [] r t = omega arith
-rows_in_more (q ∷ rs) r t = omega (arith, rows_in_more rs r t)
+rows_in_more rs r t = omega (arith, rows_in_both rs (r ∷ []) t)
 
 pub loaded_at : (x : Bool) (n m : ℕ) → (x ≡ true → n < m) → n ≤ m → n + cond x 1 0 ≤ m
 loaded_at true n m h le = omega (arith, h refl)
 loaded_at false n m h le = omega arith
 
-pub keys_more : (f : Op → Option Key) (ks : List Key) (ops : List Op) (op : Op)
-    → keys_from f ks (ops ++ op ∷ []) ≡ keys_from f (keys_from f ks ops) (op ∷ [])
-keys_more f ks [] op = refl
-keys_more f ks (o ∷ ops) op = keys_more f (elim (f o) [ None ↦ ks | Some key ↦ guarded ks key ]) ops op
-
 -- the keys with one more
 abbrev pub with_key : List Key → Option Key → List Key
 with_key ks o = elim o [ None ↦ ks | Some key ↦ guarded ks key ]
+
+pub keys_both : (f : Op → Option Key) (ks : List Key) (ops more : List Op)
+    → keys_from f ks (ops ++ more) ≡ keys_from f (keys_from f ks ops) more
+keys_both f ks [] more = refl
+keys_both f ks (o ∷ ops) more = keys_both f (with_key ks (f o)) ops more
 
 room_for : (c : Bool) (ks : List Key) (key : Key) (qs : List Key) → has_key ks key ≡ false → ltb (length ks) 16 ≡ c
     → cond c (Ok (ks ++ key ∷ [])) (Err kind.Size) ≡ Ok qs → (qs ≡ guarded ks key) × (length qs ≤ 16)
@@ -248,15 +255,23 @@ pub keys_are : (ks : List Key) (o : Option Key) (qs : List Key) → keys_with ks
 keys_are ks None qs e few = subst (λ (x : List Key). (x ≡ ks) × (length x ≤ 16)) (same_Ok _ _ e) (refl, few)
 keys_are ks (Some key) qs e few = new_key (has_key ks key) ks key qs refl e few
 
+pub ops_cost_both : (caps : List ℕ) (ops more : List Op)
+    → ops_cost caps (ops ++ more) ≡ ops_cost caps ops + ops_cost caps more
+ops_cost_both caps [] more = omega arith
+ops_cost_both caps (o ∷ ops) more = omega (arith, ops_cost_both caps ops more)
+
 pub ops_cost_more : (caps : List ℕ) (ops : List Op) (op : Op)
     → ops_cost caps (ops ++ op ∷ []) ≡ ops_cost caps ops + op_cost caps op
-ops_cost_more caps [] op = omega arith
-ops_cost_more caps (o ∷ ops) op = omega (arith, ops_cost_more caps ops op)
+ops_cost_more caps ops op = omega (arith, ops_cost_both caps ops (op ∷ []))
+
+pub txns_cost_both : (caps : List ℕ) (xs more : List ScriptTxn)
+    → txns_cost caps (xs ++ more) ≡ txns_cost caps xs + txns_cost caps more
+txns_cost_both caps [] more = omega arith
+txns_cost_both caps (x ∷ xs) more = omega (arith, txns_cost_both caps xs more)
 
 pub txns_cost_more : (caps : List ℕ) (xs : List ScriptTxn) (x : ScriptTxn)
     → txns_cost caps (xs ++ x ∷ []) ≡ txns_cost caps xs + ops_cost caps x.ops
-txns_cost_more caps [] x = omega arith
-txns_cost_more caps (y ∷ xs) x = omega (arith, txns_cost_more caps xs x)
+txns_cost_more caps xs x = omega (arith, txns_cost_both caps xs (x ∷ []))
 
 pub steps_both : (ss ts : List Stint) → steps_of (ss ++ ts) ≡ steps_of ss + steps_of ts
 steps_both ss ts = sum_by-append (λ (s : Stint). s.steps) ss ts

@@ -15,5 +15,13 @@ pub mod Wording
 pub mod Founds
 pub mod Counting
 pub mod Again
+pub mod Leads
+pub mod Fronts
+pub mod Drafts
+pub mod StoreLeads
+pub mod RunLeads
+pub mod Whole
 pub mod BankLemmas
+pub mod BankLimits
 pub mod GroupingLemmas
+pub mod Printed

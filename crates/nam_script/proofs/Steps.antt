@@ -32,7 +32,7 @@ use Rattle.nam_script.specs.declared.stage.Stage.TheVariants as stage
 use Rattle.nam_script.specs.Stages.{rank, is_at, takes_table, takes_row, is_loaded, takes_turns}
 use Rattle.nam_script.specs.Checks.{small, op_cost, total_within, keys_after, steps_of}
 use Rattle.nam_script.specs.Admit.{no_body, is_held, with_table, push_op}
-use Rattle.nam_script.specs.Limits.{RowsFit, OpHasKeys, TxnFits, StintFits}
+use Rattle.nam_script.specs.Limits.{IsNamed, Fits64Bits, RowsFit, OpNumbersFit, TxnFits, StintFits}
 use Rattle.nam_text.specs.Spelling.{IsWord}
 use Rattle.nam_script.specs.Lines.{spelt_line}
 use Rattle.nam_script.specs.Spelling.{LineIsSmall, somes, spelt, setting_lines, table_line, row_line, op_line}
@@ -42,7 +42,7 @@ use Rattle.nam_script.proofs.Concat.{joined, same_parts, setting_more, table_mor
 use Rattle.nam_script.proofs.Concat.{end_more, turns_more, seed_more}
 use Rattle.nam_script.proofs.Kept.{InOrder, Late, late_rows, late_between, late_turns, before_table, before_row}
 use Rattle.nam_script.proofs.Kept.{before_txn, before_turns, opened, Kept, bare_kept, absent_worker, all_more}
-use Rattle.nam_script.proofs.Kept.{all_both, keys_more, with_key, keys_are, ops_cost_more, txns_cost_more, steps_both}
+use Rattle.nam_script.proofs.Kept.{all_both, keys_both, with_key, keys_are, ops_cost_more, txns_cost_more, steps_both}
 
 -- the stints in groups of 1 to 64
 abbrev pub AreGroups : List (List Stint) → List Stint → Type 0
@@ -141,8 +141,8 @@ setting_follows d e l h st at et eb closed unpicked closed' unpicked' same_ts sa
       stands = record {
         order = order et' eb';
         kept = subst (λ (b : Body). Kept e.stage e.shape b) (sym eb') (bare_kept e.stage e.shape
-            (omega (arith, ap length et')) (subst (λ (ts : List Table). AllByRecursion FitsTable ts) (sym et') tt) form
-            closed');
+            (omega (arith, ap length et')) (subst (λ (ts : List Table). AllByRecursion FitsTable ts) (sym et') tt)
+            (subst (λ (ts : List Table). AllByRecursion IsNamed ts) (sym et') tt) form closed');
         tries = tries;
       };
     }
@@ -158,10 +158,10 @@ none_some None e = refl
 none_some (Some x) e = absurd cc
 
 pub table_follows : (d e : Draft) (t : Table) (l : Line) → Stands d → takes_table d.stage ≡ true
-    → length d.shape.tables < 8 → fault_of (with_table d.shape t) ≡ None
+    → length d.shape.tables < 8 → fault_of (with_table d.shape t) ≡ None → IsNamed t
     → e ≡ record d { stage = stage.Tables; shape = with_table d.shape t } → table_line t ≡ l → LineIsSmall l
     → Follows d l e
-table_follows d e t l s y few good is spelt small =
+table_follows d e t l s y few good named is spelt small =
     let b = before_table d.stage d.shape d.body y s.order in
     let next : Draft = record d { stage = stage.Tables; shape = with_table d.shape t } in
     let made : Follows d (table_line t) next = record {
@@ -181,7 +181,7 @@ table_follows d e t l s y few good is spelt small =
         kept = subst (λ (b : Body). Kept stage.Tables (with_table d.shape t) b) (sym b.body) (bare_kept stage.Tables
             (with_table d.shape t) (omega (arith, length-append d.shape.tables (t ∷ [])))
             (recursion_from_All FitsTable (d.shape.tables ++ t ∷ []) (fits_limits (with_table d.shape t) good).tables)
-            s.kept.form refl);
+            (all_more IsNamed d.shape.tables t s.kept.names named) s.kept.form refl);
         tries = s.tries;
       };
     } in
@@ -212,6 +212,7 @@ row_follows d r s y fit small =
         kept = record {
           few_tables = k.few_tables;
           fit_tables = k.fit_tables;
+          names = k.names;
           form = k.form;
           rows = fit;
           few = omega (arith, k.few);
@@ -224,6 +225,7 @@ row_follows d r s y fit small =
           stints = k.stints;
           steps = k.steps;
           most_steps = k.most_steps;
+          seed = k.seed;
           picks = k.picks;
         };
         tries = s.tries;
@@ -258,6 +260,7 @@ txn_follows d w s y range few =
         kept = record {
           few_tables = k.few_tables;
           fit_tables = k.fit_tables;
+          names = k.names;
           form = k.form;
           rows = k.rows;
           few = omega (arith, few);
@@ -270,6 +273,7 @@ txn_follows d w s y range few =
           stints = k.stints;
           steps = k.steps;
           most_steps = k.most_steps;
+          seed = k.seed;
           picks = k.picks;
         };
         tries = s.tries;
@@ -308,7 +312,7 @@ op_small ts (op.Guard t k) = (tt, tt)
 op_small ts (op.Scan t low high) = (tt, (tt, tt))
 
 pub pushes : (d : Draft) (o : Op) (cost : ℕ) (e : Draft) (l : Line) → Stands d → is_at d.stage stage.Open ≡ true
-    → push_op d o cost ≡ Ok e → OpFits (widths_of d.shape.tables) o → OpHasKeys o
+    → push_op d o cost ≡ Ok e → OpFits (widths_of d.shape.tables) o → OpNumbersFit o
     → op_cost (capacities_of d.shape.tables) o ≡ cost → op_line d.shape.tables o ≡ l → Follows d l e
 pushes d o cost e l s y given fit has costs spelt =
     must_then (ltb (length d.body.ops) 32) kind.Size _ e given (λ room e1.
@@ -319,7 +323,7 @@ pushes d o cost e l s y given fit has costs spelt =
     let order = subst (λ (y : Stage). InOrder y d.shape d.body) at s.order in
     let c = total_is d.body.cost cost 65536 sum es in
     let q = keys_are d.body.keys (key_claimed o) ks ek (subst (λ (x : _). length x ≤ 16) (sym k.keys) k.ops.claims) in
-    let more = keys_more key_claimed [] d.body.ops o in
+    let more = keys_both key_claimed [] d.body.ops (o ∷ []) in
     let keyed : ks ≡ keys_from key_claimed [] (d.body.ops ++ o ∷ []) = q.0
     ∙ ap (λ (x : _). with_key x (key_claimed o)) k.keys ∙ sym more in
     let next : Draft = record d { body = record d.body { ops = d.body.ops ++ o ∷ []; keys = ks; cost = sum } } in
@@ -340,6 +344,7 @@ pushes d o cost e l s y given fit has costs spelt =
         kept = record {
           few_tables = k.few_tables;
           fit_tables = k.fit_tables;
+          names = k.names;
           form = k.form;
           rows = k.rows;
           few = k.few;
@@ -347,7 +352,7 @@ pushes d o cost e l s y given fit has costs spelt =
           worker = k.worker;
           ops = record {
             fit = all_more (OpFits (widths_of d.shape.tables)) d.body.ops o k.ops.fit fit;
-            keys = all_more OpHasKeys d.body.ops o k.ops.keys has;
+            numbers = all_more OpNumbersFit d.body.ops o k.ops.numbers has;
             few = omega (arith, length-append d.body.ops (o ∷ []), ltb-true _ _ room);
             claims = subst (λ (x : _). length x ≤ 16) keyed q.1;
           };
@@ -357,6 +362,7 @@ pushes d o cost e l s y given fit has costs spelt =
           stints = k.stints;
           steps = k.steps;
           most_steps = k.most_steps;
+          seed = k.seed;
           picks = k.picks;
         };
         tries = s.tries;
@@ -395,19 +401,21 @@ end_follows d s y some =
         kept = record {
           few_tables = k.few_tables;
           fit_tables = k.fit_tables;
+          names = k.names;
           form = k.form;
           rows = k.rows;
           few = omega (arith, k.few, ap opened at, length-append d.body.txns (x ∷ []));
           txns = all_more (TxnFits d.shape.workers d.shape.tables) d.body.txns x k.txns
               (record { worker = k.worker y; some = omega (arith, some); ops = k.ops });
           worker = λ t. absent_worker stage.Between _ refl t;
-          ops = record { fit = tt; keys = tt; few = omega arith; claims = omega arith };
+          ops = record { fit = tt; numbers = tt; few = omega arith; claims = omega arith };
           keys = refl;
           cost = omega (arith, k.cost, txns_cost_more (capacities_of d.shape.tables) d.body.txns x);
           most_cost = k.most_cost;
           stints = k.stints;
           steps = k.steps;
           most_steps = k.most_steps;
+          seed = k.seed;
           picks = k.picks;
         };
         tries = s.tries;
@@ -446,6 +454,7 @@ turns_follow d ms sum s y fit short is most =
         kept = record {
           few_tables = k.few_tables;
           fit_tables = k.fit_tables;
+          names = k.names;
           form = k.form;
           rows = k.rows;
           few = omega (arith, k.few);
@@ -458,17 +467,19 @@ turns_follow d ms sum s y fit short is most =
           stints = all_both (StintFits d.shape.workers) d.body.stints ms k.stints fit;
           steps = omega (arith, is, k.steps, steps_both d.body.stints ms);
           most_steps = most;
+          seed = k.seed;
           picks = k.picks;
         };
         tries = s.tries;
       };
     }
 
-pub seed_follows : (d : Draft) (seed picks : ℕ) → Stands d → is_loaded d.stage ≡ true → picks ≤ 1000000
+pub seed_follows : (d : Draft) (seed picks : ℕ) → Stands d → is_loaded d.stage ≡ true → Fits64Bits seed
+    → picks ≤ 1000000
     → Follows d (line.Seed (Some seed) (Some picks))
     (record d { stage = stage.Seed; body = record d.body { seed = seed; picks = picks } })
 unfolding spelt_line
-seed_follows d seed picks s y most =
+seed_follows d seed picks s y word most =
     let b = before_txn d.stage d.shape d.body y s.order in
     let k = s.kept in
     let l : Line = line.Seed (Some seed) (Some picks) in
@@ -491,6 +502,7 @@ seed_follows d seed picks s y most =
         kept = record {
           few_tables = k.few_tables;
           fit_tables = k.fit_tables;
+          names = k.names;
           form = k.form;
           rows = k.rows;
           few = omega (arith, k.few);
@@ -503,6 +515,7 @@ seed_follows d seed picks s y most =
           stints = k.stints;
           steps = k.steps;
           most_steps = k.most_steps;
+          seed = word;
           picks = most;
         };
         tries = s.tries;

@@ -108,7 +108,7 @@ pub start_stands : Stands start
 start_stands =
     record {
       order = (refl, refl);
-      kept = bare_kept start.stage start.shape (omega arith) tt refl refl;
+      kept = bare_kept start.stage start.shape (omega arith) tt tt refl refl;
       tries =
           (omega arith, omega arith);
     }

@@ -1,6 +1,7 @@
 //! The script of a bank, made from a number.
 
 ghost use Rattle.std.specs.Prelude.{◌≡◌, ◌≤◌, [], ◌∷◌, IfOk};
+ghost use Rattle.nam_script.specs.Limits.{IsScript};
 ghost use Rattle.nam_script.specs.Bank.{bank_ops, bank_txn, state_after, bank_txns, rows_from, bank_shape, bank_of};
 
 use crate::script::{Script, ScriptTxn, Turns};
@@ -109,7 +110,10 @@ fn bank_shape() -> Shape
 /// The generator is linear congruential, modulo 2^64, and a pick takes the upper 31 bits of its state.
 pub fn bank(alloc: Global, seed: u64, size: u32) -> Result<Script, AllocError>
     requires { (1 ≤ size) × (size ≤ 2000) }
-    ensures { IfOk result (λ script. script ≡ bank_of seed size) }
+    // The script of the generator's rule.
+    ensures exact { IfOk result (λ script. script ≡ bank_of seed size) }
+    // The script keeps to all limits: its text can be read.
+    ensures limits { IfOk result IsScript }
 {
     let rows = bank_rows(alloc)?;
     let txns = bank_txns(alloc, size, seed)?;

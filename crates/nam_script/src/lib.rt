@@ -4,7 +4,7 @@
 //! `print` gives the one text of any script, exactly. `parse` gives the script of a text, or else the first line that
 //! no script has there, with the first kind of fault that it has. What it gives keeps to all limits, and its text is
 //! what was read, but that stints may stand in other groups on their lines: `grouping_law` says when it is so to the
-//! byte.
+//! byte. Each script within the limits is read from any text that spells it so.
 //! `bank` makes a script from a number.
 #![tactic(auto)]
 

@@ -10,6 +10,7 @@ ghost use Rattle.nam_script.specs.Parse.{Gives, GivesDraft, draft_of, whole_scri
 ghost use Rattle.nam_script.specs.Spelling.{IsGood, admit_all, text_of};
 ghost use Rattle.nam_script.specs.declared.line.Line.{Line};
 ghost use Rattle.nam_script.specs.declared.draft.Draft.{Draft};
+ghost use Rattle.nam_script.specs.declared.script.Script.{Script};
 
 use crate::draft::Draft;
 use crate::refusal::{Kind, LineEnd, ParseEnd};
@@ -71,7 +72,8 @@ fn script_of(alloc: Global, text: &[u8]) -> Result<Script, ParseEnd>
 ///
 /// `Bad` names the first line that is no line of a script after the lines before it, and the first kind of fault that
 /// it has; `Memory` is want of memory.
-#[tactic(auto, using(crate::proofs::Founds::is_found, crate::proofs::Founds::is_good, crate::proofs::Again::again))]
+#[tactic(auto, using(crate::proofs::Founds::is_found, crate::proofs::Founds::is_good, crate::proofs::Again::again,
+    crate::proofs::Whole::whole))]
 pub fn parse(alloc: Global, bytes: &[u8]) -> Result<Script, ParseEnd>
     // The script that the bytes spell, or the first bad line and the first of its kinds.
     ensures exact { Gives result (script_of bytes.now) }
@@ -80,8 +82,10 @@ pub fn parse(alloc: Global, bytes: &[u8]) -> Result<Script, ParseEnd>
     // What is spelt so is read: lines that may come in this order, where a script may end.
     ensures only { (ls : List Line) (e : Draft) → AllByRecursion IsGood ls → admit_all start ls ≡ Ok e
         → can_end e.stage ≡ true → bytes.now ≡ text_of ls → Gives result (Ok (whole_script e)) }
-    // The script keeps to all limits.
+    // The script keeps to all limits, and its names and numbers can be spelt.
     ensures limits { IfOk result IsScript }
+    // Each such script is read from any bytes that spell it.
+    ensures whole { (s : Script) → IsScript s → IsSpelt s bytes.now → Gives result (Ok s) }
 {
     script_of(alloc, bytes)
 }

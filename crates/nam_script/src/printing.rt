@@ -5,7 +5,7 @@ ghost use Rattle.std.specs.List.{flat_map};
 ghost use Rattle.nam_script.specs.Lines.{form_word, switch_word, sign_text};
 ghost use Rattle.nam_script.specs.Spelling.{text_of, opening_lines, store_lines};
 ghost use Rattle.nam_script.specs.Text.{table_text, row_text, op_text, txn_text, stint_start, room_after, stint_text};
-ghost use Rattle.nam_script.specs.Text.{stints_text, turns_text, script_text};
+ghost use Rattle.nam_script.specs.Text.{stints_text, turns_text, script_text, IsSpelt};
 
 use crate::script::{Script, ScriptTxn, Stint, Turns};
 use nam_catalog::{Form, Shape, Table, name_at};
@@ -218,8 +218,12 @@ fn push_turns(out: &mut String, turns: &Turns) -> Result<(), AllocError>
 }
 
 /// The text of a script: its one spelling. Of any script there is one, and want of memory is the only error.
+#[tactic(auto, using(crate::proofs::Printed::printed))]
 pub fn print(alloc: Global, script: &Script) -> Result<Vec<u8>, AllocError>
-    ensures { IfOk result (λ v. v.items ≡ script_text script.now) }
+    // The one text of the script.
+    ensures exact { IfOk result (λ v. v.items ≡ script_text script.now) }
+    // It spells the script, so that one within the limits is read from it again.
+    ensures spelt { IfOk result (λ v. IsSpelt script.now v.items) }
 {
     let mut out = String::new(alloc);
     let tables = script.shape.tables.as_slice();

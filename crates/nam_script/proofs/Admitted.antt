@@ -1,5 +1,6 @@
 -- Each kind of line, admitted.
-use Rattle.std.proofs.Common.{◌≡◌, ℕ, zero, suc, ◌-◌, ◌^◌, ◌<◌, ◌≤◌, Bool, true, eqb, ltb, leb, not, List, [], ◌∷◌, ◌++◌, length}
+use Rattle.std.proofs.Common.{◌≡◌, ℕ, zero, suc, ◌-◌, ◌^◌, ◌<◌, ◌≤◌, Bool, true, eqb, ltb, leb, not, List, [], ◌∷◌}
+use Rattle.std.proofs.Common.{◌++◌, length}
 use Rattle.std.proofs.Common.{Option, Some, None, Ok, refl, sym, ap, ◌∙◌, subst, arith}
 use Rattle.std.specs.Prelude.{is_some, is_ok, slice_index}
 use Rattle.std.specs.List.{AllByRecursion}
@@ -166,7 +167,8 @@ table_line d e name width capacity ring s good given =
     let fw = within_fits 1 _ width w ew in
     let fk = within_fits 1 _ capacity k ek in
     let fr = within_fits 1 _ ring r er in
-    let small : LineIsSmall (line.Table name width capacity ring) = (tt, (is_word width w fw.is, (is_word capacity k fk.is, is_word ring r fr.is))) in
+    let small : LineIsSmall (line.Table name width capacity ring) =
+    (tt, (is_word width w fw.is, (is_word capacity k fk.is, is_word ring r fr.is))) in
     let made = table_follows d e (record { name = name; width = w; capacity = k; ring = r })
     (line.Table name (Some w) (Some k) (Some r)) s t (ltb-true _ _ few) (none_some _ fits) (good small).0
     (sym (same_Ok _ _ e7)) refl (tt, (tt, (tt, tt))) in
@@ -190,7 +192,8 @@ row_line d e table key values s good given =
     let at = found_is d.shape.tables table f ef in
     let fk = within_fits 0 (2 ^ 64 - 2) key k ek in
     let iv = all_small_is values vs ev in
-    let small : LineIsSmall (line.Row table key values) = (tt, (is_word key k fk.is, subst (AllByRecursion IsWord) (sym iv) (all_somes vs))) in
+    let small : LineIsSmall (line.Row table key values) =
+    (tt, (is_word key k fk.is, subst (AllByRecursion IsWord) (sym iv) (all_somes vs))) in
     let words = fit_bits vs (subst (AllByRecursion FitsWord) iv (good small).1.1.0) in
     let r : Row = record { table = f.table; key = k; value = vs } in
     let old = s.kept.rows in
@@ -281,7 +284,8 @@ put_line d e table key values s good given =
     let at = found_is d.shape.tables table f ef in
     let fk = within_fits 0 (2 ^ 64 - 2) key k ek in
     let iv = all_small_is values vs ev in
-    let small : LineIsSmall (line.Put table key values) = (tt, (is_word key k fk.is, subst (AllByRecursion IsWord) (sym iv) (all_somes vs))) in
+    let small : LineIsSmall (line.Put table key values) =
+    (tt, (is_word key k fk.is, subst (AllByRecursion IsWord) (sym iv) (all_somes vs))) in
     let words = fit_bits vs (subst (AllByRecursion FitsWord) iv (good small).1.1.0) in
     pushes d (op.Put f.table k vs) 1 e (line.Put table key values) s t e5
     (table_is d.shape table f (open_shape d s t) at, eqb-true _ _ wide ∙ sym at.width) (fk.most, words) refl
@@ -302,7 +306,8 @@ add_line d e table key field change s good given =
     let fk = within_fits 0 (2 ^ 64 - 2) key k ek in
     let fg = within_fits 1 f.width field g eg in
     let fn = within_fits 0 (2 ^ 64 - 1) change.by n en in
-    let small : LineIsSmall (line.Add table key field change) = (tt, (is_word key k fk.is, (is_word field g fg.is, is_word change.by n fn.is))) in
+    let small : LineIsSmall (line.Add table key field change) =
+    (tt, (is_word key k fk.is, (is_word field g fg.is, is_word change.by n fn.is))) in
     let fits : FitsChange change = (good small).1.1.1 in
     pushes d (op.Add f.table k g change.up n) 1 e (line.Add table key field change) s t e5
     (table_is d.shape table f (open_shape d s t) at, (fg.least, subst (λ (m : ℕ). g ≤ m) (sym at.width) fg.most))

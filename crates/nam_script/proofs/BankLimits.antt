@@ -1,13 +1,13 @@
 -- The bank's script keeps to all limits.
-use Rattle.std.proofs.Common.{◌≡◌, ℕ, zero, suc, ◌+◌, ◌*◌, ◌%◌, ◌^◌, ◌<◌, ◌≤◌, Bool, true, false, cond, ◌&&◌, eqb, List, [], ◌∷◌}
+use Rattle.std.proofs.Common.{◌≡◌, ℕ, zero, suc, ◌+◌, ◌*◌, ◌%◌, ◌^◌, ◌<◌, ◌≤◌, Bool, true, false, cond, ◌&&◌, eqb}
+use Rattle.std.proofs.Common.{[], ◌∷◌}
 use Rattle.std.proofs.Common.{◌/◌, length, refl, sym, subst, arith}
 use Rattle.std.specs.Prelude.{slice_index}
 use Rattle.std.specs.List.{AllByRecursion}
-use Rattle.std.proofs.lemmas.Bool.{and_from, ne_eqb}
+use Rattle.std.proofs.lemmas.Bool.{ne_eqb}
 use Rattle.std.proofs.Math.Nat.{mod-lt}
 use Rattle.si_model.specs.declared.row.Row.{Row}
 use Rattle.si_model.specs.declared.row.Key.{Key}
-use Rattle.si_model.specs.declared.op.Op.{Op}
 use Rattle.si_model.specs.Rows.{key_at, same_key, row_key}
 use Rattle.si_model.specs.Generator.{next_state, pick}
 use Rattle.nam_script.specs.declared.script.Script.{Script}
@@ -34,8 +34,7 @@ others : (first : Row) (key n : ℕ) → first.key < key
     → AllByRecursion (λ q. same_key (row_key first) (row_key q) ≡ false) (rows_from key n)
 others first key zero lt = tt
 others first key (suc n) lt =
-    let other : first.key ≡ key → ⊥ = λ e. omega (arith, e, lt) in
-    (
+    let other : first.key ≡ key → ⊥ = λ e. omega (arith, e, lt) in (
       unlike (eqb first.table 0) (eqb first.key key) (ne_eqb first.key key other),
       others first (key + 1) n (omega (arith, lt)),
     )

@@ -1,51 +1,20 @@
 -- The drafts on the way from none to a script, by the lines so far.
-use Rattle.std.proofs.Common.{◌≡◌, ℕ, ◌+◌, ◌^◌, ◌<◌, ◌≤◌, Bool, true, false, cond, eqb, ltb, leb, not, List, [], ◌∷◌, ◌++◌, map, length, Option}
-use Rattle.std.proofs.Common.{Some, None, Result, Ok, refl, sym, ap, ◌∙◌, subst, arith, length-append}
-use Rattle.std.proofs.Common.{◌-◌, append_assoc}
-use Rattle.std.specs.Prelude.{is_ok, is_some, slice_index}
-use Rattle.std.specs.List.{AllByRecursion, flat_map}
-use Rattle.std.proofs.lemmas.Bool.{eq-eqb, lt-ltb, le-leb}
-use Rattle.std.proofs.lemmas.List.{append-nil, length-map}
-use Rattle.std.proofs.lemmas.List.Elements.{recursion_from_All}
-use Rattle.std.proofs.lemmas.Grind.{flat_map-append}
-use Rattle.std.proofs.lemmas.Option.{same_Some}
+use Rattle.std.proofs.Common.{◌≡◌, ℕ, ◌+◌, ◌≤◌, Bool, true, false, List, [], ◌∷◌, ◌++◌, length}
+use Rattle.std.proofs.Common.{refl, arith}
+use Rattle.std.specs.List.{flat_map}
 use Rattle.si_model.specs.declared.row.Row.{Row}
 use Rattle.si_model.specs.declared.op.Op.{Op}
-use Rattle.si_model.specs.declared.op.Op.TheVariants as op
-use Rattle.si_model.specs.Evaluation.{OpFits, key_claimed, keys_from}
+use Rattle.si_model.specs.Evaluation.{key_claimed, keys_from}
 use Rattle.nam_catalog.specs.declared.shape.Table.{Table}
-use Rattle.nam_catalog.specs.Greatest.{greatest_number}
-use Rattle.nam_catalog.specs.declared.form.Form.{Form}
-use Rattle.nam_catalog.specs.declared.form.Form.TheVariants.{Narrow, Wide, Held}
-use Rattle.nam_catalog.specs.Tables.{name_of, widths_of, capacities_of}
-use Rattle.nam_catalog.specs.Limits.{fault_of}
-use Rattle.nam_catalog.specs.Fits.{FitsTable, FitsLimits}
-use Rattle.nam_catalog.proofs.FitsLemmas.{fits_limits, has_no_fault}
-use Rattle.nam_text.specs.Spelling.{FitsWord}
-use Rattle.nam_script.specs.declared.refusal.Kind.{Kind}
-use Rattle.nam_script.specs.declared.refusal.Kind.TheVariants as kind
-use Rattle.nam_script.specs.declared.refusal.ParseEnd.{ParseEnd}
-use Rattle.nam_script.specs.declared.checks.Found.{Found}
-use Rattle.nam_script.specs.declared.line.Line.{Line}
-use Rattle.nam_script.specs.declared.line.Line.TheVariants as line
+use Rattle.nam_catalog.specs.Tables.{capacities_of}
 use Rattle.nam_script.specs.declared.script.ScriptTxn.{ScriptTxn}
 use Rattle.nam_script.specs.declared.script.Stint.{Stint}
-use Rattle.nam_script.specs.declared.script.Turns.{Turns}
-use Rattle.nam_script.specs.declared.script.Turns.TheVariants as turns
 use Rattle.nam_script.specs.declared.script.Script.{Script}
 use Rattle.nam_script.specs.declared.draft.Draft.{Draft}
 use Rattle.nam_script.specs.declared.stage.Stage.{Stage}
 use Rattle.nam_script.specs.declared.stage.Stage.TheVariants as stage
-use Rattle.nam_script.specs.Lines.{FitsStint, spelt_line}
-use Rattle.nam_script.specs.Stages.{is_at, takes_table, takes_row, is_loaded, takes_turns, can_end}
-use Rattle.nam_script.specs.Checks.{within, small, all_small, key_of, all_stints, place_of, is_given, rows_in}
-use Rattle.nam_script.specs.Checks.{total_within, steps_of, op_cost, ops_cost, txns_cost, keys_after}
-use Rattle.nam_script.specs.Admit.{no_body, start, is_held, with_table, push_op, admit}
-use Rattle.nam_script.specs.Parse.{whole_script, turns_of, script_of, Gives}
-use Rattle.nam_script.specs.Limits.{IsNamed, Fits64Bits, IsKey, OpNumbersFit, TxnFits, StintFits, TurnsFit, IsScript}
-use Rattle.nam_script.specs.Spelling.{IsGood, somes, spelt, setting_lines, table_line, row_line, op_line, txn_lines}
-use Rattle.nam_script.specs.Spelling.{turns_line, line_text, text_of}
-use Rattle.nam_script.specs.Text.{settings_text, table_text, row_text, txn_text, group_text, IsSpelt}
+use Rattle.nam_script.specs.Checks.{steps_of, ops_cost, txns_cost}
+use Rattle.nam_script.specs.Admit.{no_body}
 
 -- ---- stages
 
@@ -63,12 +32,14 @@ after_some from to [] some = absurd (omega arith)
 after_some from to (x ∷ xs) some = refl
 
 -- a test that both stages pass
-pub after_passes : {A : Type 0} (test : Stage → Bool) (from to : Stage) (xs : List A) → test from ≡ true → test to ≡ true
+pub after_passes : {A : Type 0} (test : Stage → Bool) (from to : Stage) (xs : List A) → test from ≡ true
+    → test to ≡ true
     → test (after from to xs) ≡ true
 after_passes test from to [] f t = f
 after_passes test from to (x ∷ xs) f t = t
 
-pub after_fails : {A : Type 0} (test : Stage → Bool) (from to : Stage) (xs : List A) → test from ≡ false → test to ≡ false
+pub after_fails : {A : Type 0} (test : Stage → Bool) (from to : Stage) (xs : List A) → test from ≡ false
+    → test to ≡ false
     → test (after from to xs) ≡ false
 after_fails test from to [] f t = f
 after_fails test from to (x ∷ xs) f t = t
@@ -150,4 +121,3 @@ seeded s seed picks = record (ran s s.txns) {
   stage = stage.Seed;
   body = record (ran s s.txns).body { seed = seed; picks = picks };
 }
-

@@ -39,7 +39,8 @@ both x y z w e f = rw (e, f) refl
 left_nested : (a t r x g l : List ℕ) → a ++ (t ++ (r ++ (x ++ (g ++ l)))) ≡ a ++ t ++ r ++ x ++ g ++ l
 left_nested a t r x g l = sym (append_assoc _ g l ∙ append_assoc _ x _ ∙ append_assoc _ r _ ∙ append_assoc a t _)
 
-pub joined_text : (s : Shape) (p : Policy) (rs : List Row) (xs : List ScriptTxn) (gs : List (List Stint)) (sd : List Line)
+pub joined_text : (s : Shape) (p : Policy) (rs : List Row) (xs : List ScriptTxn) (gs : List (List Stint))
+    (sd : List Line)
     → text_of (joined (setting_lines s p) s.tables rs xs [] gs sd)
     ≡ settings_text s p ++ flat_map table_text s.tables ++ flat_map (row_text s.tables) rs ++ flat_map
     (txn_text s.tables) xs ++ flat_map group_text gs ++ text_of sd

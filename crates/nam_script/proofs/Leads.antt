@@ -1,9 +1,9 @@
 -- Lines that lead from one draft to another, and what passes each test of a line.
-use Rattle.std.proofs.Common.{◌≡◌, ℕ, ◌+◌, ◌^◌, ◌-◌, ◌<◌, ◌≤◌, Bool, true, false, cond, not, ltb, List, [], ◌∷◌, ◌++◌}
+use Rattle.std.proofs.Common.{◌≡◌, ℕ, ◌+◌, ◌<◌, ◌≤◌, Bool, true, false, cond, ltb, List, [], ◌∷◌, ◌++◌}
 use Rattle.std.proofs.Common.{map, length, Option, Some, None, Result, Ok, Err, refl, sym, ap, ◌∙◌, subst, arith}
 use Rattle.std.proofs.Common.{append_assoc, length-append}
 use Rattle.std.specs.List.{AllByRecursion, flat_map}
-use Rattle.std.proofs.lemmas.Bool.{and_from, le-leb, lt-ltb}
+use Rattle.std.proofs.lemmas.Bool.{le-leb, lt-ltb}
 use Rattle.std.proofs.lemmas.List.{append-nil}
 use Rattle.si_model.specs.declared.row.Key.{Key}
 use Rattle.si_model.specs.declared.op.Op.{Op}
@@ -19,7 +19,6 @@ use Rattle.nam_script.specs.Checks.{◌>>=◌, must, within, all_small, stint_wi
 use Rattle.nam_script.specs.Admit.{admit}
 use Rattle.nam_script.specs.Limits.{StintFits}
 use Rattle.nam_script.specs.Spelling.{IsGood, admit_all, somes, spelt}
-use Rattle.nam_script.proofs.Chains.{same_Ok}
 use Rattle.nam_script.proofs.Kept.{all_both, with_key}
 use Rattle.nam_script.proofs.Again.{all_then, done}
 
@@ -61,7 +60,7 @@ leads_both d c e ks ls here after =
 
 module _ {A : Type 0} (lines : A → List Line) (draft : List A → Draft) (all : List A)
     (step : (before : List A) (x : A) (rest : List A) → before ++ x ∷ rest ≡ all
-        → Leads (draft before) (lines x) (draft (before ++ x ∷ []))) where
+    → Leads (draft before) (lines x) (draft (before ++ x ∷ []))) where
   each_from : (before rest : List A) → before ++ rest ≡ all → Leads (draft before) (flat_map lines rest) (draft all)
   each_from before [] is =
       subst (λ (xs : List A). Leads (draft before) [] (draft xs)) (sym (append-nil before) ∙ is)
@@ -80,7 +79,7 @@ Leads1 d l e = IsGood l × (admit d l ≡ Ok e)
 
 module _ {A : Type 0} (line : A → Line) (draft : List A → Draft) (all : List A)
     (step : (before : List A) (x : A) (rest : List A) → before ++ x ∷ rest ≡ all
-        → Leads1 (draft before) (line x) (draft (before ++ x ∷ []))) where
+    → Leads1 (draft before) (line x) (draft (before ++ x ∷ []))) where
   line_from : (before rest : List A) → before ++ rest ≡ all → Leads (draft before) (map line rest) (draft all)
   line_from before [] is =
       subst (λ (xs : List A). Leads (draft before) [] (draft xs)) (sym (append-nil before) ∙ is)
@@ -100,7 +99,8 @@ pub ok_goes : {A B : Type 0} (r : Result A Kind) (f : A → Result B Kind) (x : 
     → f x ≡ y → (r >>= f) ≡ y
 ok_goes r f x y is goes = ap (λ (z : Result _ Kind). z >>= f) is ∙ goes
 
-pub must_goes : {B : Type 0} (b : Bool) (k : Kind) (x y : Result B Kind) → b ≡ true → x ≡ y → (must b k >>= (λ _. x)) ≡ y
+pub must_goes : {B : Type 0} (b : Bool) (k : Kind) (x y : Result B Kind) → b ≡ true → x ≡ y
+    → (must b k >>= (λ _. x)) ≡ y
 must_goes true k x y is goes = goes
 must_goes false k x y is goes = absurd cc
 

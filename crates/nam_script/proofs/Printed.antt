@@ -1,5 +1,6 @@
 -- The text that is printed of a script spells it.
-use Rattle.std.proofs.Common.{◌≡◌, ℕ, zero, suc, ◌≤◌, List, [], ◌∷◌, ◌++◌, length, take, drop, refl, sym, ap, ◌∙◌, subst}
+use Rattle.std.proofs.Common.{◌≡◌, ℕ, zero, suc, ◌≤◌, List, [], ◌∷◌, ◌++◌, length, take, drop, refl, sym, ap, ◌∙◌}
+use Rattle.std.proofs.Common.{subst}
 use Rattle.std.proofs.Common.{arith}
 use Rattle.std.specs.List.{flat_map, AllByRecursion}
 use Rattle.std.proofs.lemmas.List.{length-take, length-take-le, length-drop, take-append-drop}
@@ -35,7 +36,8 @@ some_left zero ss some = absurd (omega (arith, some))
 some_left (suc n) [] some = absurd (omega (arith, some))
 some_left (suc n) (s ∷ ss) some = omega arith
 
-full_before : (g : List Stint) (gs : List (List Stint)) → (1 ≤ length gs → length g ≡ 64) → AreFull gs → AreFull (g ∷ gs)
+full_before : (g : List Stint) (gs : List (List Stint)) → (1 ≤ length gs → length g ≡ 64) → AreFull gs
+    → AreFull (g ∷ gs)
 full_before g [] full rest = tt
 full_before g (h ∷ gs) full rest = (full (omega arith), rest)
 

@@ -1,61 +1,49 @@
 -- The lines of the transactions and the turns of a script lead to the draft of them.
-use Rattle.std.proofs.Common.{◌≡◌, ℕ, ◌+◌, ◌^◌, ◌<◌, ◌≤◌, Bool, true, false, cond, eqb, ltb, leb, not, List, [], ◌∷◌, ◌++◌, map, length, Option}
-use Rattle.std.proofs.Common.{Some, None, Result, Ok, refl, sym, ap, ◌∙◌, subst, arith, length-append}
-use Rattle.std.proofs.Common.{◌-◌, append_assoc}
-use Rattle.std.specs.Prelude.{is_ok, is_some, slice_index}
-use Rattle.std.specs.List.{AllByRecursion, flat_map}
+use Rattle.std.proofs.Common.{◌≡◌, ℕ, ◌+◌, ◌^◌, ◌<◌, ◌≤◌, true, eqb, ltb, leb, List, [], ◌∷◌, ◌++◌, map, length}
+use Rattle.std.proofs.Common.{Some, Result, Ok, refl, sym, ap, ◌∙◌, subst, arith, length-append}
+use Rattle.std.proofs.Common.{◌-◌}
+use Rattle.std.specs.Prelude.{slice_index}
+use Rattle.std.specs.List.{AllByRecursion}
 use Rattle.std.proofs.lemmas.Bool.{eq-eqb, lt-ltb, le-leb}
 use Rattle.std.proofs.lemmas.List.{append-nil, length-map}
 use Rattle.std.proofs.lemmas.List.Elements.{recursion_from_All}
 use Rattle.std.proofs.lemmas.Grind.{flat_map-append}
 use Rattle.std.proofs.lemmas.Option.{same_Some}
-use Rattle.si_model.specs.declared.row.Row.{Row}
 use Rattle.si_model.specs.declared.op.Op.{Op}
 use Rattle.si_model.specs.declared.op.Op.TheVariants as op
 use Rattle.si_model.specs.Evaluation.{OpFits, key_claimed, keys_from}
 use Rattle.nam_catalog.specs.declared.shape.Table.{Table}
-use Rattle.nam_catalog.specs.Greatest.{greatest_number}
-use Rattle.nam_catalog.specs.declared.form.Form.{Form}
-use Rattle.nam_catalog.specs.declared.form.Form.TheVariants.{Narrow, Wide, Held}
 use Rattle.nam_catalog.specs.Tables.{name_of, widths_of, capacities_of}
-use Rattle.nam_catalog.specs.Limits.{fault_of}
-use Rattle.nam_catalog.specs.Fits.{FitsTable, FitsLimits}
-use Rattle.nam_catalog.proofs.FitsLemmas.{fits_limits, has_no_fault}
-use Rattle.nam_text.specs.Spelling.{FitsWord}
+use Rattle.nam_catalog.specs.Fits.{FitsTable}
+use Rattle.nam_catalog.proofs.FitsLemmas.{fits_limits}
 use Rattle.nam_script.specs.declared.refusal.Kind.{Kind}
 use Rattle.nam_script.specs.declared.refusal.Kind.TheVariants as kind
-use Rattle.nam_script.specs.declared.refusal.ParseEnd.{ParseEnd}
-use Rattle.nam_script.specs.declared.checks.Found.{Found}
-use Rattle.nam_script.specs.declared.line.Line.{Line}
 use Rattle.nam_script.specs.declared.line.Line.TheVariants as line
 use Rattle.nam_script.specs.declared.script.ScriptTxn.{ScriptTxn}
 use Rattle.nam_script.specs.declared.script.Stint.{Stint}
-use Rattle.nam_script.specs.declared.script.Turns.{Turns}
 use Rattle.nam_script.specs.declared.script.Turns.TheVariants as turns
 use Rattle.nam_script.specs.declared.script.Script.{Script}
 use Rattle.nam_script.specs.declared.draft.Draft.{Draft}
 use Rattle.nam_script.specs.declared.stage.Stage.{Stage}
 use Rattle.nam_script.specs.declared.stage.Stage.TheVariants as stage
 use Rattle.nam_script.specs.Lines.{FitsStint, spelt_line}
-use Rattle.nam_script.specs.Stages.{is_at, takes_table, takes_row, is_loaded, takes_turns, can_end}
-use Rattle.nam_script.specs.Checks.{within, small, all_small, key_of, all_stints, place_of, is_given, rows_in}
+use Rattle.nam_script.specs.Stages.{is_at, is_loaded, takes_turns}
+use Rattle.nam_script.specs.Checks.{within, small, all_small, key_of, all_stints, place_of}
 use Rattle.nam_script.specs.Checks.{total_within, steps_of, op_cost, ops_cost, txns_cost, keys_after}
-use Rattle.nam_script.specs.Admit.{no_body, start, is_held, with_table, push_op, admit}
-use Rattle.nam_script.specs.Parse.{whole_script, turns_of, script_of, Gives}
+use Rattle.nam_script.specs.Admit.{push_op, admit}
 use Rattle.nam_script.specs.Limits.{IsNamed, Fits64Bits, IsKey, OpNumbersFit, TxnFits, StintFits, TurnsFit, IsScript}
-use Rattle.nam_script.specs.Spelling.{IsGood, somes, spelt, setting_lines, table_line, row_line, op_line, txn_lines}
-use Rattle.nam_script.specs.Spelling.{turns_line, line_text, text_of}
-use Rattle.nam_script.specs.Text.{settings_text, table_text, row_text, txn_text, group_text, IsSpelt}
+use Rattle.nam_script.specs.Spelling.{IsGood, somes, spelt, op_line, txn_lines}
+use Rattle.nam_script.specs.Spelling.{turns_line}
 use Rattle.nam_script.proofs.Kept.{with_key, ops_cost_both, ops_cost_more, txns_cost_both, txns_cost_more, keys_both}
 use Rattle.nam_script.proofs.Kept.{steps_both}
 use Rattle.nam_script.proofs.StoreLeads.{fit_words}
-use Rattle.nam_script.proofs.Leads.{Leads, leads_none, leads_next, leads_both, each_leads, Leads1, each_line_leads}
+use Rattle.nam_script.proofs.Leads.{Leads, leads_none, leads_next, leads_both, Leads1, each_line_leads}
 use Rattle.nam_script.proofs.Leads.{ok_goes, must_goes, within_goes, total_goes, all_small_goes, all_stints_go, keys_go}
 use Rattle.nam_script.proofs.Leads.{keys_grow}
-use Rattle.nam_script.proofs.Fronts.{all_at, all_front, all_rest, AreFirst, front_fits, name_is_new, found_at, finds}
-use Rattle.nam_script.proofs.Fronts.{name_at, width_at, place_below, row_is_new, row_has_room}
-use Rattle.nam_script.proofs.Drafts.{after, after_more, after_some, after_passes, after_fails, loaded, ended, tabled}
-use Rattle.nam_script.proofs.Drafts.{rowed, last_worker, last_more, ran, opened, in_all, turned, seeded}
+use Rattle.nam_script.proofs.Fronts.{all_at, all_front, all_rest, AreFirst, found_at, finds}
+use Rattle.nam_script.proofs.Fronts.{name_at, width_at, place_below}
+use Rattle.nam_script.proofs.Drafts.{after, after_more, after_passes, loaded, ended}
+use Rattle.nam_script.proofs.Drafts.{last_worker, last_more, ran, opened, in_all, turned, seeded}
 
 -- ---- operations
 
@@ -67,8 +55,7 @@ op_is_good ts (op.Get t k) named sized fit num = (name_at ts t named (place_belo
 op_is_good ts (op.Put t k v) named sized fit num =
     let lt = place_below ts t fit.0.0 in
     let wide = width_at ts t sized lt in
-    let count = length-map v (λ (n : ℕ). Some n) in
-    (
+    let count = length-map v (λ (n : ℕ). Some n) in (
       name_at ts t named lt,
       (
         omega (arith, num.0),
@@ -77,8 +64,7 @@ op_is_good ts (op.Put t k v) named sized fit num =
     )
 op_is_good ts (op.Add t k f up by) named sized fit num =
     let lt = place_below ts t fit.0.0 in
-    let wide = width_at ts t sized lt in
-    (
+    let wide = width_at ts t sized lt in (
       name_at ts t named lt,
       (
         omega (arith, num.0),
@@ -203,8 +189,7 @@ op_leads s is xs x at before o rest all =
     (arith, grown, has.claims, ap (λ (os : List Op). length (keys_from key_claimed [] os)) all) in
     let spent = ops_cost_both caps before (o ∷ rest) in
     let most : d.body.cost + op_cost caps o ≤ 65536 = omega (arith, at.cost, spent, ap (ops_cost caps) all) in
-    let room : length before < 32 = omega (arith, has.few, ap length all, length-append before (o ∷ rest)) in
-    (
+    let room : length before < 32 = omega (arith, has.few, ap length all, length-append before (o ∷ rest)) in (
       op_is_good ts o is.names sized fit num,
       op_goes d o _ refl limits.names fit num (push_goes d o (op_cost caps o) room most few ∙ more_op s xs x.worker
           before o claimed (d.body.cost + op_cost caps o) (sym (keys_both key_claimed [] before (o ∷ [])))
@@ -338,8 +323,7 @@ group_leads s is gs fit most short before g rest all =
       steps_both g (in_all rest),
     ) in
     let more : in_all before ++ g ≡ in_all (before ++ g ∷ []) = ap (λ (x : List Stint). in_all before ++ x)
-    (sym (append-nil g)) ∙ sym (in_all_both before (g ∷ [])) in
-    (
+    (sym (append-nil g)) ∙ sym (in_all_both before (g ∷ [])) in (
       (stints_good workers g limits.most_workers fits, omega (arith, len.0, count), omega (arith, len.1, count)),
       must_goes (takes_turns (after (ended s) stage.Turns before)) kind.Word _ _
           (after_passes takes_turns (ended s) stage.Turns before (ended_takes s) refl)

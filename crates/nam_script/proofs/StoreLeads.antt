@@ -1,18 +1,13 @@
 -- The lines of a script as far as its loaded rows lead to the draft of them.
-use Rattle.std.proofs.Common.{◌≡◌, ℕ, ◌+◌, ◌^◌, ◌<◌, ◌≤◌, Bool, true, false, cond, eqb, ltb, leb, not, List, [], ◌∷◌, ◌++◌, map, length, Option}
-use Rattle.std.proofs.Common.{Some, None, Result, Ok, refl, sym, ap, ◌∙◌, subst, arith, length-append}
+use Rattle.std.proofs.Common.{◌≡◌, ℕ, ◌^◌, ◌<◌, ◌≤◌, true, eqb, ltb, not, List, [], ◌∷◌, ◌++◌, length}
+use Rattle.std.proofs.Common.{Some, Ok, refl, sym, ap, ◌∙◌, subst, arith, length-append}
 use Rattle.std.proofs.Common.{◌-◌, append_assoc}
 use Rattle.std.specs.Prelude.{is_ok, is_some, slice_index}
-use Rattle.std.specs.List.{AllByRecursion, flat_map}
-use Rattle.std.proofs.lemmas.Bool.{eq-eqb, lt-ltb, le-leb}
-use Rattle.std.proofs.lemmas.List.{append-nil, length-map}
+use Rattle.std.specs.List.{AllByRecursion}
+use Rattle.std.proofs.lemmas.Bool.{eq-eqb, lt-ltb}
+use Rattle.std.proofs.lemmas.List.{length-map}
 use Rattle.std.proofs.lemmas.List.Elements.{recursion_from_All}
-use Rattle.std.proofs.lemmas.Grind.{flat_map-append}
-use Rattle.std.proofs.lemmas.Option.{same_Some}
 use Rattle.si_model.specs.declared.row.Row.{Row}
-use Rattle.si_model.specs.declared.op.Op.{Op}
-use Rattle.si_model.specs.declared.op.Op.TheVariants as op
-use Rattle.si_model.specs.Evaluation.{OpFits, key_claimed, keys_from}
 use Rattle.nam_catalog.specs.declared.shape.Table.{Table}
 use Rattle.nam_catalog.specs.Greatest.{greatest_number}
 use Rattle.nam_catalog.specs.declared.form.Form.{Form}
@@ -22,37 +17,24 @@ use Rattle.nam_catalog.specs.Limits.{fault_of}
 use Rattle.nam_catalog.specs.Fits.{FitsTable, FitsLimits}
 use Rattle.nam_catalog.proofs.FitsLemmas.{fits_limits, has_no_fault}
 use Rattle.nam_text.specs.Spelling.{FitsWord}
-use Rattle.nam_script.specs.declared.refusal.Kind.{Kind}
 use Rattle.nam_script.specs.declared.refusal.Kind.TheVariants as kind
-use Rattle.nam_script.specs.declared.refusal.ParseEnd.{ParseEnd}
-use Rattle.nam_script.specs.declared.checks.Found.{Found}
-use Rattle.nam_script.specs.declared.line.Line.{Line}
 use Rattle.nam_script.specs.declared.line.Line.TheVariants as line
-use Rattle.nam_script.specs.declared.script.ScriptTxn.{ScriptTxn}
-use Rattle.nam_script.specs.declared.script.Stint.{Stint}
-use Rattle.nam_script.specs.declared.script.Turns.{Turns}
-use Rattle.nam_script.specs.declared.script.Turns.TheVariants as turns
 use Rattle.nam_script.specs.declared.script.Script.{Script}
 use Rattle.nam_script.specs.declared.draft.Draft.{Draft}
 use Rattle.nam_script.specs.declared.stage.Stage.{Stage}
 use Rattle.nam_script.specs.declared.stage.Stage.TheVariants as stage
-use Rattle.nam_script.specs.Lines.{FitsStint, spelt_line}
-use Rattle.nam_script.specs.Stages.{is_at, takes_table, takes_row, is_loaded, takes_turns, can_end}
-use Rattle.nam_script.specs.Checks.{within, small, all_small, key_of, all_stints, place_of, is_given, rows_in}
-use Rattle.nam_script.specs.Checks.{total_within, steps_of, op_cost, ops_cost, txns_cost, keys_after}
-use Rattle.nam_script.specs.Admit.{no_body, start, is_held, with_table, push_op, admit}
-use Rattle.nam_script.specs.Parse.{whole_script, turns_of, script_of, Gives}
-use Rattle.nam_script.specs.Limits.{IsNamed, AreDistinct, Fits64Bits, IsKey, OpNumbersFit, TxnFits, StintFits, TurnsFit, IsScript}
-use Rattle.nam_script.specs.Spelling.{IsGood, somes, spelt, setting_lines, table_line, row_line, op_line, txn_lines}
-use Rattle.nam_script.specs.Spelling.{turns_line, line_text, text_of}
-use Rattle.nam_script.specs.Text.{settings_text, table_text, row_text, txn_text, group_text, IsSpelt}
-use Rattle.nam_script.proofs.Leads.{Leads, leads_none, leads_next, leads_both, each_leads, Leads1, each_line_leads}
-use Rattle.nam_script.proofs.Leads.{ok_goes, must_goes, within_goes, total_goes, all_small_goes, all_stints_go, keys_go}
-use Rattle.nam_script.proofs.Leads.{keys_grow}
-use Rattle.nam_script.proofs.Fronts.{all_at, all_front, all_rest, AreFirst, front_fits, name_is_new, found_at, finds}
+use Rattle.nam_script.specs.Lines.{spelt_line}
+use Rattle.nam_script.specs.Stages.{takes_table, takes_row}
+use Rattle.nam_script.specs.Checks.{within, all_small, key_of, place_of, is_given, rows_in}
+use Rattle.nam_script.specs.Admit.{start, is_held, admit}
+use Rattle.nam_script.specs.Limits.{IsNamed, AreDistinct, Fits64Bits, IsScript}
+use Rattle.nam_script.specs.Spelling.{somes, setting_lines, table_line, row_line}
+use Rattle.nam_script.proofs.Leads.{Leads, leads_none, leads_next, Leads1}
+use Rattle.nam_script.proofs.Leads.{ok_goes, must_goes, within_goes, all_small_goes}
+use Rattle.nam_script.proofs.Fronts.{all_at, AreFirst, front_fits, name_is_new, found_at, finds}
 use Rattle.nam_script.proofs.Fronts.{name_at, width_at, place_below, row_is_new, row_has_room}
-use Rattle.nam_script.proofs.Drafts.{after, after_more, after_some, after_passes, after_fails, loaded, ended, tabled}
-use Rattle.nam_script.proofs.Drafts.{rowed, last_worker, last_more, ran, opened, in_all, turned, seeded}
+use Rattle.nam_script.proofs.Drafts.{after, after_more, after_passes, tabled}
+use Rattle.nam_script.proofs.Drafts.{rowed}
 
 -- ---- settings
 
@@ -114,8 +96,7 @@ table_leads s is before t rest all =
     let split : before ++ t ∷ rest ≡ (before ++ t ∷ []) ++ rest = sym (append_assoc before (t ∷ []) rest) in
     let front = front_fits s.shape (before ++ t ∷ []) rest (subst (AllByRecursion FitsTable) split fit)
     (omega (arith, length-append before (t ∷ [])))
-    (subst (λ (ts : List Table). FitsLimits (record s.shape { tables = ts })) (sym all ∙ split) limits) in
-    (
+    (subst (λ (ts : List Table). FitsLimits (record s.shape { tables = ts })) (sym all ∙ split) limits) in (
       (named, (omega (arith, fits.most_width), (omega (arith, fits.most_capacity), omega (arith, fits.most_ring)))),
       must_goes (takes_table (after stage.Overflow stage.Tables before)) kind.Word _ _
           (after_passes takes_table stage.Overflow stage.Tables before refl refl)
@@ -137,7 +118,8 @@ pub fit_words : (vs : List ℕ) → AllByRecursion Fits64Bits vs → AllByRecurs
 fit_words [] h = tt
 fit_words (v ∷ vs) h = (h.0, fit_words vs h.1)
 
-pub row_leads : (s : Script) → IsScript s → (before : List Row) (r : Row) (rest : List Row) → before ++ r ∷ rest ≡ s.rows
+pub row_leads : (s : Script) → IsScript s → (before : List Row) (r : Row) (rest : List Row)
+    → before ++ r ∷ rest ≡ s.rows
     → Leads1 (rowed s before) (row_line s.shape.tables r) (rowed s (before ++ r ∷ []))
 unfolding admit spelt_line
 row_leads s is before r rest all =
@@ -151,8 +133,7 @@ row_leads s is before r rest all =
     (subst (λ (rs : List Row). rows_in rs r.table ≤ slice_index (capacities_of ts) r.table) (sym all)
     (is.rows.loaded r.table lt)) in
     let wide = width_at ts r.table (recursion_from_All FitsTable ts limits.tables) lt in
-    let count = length-map r.value (λ (n : ℕ). Some n) in
-    (
+    let count = length-map r.value (λ (n : ℕ). Some n) in (
       (
         name_at ts r.table is.names lt,
         (

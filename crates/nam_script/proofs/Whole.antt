@@ -1,34 +1,12 @@
 -- What spells a script within the limits is read as that script.
-use Rattle.std.proofs.Common.{◌≡◌, ℕ, ◌+◌, ◌^◌, ◌<◌, ◌≤◌, Bool, true, false, cond, eqb, ltb, leb, not, List, [], ◌∷◌, ◌++◌, map, length, Option}
-use Rattle.std.proofs.Common.{Some, None, Result, Ok, refl, sym, ap, ◌∙◌, subst, arith, length-append}
-use Rattle.std.proofs.Common.{◌-◌, append_assoc}
-use Rattle.std.specs.Prelude.{is_ok, is_some, slice_index}
+use Rattle.std.proofs.Common.{◌≡◌, ℕ, ◌≤◌, Bool, true, false, cond, List, [], ◌∷◌, ◌++◌, map, length}
+use Rattle.std.proofs.Common.{Some, Result, Ok, refl, sym, ap, ◌∙◌, subst}
 use Rattle.std.specs.List.{AllByRecursion, flat_map}
-use Rattle.std.proofs.lemmas.Bool.{eq-eqb, lt-ltb, le-leb}
-use Rattle.std.proofs.lemmas.List.{append-nil, length-map}
-use Rattle.std.proofs.lemmas.List.Elements.{recursion_from_All}
-use Rattle.std.proofs.lemmas.Grind.{flat_map-append}
-use Rattle.std.proofs.lemmas.Option.{same_Some}
-use Rattle.si_model.specs.declared.row.Row.{Row}
-use Rattle.si_model.specs.declared.op.Op.{Op}
-use Rattle.si_model.specs.declared.op.Op.TheVariants as op
-use Rattle.si_model.specs.Evaluation.{OpFits, key_claimed, keys_from}
-use Rattle.nam_catalog.specs.declared.shape.Table.{Table}
-use Rattle.nam_catalog.specs.Greatest.{greatest_number}
-use Rattle.nam_catalog.specs.declared.form.Form.{Form}
-use Rattle.nam_catalog.specs.declared.form.Form.TheVariants.{Narrow, Wide, Held}
-use Rattle.nam_catalog.specs.Tables.{name_of, widths_of, capacities_of}
-use Rattle.nam_catalog.specs.Limits.{fault_of}
-use Rattle.nam_catalog.specs.Fits.{FitsTable, FitsLimits}
-use Rattle.nam_catalog.proofs.FitsLemmas.{fits_limits, has_no_fault}
-use Rattle.nam_text.specs.Spelling.{FitsWord}
-use Rattle.nam_script.specs.declared.refusal.Kind.{Kind}
-use Rattle.nam_script.specs.declared.refusal.Kind.TheVariants as kind
+use Rattle.std.proofs.lemmas.List.{append-nil}
+use Rattle.nam_catalog.proofs.FitsLemmas.{fits_limits}
 use Rattle.nam_script.specs.declared.refusal.ParseEnd.{ParseEnd}
-use Rattle.nam_script.specs.declared.checks.Found.{Found}
 use Rattle.nam_script.specs.declared.line.Line.{Line}
 use Rattle.nam_script.specs.declared.line.Line.TheVariants as line
-use Rattle.nam_script.specs.declared.script.ScriptTxn.{ScriptTxn}
 use Rattle.nam_script.specs.declared.script.Stint.{Stint}
 use Rattle.nam_script.specs.declared.script.Turns.{Turns}
 use Rattle.nam_script.specs.declared.script.Turns.TheVariants as turns
@@ -36,28 +14,22 @@ use Rattle.nam_script.specs.declared.script.Script.{Script}
 use Rattle.nam_script.specs.declared.draft.Draft.{Draft}
 use Rattle.nam_script.specs.declared.stage.Stage.{Stage}
 use Rattle.nam_script.specs.declared.stage.Stage.TheVariants as stage
-use Rattle.nam_script.specs.Lines.{FitsStint, spelt_line}
-use Rattle.nam_script.specs.Stages.{is_at, takes_table, takes_row, is_loaded, takes_turns, can_end}
-use Rattle.nam_script.specs.Checks.{within, small, all_small, key_of, all_stints, place_of, is_given, rows_in}
-use Rattle.nam_script.specs.Checks.{total_within, steps_of, op_cost, ops_cost, txns_cost, keys_after}
-use Rattle.nam_script.specs.Admit.{no_body, start, is_held, with_table, push_op, admit}
+use Rattle.nam_script.specs.Stages.{is_at, takes_turns, can_end}
+use Rattle.nam_script.specs.Checks.{steps_of}
+use Rattle.nam_script.specs.Admit.{start}
 use Rattle.nam_script.specs.Parse.{whole_script, turns_of, script_of, Gives}
-use Rattle.nam_script.specs.Limits.{IsNamed, Fits64Bits, IsKey, OpNumbersFit, TxnFits, StintFits, TurnsFit, IsScript}
-use Rattle.nam_script.specs.Spelling.{IsGood, somes, spelt, setting_lines, table_line, row_line, op_line, txn_lines}
+use Rattle.nam_script.specs.Limits.{StintFits, TurnsFit, IsScript}
+use Rattle.nam_script.specs.Spelling.{spelt, setting_lines, table_line, row_line, txn_lines}
 use Rattle.nam_script.specs.Spelling.{turns_line, line_text, text_of}
-use Rattle.nam_script.specs.Text.{settings_text, table_text, row_text, txn_text, group_text, IsSpelt, stints_in, grouped_text}
+use Rattle.nam_script.specs.Text.{settings_text, table_text, row_text, txn_text, IsSpelt, stints_in, grouped_text}
 use Rattle.nam_script.proofs.Concat.{joined}
-use Rattle.nam_script.proofs.Founds.{joined_text, ended_by}
+use Rattle.nam_script.proofs.Founds.{joined_text, ended_by, is_found, is_good}
 use Rattle.nam_script.proofs.Again.{again}
 use Rattle.nam_script.proofs.StoreLeads.{settings_lead, table_leads, row_leads}
 use Rattle.nam_script.proofs.RunLeads.{txn_leads, ended_takes, group_leads, seed_leads}
-use Rattle.nam_script.proofs.Leads.{Leads, leads_none, leads_next, leads_both, each_leads, Leads1, each_line_leads}
-use Rattle.nam_script.proofs.Leads.{ok_goes, must_goes, within_goes, total_goes, all_small_goes, all_stints_go, keys_go}
-use Rattle.nam_script.proofs.Leads.{keys_grow}
-use Rattle.nam_script.proofs.Fronts.{all_at, all_front, all_rest, AreFirst, front_fits, name_is_new, found_at, finds}
-use Rattle.nam_script.proofs.Fronts.{name_at, width_at, place_below, row_is_new, row_has_room}
-use Rattle.nam_script.proofs.Drafts.{after, after_more, after_some, after_passes, after_fails, loaded, ended, tabled}
-use Rattle.nam_script.proofs.Drafts.{rowed, last_worker, last_more, ran, opened, in_all, turned, seeded}
+use Rattle.nam_script.proofs.Leads.{Leads, leads_none, leads_next, leads_both, each_leads, each_line_leads}
+use Rattle.nam_script.proofs.Drafts.{after_some, after_passes, after_fails, loaded, ended, tabled}
+use Rattle.nam_script.proofs.Drafts.{rowed, ran, in_all, turned, seeded}
 
 -- the lines as far as the transactions
 lines_lead : (s : Script) → IsScript s → (ls : List Line) (e : Draft) → Leads (ran s s.txns) ls e
@@ -128,3 +100,6 @@ by_turns s (turns.Seed seed picks) at is text gs stints short spelt r given =
 pub whole : (text : List ℕ) (r : Result Script ParseEnd) → Gives r (script_of text) → (s : Script) → IsScript s
     → IsSpelt s text → Gives r (Ok s)
 whole text r given s is spelt = by_turns s s.turns refl is text spelt.groups spelt.stints spelt.short spelt.is r given
+
+-- what the clauses of the reader say
+pub ruleset parse_laws = (is_found, is_good, again, whole)

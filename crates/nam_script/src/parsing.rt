@@ -72,8 +72,7 @@ fn script_of(alloc: Global, text: &[u8]) -> Result<Script, ParseEnd>
 ///
 /// `Bad` names the first line that is no line of a script after the lines before it, and the first kind of fault that
 /// it has; `Memory` is want of memory.
-#[tactic(auto, using(crate::proofs::Founds::is_found, crate::proofs::Founds::is_good, crate::proofs::Again::again,
-    crate::proofs::Whole::whole))]
+#[tactic(auto, using(crate::proofs::Whole::parse_laws))]
 pub fn parse(alloc: Global, bytes: &[u8]) -> Result<Script, ParseEnd>
     // The script that the bytes spell, or the first bad line and the first of its kinds.
     ensures exact { Gives result (script_of bytes.now) }

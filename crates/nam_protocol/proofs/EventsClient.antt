@@ -1,14 +1,12 @@
 -- How many events a client lists with each word and each answer, and when a transaction is open.
-use Rattle.std.proofs.Common.{◌≡◌, ℕ, ◌+◌, ◌<◌, ◌≤◌, List, [], ◌∷◌, ◌++◌, length, length-append, refl, sym, ◌∙◌, ap, subst}
+use Rattle.std.proofs.Common.{◌≡◌, ℕ, ◌+◌, ◌≤◌, List, [], ◌∷◌, ◌++◌, length, length-append, refl, sym, subst}
 use Rattle.std.proofs.Common.{arith, Bool, true, false, Option, Some, None}
 use Rattle.std.specs.Prelude.{if◌then◌else◌, is_some, IsSome}
 use Rattle.std.proofs.lemmas.Bool.{false≢true}
 use Rattle.si_model.specs.declared.log.Event.{Event}
 use Rattle.si_model.specs.declared.log.Stamp.{Stamp}
 use Rattle.si_model.specs.declared.log.Log.{Log}
-use Rattle.si_model.specs.declared.op.Op.{Op}
 use Rattle.si_model.specs.Rows.{key_at, writes_key}
-use Rattle.si_model.specs.declared.op.Op.TheVariants as op
 use Rattle.nam_verbs.specs.declared.now.Now.{Now}
 use Rattle.nam_verbs.specs.declared.now.Now.TheVariants.{At, Over}
 use Rattle.nam_catalog.specs.declared.shape.Shape.{Shape}
@@ -47,12 +45,12 @@ use Rattle.nam_protocol.specs.declared.client.ClientState.{ClientState}
 use Rattle.nam_protocol.specs.Operations.{own_value}
 use Rattle.nam_protocol.specs.TxnCalls.{txn_ask, txn_after, taken_at, taken_now}
 use Rattle.nam_protocol.specs.Scan.{scan_skip, scan_read, scan_after, position_of}
-use Rattle.nam_protocol.specs.Log.{with_locks, with_event}
+use Rattle.nam_protocol.specs.Log.{with_locks}
 use Rattle.nam_protocol.specs.Telling.{new_locks, on_call, stepped}
 use Rattle.nam_protocol.specs.ScanCall.{gathered, on_skip, on_scan}
 use Rattle.nam_protocol.specs.Client.{counted, ask_txn, ask_scan, client_ask, on_begin, on_seek, on_move, on_snap}
 use Rattle.nam_protocol.specs.Client.{on_collect, take_txn, take_scan, call_after}
-use Rattle.nam_protocol.specs.CutClient.{cut_in_txn, cut_open, left_open, cut_move, cut_call, closed_call}
+use Rattle.nam_protocol.specs.CutClient.{cut_in_txn, cut_open, left_open, cut_move, closed_call}
 use Rattle.nam_protocol.specs.AttemptLaw.{has_passed}
 use Rattle.nam_protocol.specs.ClientFits.{CallPlaceFits, OpenPlaceFits}
 use Rattle.nam_protocol.specs.declared.txn.TxnAnswer.TheVariants as txn_answer

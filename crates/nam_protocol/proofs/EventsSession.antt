@@ -44,15 +44,15 @@ use Rattle.nam_protocol.specs.AttemptLaw.{has_passed}
 use Rattle.nam_protocol.specs.SessionFits.{PlaceRuns, DriverFits}
 use Rattle.nam_protocol.specs.SessionFits.{NowRuns, ops_of, JobFits, SessionFits}
 use Rattle.nam_protocol.specs.RoomLaw.{call_room, DriverCounts, room_left}
+use Rattle.nam_protocol.specs.ClientEvents.{listed, is_open_after, NowLists, ClientLists, NeedsOpen, closing}
 use Rattle.nam_protocol.specs.EventsLaw.{IsReached, is_new, by_word, by_cut, EventsLaw}
 use Rattle.nam_protocol.proofs.RunsClient.{NowDoes}
 use Rattle.nam_protocol.proofs.EndsDriver.{AsksFrom, calls_from}
 use Rattle.nam_protocol.proofs.EndsSession.{IsReady, asks, taken_ready, nth_holds, is_open, takes_word, new_ready}
 use Rattle.nam_protocol.proofs.EndsSession.{new_session_ends, session_word, session_cut_ends}
 use Rattle.nam_protocol.proofs.RoomDriver.{room_suffices}
-use Rattle.nam_protocol.proofs.EventsClient.{NowLists, ClientLists, NeedsOpen, closing, word_lists, ask_lists, closed_lists}
+use Rattle.nam_protocol.proofs.EventsClient.{word_lists, ask_lists, closed_lists}
 use Rattle.nam_protocol.proofs.RunsClient.{AskAnswered, TidyAnswered, CollectAnswered, IsAnswered}
-use Rattle.nam_protocol.proofs.EventsClient.{listed, is_open_after}
 use Rattle.nam_protocol.specs.declared.txn.TxnAnswer.TheVariants as txn_answer
 use Rattle.nam_protocol.specs.declared.client.Answer.TheVariants as answer
 

@@ -27,5 +27,6 @@ pub mod Grows
 pub mod SessionFits
 pub mod EndsLaw
 pub mod RoomLaw
+pub mod ClientEvents
 pub mod EventsLaw
 pub mod ProgramCommit

@@ -1,19 +1,17 @@
 -- What follows an answer: the driver's next call and all after it take no more verbs than were left, and fewer calls
 -- follow without a verb.
-use Rattle.std.proofs.Common.{◌≡◌, ◌≢◌, ℕ, zero, suc, ◌+◌, ◌-◌, ◌*◌, ◌<◌, ◌≤◌, List, [], ◌∷◌, length, drop, take, refl, sym}
-use Rattle.std.proofs.Common.{◌∙◌, ap, subst, arith, Bool, true, false, not, Option, Some, None, inl, inr}
+use Rattle.std.proofs.Common.{◌≡◌, ℕ, zero, suc, ◌+◌, ◌-◌, ◌*◌, ◌<◌, ◌≤◌, List, [], ◌∷◌, length, drop, take, refl, sym}
+use Rattle.std.proofs.Common.{ap, subst, arith, Bool, true, false, not, Option, Some, None}
 use Rattle.std.proofs.Math.Nat.{suc-mul}
 use Rattle.std.proofs.Math.Numerals.{add-one}
 use Rattle.std.specs.Prelude.{◌==◌, ◌||◌, if◌then◌else◌, slice_get, is_some}
 use Rattle.std.specs.List.{AllByRecursion}
-use Rattle.std.proofs.lemmas.Bool.{cases_Bool, false≢true}
+use Rattle.std.proofs.lemmas.Bool.{false≢true}
 use Rattle.std.proofs.lemmas.Bool.Decides.{nat_tests}
 use Rattle.std.proofs.lemmas.List.{length-map}
-use Rattle.std.proofs.lemmas.Option.{slice_get_within}
 use Rattle.si_model.specs.declared.row.Key.{Key}
 use Rattle.si_model.specs.declared.op.Op.{Op}
 use Rattle.si_model.specs.declared.op.Op.TheVariants.{Get, Put, Add, Del, Need, Guard, Scan}
-use Rattle.si_model.specs.declared.op.Policy.{Policy}
 use Rattle.si_model.specs.declared.log.Lock.{Lock}
 use Rattle.si_model.specs.Rows.{key_at}
 use Rattle.si_model.specs.Evaluation.{OpFits, guarded, key_written, keys_from, written_keys}
@@ -35,12 +33,11 @@ use Rattle.nam_protocol.specs.Driver.{key_number, next_job, next_try, retried, t
 use Rattle.nam_protocol.specs.Driver.{on_txn, on_begin, on_ask, on_tidy, place_taken}
 use Rattle.nam_protocol.specs.AttemptLaw.{has_passed}
 use Rattle.nam_protocol.specs.Bound.{op_bound, ops_bound, tidy_bound, collect_bound}
-use Rattle.nam_protocol.specs.Left.{key_bound, keys_bound, keys_after, commit_bound, try_bound, jobs_bound}
+use Rattle.nam_protocol.specs.Left.{key_bound, keys_bound, commit_bound, try_bound, jobs_bound}
 use Rattle.nam_protocol.specs.Left.{after_call_bound, rest_bound}
 use Rattle.nam_protocol.specs.SessionFits.{OpenAsked, ops_of, JobFits, AreOfTables, TidiesFit, DriverPlaceFits}
 use Rattle.nam_protocol.specs.SessionFits.{DriverFits}
 use Rattle.nam_protocol.proofs.FallsKeys.{all_guarded}
-use Rattle.nam_protocol.proofs.RunsTxn.{FullFits}
 use Rattle.nam_protocol.proofs.RunsClient.{HasPassed, TxnAnswered, AskAnswered, TidyAnswered, IsAnswered}
 use Rattle.nam_protocol.specs.declared.txn.TxnAnswer.TheVariants as txn_answer
 use Rattle.nam_protocol.specs.declared.client.Answer.TheVariants as answer

@@ -23,7 +23,6 @@ use Rattle.nam_calls.specs.Fits.{IsOf, IsTableOf}
 use Rattle.nam_calls.proofs.FallsTests.{either}
 use Rattle.nam_protocol.specs.declared.txn.TxnCall.{TxnCall}
 use Rattle.nam_protocol.specs.declared.txn.TxnCall.TheVariants.{Get, Put, Add, Del, Need, Guard, Commit}
-use Rattle.nam_protocol.specs.declared.client.Call.{Call}
 use Rattle.nam_protocol.specs.declared.client.Call.TheVariants.{Begin, Txn, Scan, Tidy, Collect}
 use Rattle.nam_protocol.specs.declared.client.Answer.{Answer}
 use Rattle.nam_protocol.specs.declared.client.CallPlace.{CallPlace}
@@ -41,17 +40,17 @@ use Rattle.nam_protocol.specs.Client.{counted, ask_txn, ask_scan, client_ask, ve
 use Rattle.nam_protocol.specs.CutClient.{client_cut}
 use Rattle.nam_protocol.specs.Driver.{new_driver, call_of, op_call, key_number, place_call, job_call, driver_next}
 use Rattle.nam_protocol.specs.Driver.{driver_take}
-use Rattle.nam_protocol.specs.Session.{answer_now, calls_at_most, taken, settle, settled, new_session, session_verb}
-use Rattle.nam_protocol.specs.Session.{session_after, has_ended, session_cut}
-use Rattle.nam_protocol.specs.Bound.{op_bound, verb_bound}
+use Rattle.nam_protocol.specs.Session.{answer_now, calls_at_most, taken, settle, new_session, session_verb}
+use Rattle.nam_protocol.specs.Session.{session_after, has_ended}
+use Rattle.nam_protocol.specs.Bound.{op_bound}
 use Rattle.nam_protocol.specs.Left.{left_of, client_left, commit_bound, try_bound, jobs_bound, after_call_bound}
 use Rattle.nam_protocol.specs.Left.{rest_bound, session_left}
 use Rattle.nam_protocol.specs.AttemptLaw.{HasAsked}
 use Rattle.nam_protocol.specs.TxnFits.{TxnCallFits, txn_call_bound}
-use Rattle.nam_protocol.specs.ClientFits.{OpenFits, NowFits, CallPlaceFits, ClientFits, CallFits, open_bound, call_bound}
+use Rattle.nam_protocol.specs.ClientFits.{NowFits, CallPlaceFits, ClientFits, open_bound}
 use Rattle.nam_protocol.specs.SessionFits.{OpenAsked, NowRuns, is_running, ops_of, JobFits, DriverPlaceFits, DriverFits}
-use Rattle.nam_protocol.specs.SessionFits.{SessionFits, IsSettled}
-use Rattle.nam_protocol.specs.EndsLaw.{FitsWithin, SettlesLaw, NewSessionLaw, SessionWordLaw, SessionCutLaw}
+use Rattle.nam_protocol.specs.SessionFits.{SessionFits}
+use Rattle.nam_protocol.specs.EndsLaw.{FitsWithin, SettlesLaw, SessionCutLaw}
 use Rattle.nam_protocol.proofs.FallsKeys.{all_at}
 use Rattle.nam_protocol.proofs.FallsAttempt.{ask_asks, attempt_bound}
 use Rattle.nam_protocol.proofs.FallsClient.{client_falls, client_begins}

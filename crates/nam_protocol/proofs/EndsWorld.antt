@@ -1,35 +1,32 @@
 -- A world's verbs to come fall with each turn, and so each simulated run reaches its end.
 use Rattle.std.proofs.Common.{◌≡◌, ℕ, zero, suc, ◌+◌, ◌-◌, ◌<◌, ◌≤◌, List, [], ◌∷◌, length, refl, sym, ◌∙◌, ap, subst}
 use Rattle.std.proofs.Common.{arith, inl, inr, ◌⊎◌, Bool, true, false, Option, Some, None}
-use Rattle.std.specs.Prelude.{◌==◌, ◌||◌, if◌then◌else◌, map, slice_get, slice_set, option_map, is_some, IsSome}
+use Rattle.std.specs.Prelude.{◌==◌, ◌||◌, map, slice_get, slice_set, option_map, is_some, IsSome}
 use Rattle.std.specs.List.{AllByRecursion, list_any}
 use Rattle.std.proofs.lemmas.Bool.{false≢true}
 use Rattle.std.proofs.lemmas.List.{length-set, length-map}
 use Rattle.si_model.specs.declared.op.Policy.{Policy}
 use Rattle.si_model.specs.Evaluation.{OpFits}
-use Rattle.nam_verbs.specs.declared.verb.Verb.{Verb}
 use Rattle.nam_verbs.specs.Verb.{found_by, after_verb}
 use Rattle.nam_verbs.specs.VerbAt.{VerbAt}
-use Rattle.nam_verbs.proofs.TestLemmas.{by_test}
 use Rattle.nam_catalog.specs.declared.shape.Shape.{Shape}
 use Rattle.nam_catalog.specs.Fits.{FitsLimits}
 use Rattle.nam_catalog.specs.Tables.{widths_of}
 use Rattle.nam_layout.specs.declared.field.Field.{Field}
 use Rattle.nam_calls.specs.Memory.{verb_there}
-use Rattle.nam_calls.specs.Fits.{IsOf}
 use Rattle.nam_calls.proofs.FallsTests.{either}
 use Rattle.nam_protocol.specs.declared.session.Job.{Job}
 use Rattle.nam_protocol.specs.declared.session.SessionState.{SessionState}
 use Rattle.nam_protocol.specs.Session.{session_verb, session_after, session_cut}
-use Rattle.nam_protocol.specs.World.{World, Turn, Step, Cut, session_of, with_session, verb_in, world_verb, taken_by}
+use Rattle.nam_protocol.specs.World.{World, Turn, Step, Cut, session_of, with_session, verb_in}
 use Rattle.nam_protocol.specs.World.{step_by, step_of, step, cut_of, cut, after_turn, new_sessions, HasNoVerb, HasEnded}
-use Rattle.nam_protocol.specs.Schedule.{Line, Run, Owned, Scenario, Simulated, numbers_from, turn_by, turn_on, turn_of}
+use Rattle.nam_protocol.specs.Schedule.{Line, Run, Owned, Simulated, numbers_from, turn_by, turn_on, turn_of}
 use Rattle.nam_protocol.specs.Schedule.{after_workers, after_round, after_rounds, scheduled, jobs_of, all_jobs, opened}
-use Rattle.nam_protocol.specs.Schedule.{refuses_next, simulated, is_live, until_ended, run_to_end}
-use Rattle.nam_protocol.specs.Left.{jobs_bound, session_left}
+use Rattle.nam_protocol.specs.Schedule.{refuses_next, is_live, until_ended, run_to_end}
+use Rattle.nam_protocol.specs.Left.{session_left}
 use Rattle.nam_protocol.specs.SessionFits.{JobFits, SessionFits}
-use Rattle.nam_protocol.specs.EndsLaw.{sessions_left, world_left, WorldFits, worker_in, TurnFalls, TurnLaw}
-use Rattle.nam_protocol.specs.EndsLaw.{ScenarioFits, lists_bound, scenario_bound, ReachesEnd, EndsLaw}
+use Rattle.nam_protocol.specs.EndsLaw.{sessions_left, world_left, WorldFits, worker_in, TurnLaw}
+use Rattle.nam_protocol.specs.EndsLaw.{lists_bound, EndsLaw}
 use Rattle.nam_protocol.proofs.Rounds.{rounds_rest, simulated_once}
 use Rattle.nam_protocol.proofs.EndsSession.{nth_holds, new_session_ends, session_word, session_cut_ends}
 
@@ -260,8 +257,8 @@ module _ (shape : Shape) (limits : FitsLimits shape) where
       elim a.ends [
         | inl less ↦ rounds_end rounds (after_round shape run) a.fits (let m = a.many in omega arith) (omega arith)
         | inr none ↦
-          let ended = all_ended run few none in
-          subst (λ (r : Run). HasEnded shape r.world) (sym (rounds_rest shape run ended (suc rounds))) ended
+            let ended = all_ended run few none in
+            subst (λ (r : Run). HasEnded shape r.world) (sym (rounds_rest shape run ended (suc rounds))) ended
       ]
 
   -- 4. The rounds as they are computed

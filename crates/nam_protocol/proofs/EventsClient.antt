@@ -1,14 +1,12 @@
 -- How many events a client lists with each word and each answer, and when a transaction is open.
-use Rattle.std.proofs.Common.{◌≡◌, ℕ, ◌+◌, ◌<◌, ◌≤◌, List, [], ◌∷◌, ◌++◌, length, length-append, refl, sym, ◌∙◌, ap, subst}
+use Rattle.std.proofs.Common.{◌≡◌, ℕ, ◌+◌, ◌≤◌, List, [], ◌∷◌, ◌++◌, length, length-append, refl, sym, subst}
 use Rattle.std.proofs.Common.{arith, Bool, true, false, Option, Some, None}
 use Rattle.std.specs.Prelude.{if◌then◌else◌, is_some, IsSome}
 use Rattle.std.proofs.lemmas.Bool.{false≢true}
 use Rattle.si_model.specs.declared.log.Event.{Event}
 use Rattle.si_model.specs.declared.log.Stamp.{Stamp}
 use Rattle.si_model.specs.declared.log.Log.{Log}
-use Rattle.si_model.specs.declared.op.Op.{Op}
 use Rattle.si_model.specs.Rows.{key_at, writes_key}
-use Rattle.si_model.specs.declared.op.Op.TheVariants as op
 use Rattle.nam_verbs.specs.declared.now.Now.{Now}
 use Rattle.nam_verbs.specs.declared.now.Now.TheVariants.{At, Over}
 use Rattle.nam_catalog.specs.declared.shape.Shape.{Shape}
@@ -47,49 +45,19 @@ use Rattle.nam_protocol.specs.declared.client.ClientState.{ClientState}
 use Rattle.nam_protocol.specs.Operations.{own_value}
 use Rattle.nam_protocol.specs.TxnCalls.{txn_ask, txn_after, taken_at, taken_now}
 use Rattle.nam_protocol.specs.Scan.{scan_skip, scan_read, scan_after, position_of}
-use Rattle.nam_protocol.specs.Log.{with_locks, with_event}
+use Rattle.nam_protocol.specs.Log.{with_locks}
 use Rattle.nam_protocol.specs.Telling.{new_locks, on_call, stepped}
 use Rattle.nam_protocol.specs.ScanCall.{gathered, on_skip, on_scan}
 use Rattle.nam_protocol.specs.Client.{counted, ask_txn, ask_scan, client_ask, on_begin, on_seek, on_move, on_snap}
-use Rattle.nam_protocol.specs.Client.{on_collect, take_txn, take_scan, call_after}
-use Rattle.nam_protocol.specs.CutClient.{cut_in_txn, cut_open, left_open, cut_move, cut_call, closed_call}
-use Rattle.nam_protocol.specs.AttemptLaw.{has_passed}
+use Rattle.nam_protocol.specs.Client.{on_collect, take_txn, take_scan, call_after, after_call}
+use Rattle.nam_protocol.specs.CutClient.{cut_in_txn, cut_open, left_open, cut_move, closed_call}
 use Rattle.nam_protocol.specs.ClientFits.{CallPlaceFits, OpenPlaceFits}
+use Rattle.nam_protocol.specs.ClientEvents.{ClientLists, NeedsOpen, closing, ClientEvents, ClientEventsLaw}
 use Rattle.nam_protocol.specs.declared.txn.TxnAnswer.TheVariants as txn_answer
 use Rattle.nam_protocol.specs.declared.scan.ScanAnswer.TheVariants as scan_answer
 use Rattle.nam_protocol.specs.declared.client.Answer.TheVariants as answer
 
--- 1. What an answer lists
-
--- an attempt is listed when it ends, and a tidying or a collection with its answer
-abbrev pub listed : Answer → ℕ
-listed (answer.Begun prefix) = 0
-listed (answer.Txn end) = if has_passed end then 0 else 1
-listed (answer.Scanned items) = 0
-listed _ = 1
-
--- is a transaction open after the answer, where one was before or not
-abbrev pub is_open_after : Bool → Answer → Bool
-is_open_after was (answer.Begun prefix) = true
-is_open_after was (answer.Txn end) = has_passed end
-is_open_after was (answer.Scanned items) = true
-is_open_after was _ = was
-
--- of so many events the client has listed no more but with its answer
-abbrev pub NowLists : ℕ → Bool → List Event → Option Open → Option (Now CallPlace Answer) → Type 0
-NowLists n was events txn None = Unit {0}
-NowLists n was events txn (Some (At at)) = (length events ≤ n) × (is_some txn ≡ was)
-NowLists n was events txn (Some (Over end)) =
-    (length events ≤ n + listed end) × (is_some txn ≡ is_open_after was end)
-
-abbrev pub ClientLists : ℕ → Bool → ClientState → Type 0
-ClientLists n was client = NowLists n was client.log.events client.txn client.call
-
--- a call of a transaction, or a scan, is asked only where one is open
-abbrev pub NeedsOpen : ClientState → Call → Type 0
-NeedsOpen client (Txn call) = IsSome client.txn
-NeedsOpen client (Scan table low high) = IsSome client.txn
-NeedsOpen client call = Unit {0}
+-- 1. Events
 
 one_event : (n : ℕ) (events : List Event) (event : Event) → length events ≤ n → length (events ++ event ∷ []) ≤ n + 1
 one_event n events event l = let e = length-append events (event ∷ []) in omega arith
@@ -268,12 +236,6 @@ module _ (n : ℕ) where
 
 -- 7. A client is closed
 
--- a call that was cut in its middle lists an event, and one that has published one more; so does an open transaction
-abbrev pub closing : Option Open → Option (Now CallPlace Answer) → ℕ
-closing txn (Some (At (InTxn at))) = 2
-closing txn (Some (At place)) = 1
-closing txn _ = if is_some txn then 1 else 0
-
 two_events : (events : List Event) (a b : Event) → length ((events ++ a ∷ []) ++ b ∷ []) ≤ length events + 2
 two_events events a b =
     let one = length-append events (a ∷ []) in
@@ -325,3 +287,13 @@ module _ (shape : Shape) where
       cut_move_lists client table key (bucket_of shape place.row) (move_claimed place at)
   closed_lists client (Some (At (Snapping bucket at))) = one_more client.log.events _
   closed_lists client (Some (At (Collecting bucket prefix seen at))) = one_more client.log.events _
+
+pub client_events : ClientEventsLaw
+client_events shape = record {
+  word = λ client place found e p.
+      subst (λ (now : Option (Now CallPlace Answer)). ClientLists (length client.log.events) (is_some client.txn)
+      (after_call shape client now found)) (sym e)
+      (word_lists (length client.log.events) shape client (omega arith) place found p);
+  asked = λ client call some. ask_lists (length client.log.events) shape client (omega arith) call some;
+  closed = λ client. closed_lists shape client client.call;
+}

@@ -1,15 +1,13 @@
 -- A session lists no more events than the room for its jobs has.
-use Rattle.std.proofs.Common.{◌≡◌, ℕ, zero, suc, ◌+◌, ◌-◌, ◌<◌, ◌≤◌, List, [], ◌∷◌, length, take, refl, sym, ◌∙◌, ap}
+use Rattle.std.proofs.Common.{◌≡◌, ℕ, zero, suc, ◌+◌, ◌≤◌, List, [], ◌∷◌, length, take, refl, sym, ◌∙◌, ap}
 use Rattle.std.proofs.Common.{subst, arith, Bool, true, false, not, Option, Some, None}
 use Rattle.std.specs.Prelude.{◌==◌, ◌||◌, if◌then◌else◌, slice_get, is_some, IsSome}
 use Rattle.std.specs.List.{AllByRecursion}
-use Rattle.std.proofs.lemmas.Bool.{false≢true}
 use Rattle.si_model.specs.declared.row.Key.{Key}
 use Rattle.si_model.specs.declared.op.Op.{Op}
 use Rattle.si_model.specs.declared.op.Policy.{Policy}
 use Rattle.si_model.specs.declared.log.Lock.{Lock}
 use Rattle.si_model.specs.Rows.{key_at}
-use Rattle.si_model.specs.Evaluation.{written_keys}
 use Rattle.si_model.specs.declared.op.Op.TheVariants as op
 use Rattle.nam_verbs.specs.declared.now.Now.{Now}
 use Rattle.nam_verbs.specs.declared.now.Now.TheVariants.{At, Over}
@@ -21,7 +19,6 @@ use Rattle.nam_calls.specs.Fits.{IsOf}
 use Rattle.nam_calls.proofs.FallsTests.{either}
 use Rattle.nam_protocol.specs.declared.txn.TxnAnswer.{TxnAnswer}
 use Rattle.nam_protocol.specs.declared.txn.TxnPlace.{TxnPlace}
-use Rattle.nam_protocol.specs.declared.client.Call.{Call}
 use Rattle.nam_protocol.specs.declared.client.Answer.{Answer}
 use Rattle.nam_protocol.specs.declared.client.CallPlace.{CallPlace}
 use Rattle.nam_protocol.specs.declared.client.CallPlace.TheVariants.{Beginning, InTxn, Scanning, Seeking, Moving}
@@ -34,29 +31,28 @@ use Rattle.nam_protocol.specs.declared.session.DriverPlace.TheVariants.{ToBegin,
 use Rattle.nam_protocol.specs.declared.session.DriverState.{DriverState}
 use Rattle.nam_protocol.specs.declared.session.SessionState.{SessionState}
 use Rattle.nam_protocol.specs.Telling.{new_client}
-use Rattle.nam_protocol.specs.Client.{client_ask, call_after, after_call, client_after}
+use Rattle.nam_protocol.specs.Client.{client_ask, client_after}
 use Rattle.nam_protocol.specs.CutClient.{client_cut}
-use Rattle.nam_protocol.specs.ClientFits.{NowFits, CallPlaceFits, ClientFits}
+use Rattle.nam_protocol.specs.ClientFits.{ClientFits}
 use Rattle.nam_protocol.specs.Session.{answer_now, calls_at_most, taken, settle, session_verb, session_after, session_log}
 use Rattle.nam_protocol.specs.Session.{has_ended, session_cut}
-use Rattle.nam_protocol.specs.Driver.{new_driver, op_call, place_call, job_call, driver_next, driver_take, next_job, next_try}
+use Rattle.nam_protocol.specs.Driver.{new_driver, op_call, place_call, job_call, driver_next, next_job, next_try}
 use Rattle.nam_protocol.specs.Driver.{retried, tidying, on_full, keys_of_job, on_commit, on_txn, on_begin, on_ask, on_tidy}
 use Rattle.nam_protocol.specs.Driver.{place_taken}
 use Rattle.nam_protocol.specs.Left.{Room, room_for}
 use Rattle.nam_protocol.specs.AttemptLaw.{has_passed}
-use Rattle.nam_protocol.specs.SessionFits.{PlaceRuns, DriverPlaceFits, DriverFits}
-use Rattle.nam_protocol.specs.SessionFits.{NowRuns, is_running, ops_of, JobFits, SessionFits}
-use Rattle.nam_protocol.specs.RoomLaw.{call_room, PlaceCounts, DriverCounts, room_left}
+use Rattle.nam_protocol.specs.SessionFits.{PlaceRuns, DriverFits}
+use Rattle.nam_protocol.specs.SessionFits.{NowRuns, ops_of, JobFits, SessionFits}
+use Rattle.nam_protocol.specs.RoomLaw.{call_room, DriverCounts, room_left}
+use Rattle.nam_protocol.specs.ClientEvents.{listed, is_open_after, NowLists, ClientLists, NeedsOpen, closing}
 use Rattle.nam_protocol.specs.EventsLaw.{IsReached, is_new, by_word, by_cut, EventsLaw}
-use Rattle.nam_protocol.proofs.FallsClient.{client_falls}
-use Rattle.nam_protocol.proofs.RunsClient.{NowDoes, ClientDoes, word_does}
+use Rattle.nam_protocol.proofs.RunsClient.{NowDoes}
 use Rattle.nam_protocol.proofs.EndsDriver.{AsksFrom, calls_from}
 use Rattle.nam_protocol.proofs.EndsSession.{IsReady, asks, taken_ready, nth_holds, is_open, takes_word, new_ready}
 use Rattle.nam_protocol.proofs.EndsSession.{new_session_ends, session_word, session_cut_ends}
 use Rattle.nam_protocol.proofs.RoomDriver.{room_suffices}
-use Rattle.nam_protocol.proofs.EventsClient.{NowLists, ClientLists, NeedsOpen, closing, word_lists, ask_lists, closed_lists}
-use Rattle.nam_protocol.proofs.RunsClient.{TxnAnswered, AskAnswered, TidyAnswered, CollectAnswered, IsAnswered}
-use Rattle.nam_protocol.proofs.EventsClient.{listed, is_open_after}
+use Rattle.nam_protocol.proofs.EventsClient.{word_lists, ask_lists, closed_lists}
+use Rattle.nam_protocol.proofs.RunsClient.{AskAnswered, TidyAnswered, CollectAnswered, IsAnswered}
 use Rattle.nam_protocol.specs.declared.txn.TxnAnswer.TheVariants as txn_answer
 use Rattle.nam_protocol.specs.declared.client.Answer.TheVariants as answer
 
@@ -353,8 +349,7 @@ module _ (shape : Shape) (limits : FitsLimits shape) (worker start : ℕ) (jobs 
 
   reached_stays : (session : SessionState) → IsReached shape worker start jobs policy session → Stays session
   reached_stays session is_new =
-      let room = (room_suffices shape).0 policy jobs least in
-      (
+      let room = (room_suffices shape).0 policy jobs least in (
         (new_session_ends shape limits worker start jobs policy is fit least).0,
         settle_holds shape limits whole_room (calls_at_most jobs)
             (record { client = new_client worker start; driver = new_driver policy; jobs = jobs })
@@ -365,8 +360,7 @@ module _ (shape : Shape) (limits : FitsLimits shape) (worker start : ℕ) (jobs 
             },
       )
   reached_stays session (by_word before verb found reached e) =
-      let s = reached_stays before reached in
-      (
+      let s = reached_stays before reached in (
         (session_word shape limits before verb found s.0 e).0,
         word_holds shape limits whole_room before verb found s.0 s.1 e,
       )

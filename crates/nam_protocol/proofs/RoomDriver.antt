@@ -1,5 +1,5 @@
 -- The room that is reserved for jobs suffices for all calls that their driver asks.
-use Rattle.std.proofs.Common.{◌≡◌, ℕ, zero, suc, ◌+◌, ◌-◌, ◌*◌, ◌<◌, ◌≤◌, List, [], ◌∷◌, length, drop, refl, sym, ◌∙◌, ap}
+use Rattle.std.proofs.Common.{◌≡◌, ℕ, zero, suc, ◌+◌, ◌-◌, ◌*◌, ◌<◌, ◌≤◌, List, [], ◌∷◌, length, drop, refl, sym, ap}
 use Rattle.std.proofs.Common.{subst, arith, Bool, true, false, not, Option, Some, None}
 use Rattle.std.proofs.Math.Nat.{mul-suc, mul-add}
 use Rattle.std.proofs.Math.Numerals.{add-one}
@@ -28,9 +28,9 @@ use Rattle.nam_protocol.specs.Driver.{retried, tidying, on_full, keys_of_job, on
 use Rattle.nam_protocol.specs.Driver.{place_taken}
 use Rattle.nam_protocol.specs.Left.{Room, writes_in, jobs_writes, op_weight, ops_weight, jobs_weight, room_for}
 use Rattle.nam_protocol.specs.RoomLaw.{call_room, both_rooms, IsWithin, TidyCounts, PlaceCounts, DriverCounts, begin_here}
-use Rattle.nam_protocol.specs.RoomLaw.{tidies_of, try_tidies, retry_tidies, keys_tidies, place_tidies, place_ops}
+use Rattle.nam_protocol.specs.RoomLaw.{try_tidies, retry_tidies, keys_tidies, place_tidies, place_ops}
 use Rattle.nam_protocol.specs.RoomLaw.{driver_room, room_left, RoomLaw}
-use Rattle.nam_protocol.proofs.EndsDriver.{drop_from, drop_over, try_figure, first_figure}
+use Rattle.nam_protocol.proofs.EndsDriver.{drop_from, try_figure, first_figure}
 use Rattle.nam_protocol.specs.declared.txn.TxnAnswer.TheVariants as txn_answer
 use Rattle.nam_protocol.specs.declared.client.Answer.TheVariants as answer
 
@@ -346,32 +346,32 @@ module _ (shape : Shape) where
       ask_goes _ = passed_goes
 
     module _ (keys : List Key) (nth : ℕ) (retry : Bool) (counts : TidyCounts driver.policy.tries driver.nth keys nth retry)
-        where
-      tidied_goes : (again : Bool) → GoesFrom (ToTidy keys nth again retry) (tidying driver keys (nth + 1) retry)
-      tidied_goes true =
-          let l = counts.0 in
-          goes_tidying left_attempts (left_ops (ToTidy keys nth true retry)) (left_tidies (ToTidy keys nth true retry)) keys
-          (nth + 1) retry (omega arith) counts.1 (omega arith) (omega arith) (omega arith)
-      tidied_goes false =
-          let l = counts.0 in
-          goes_tidying left_attempts (left_ops (ToTidy keys nth false retry)) (left_tidies (ToTidy keys nth false retry))
-          keys (nth + 1) retry (omega arith) counts.1 (omega arith) (omega arith) (omega arith)
+      where
+        tidied_goes : (again : Bool) → GoesFrom (ToTidy keys nth again retry) (tidying driver keys (nth + 1) retry)
+        tidied_goes true =
+            let l = counts.0 in
+            goes_tidying left_attempts (left_ops (ToTidy keys nth true retry)) (left_tidies (ToTidy keys nth true retry)) keys
+            (nth + 1) retry (omega arith) counts.1 (omega arith) (omega arith) (omega arith)
+        tidied_goes false =
+            let l = counts.0 in
+            goes_tidying left_attempts (left_ops (ToTidy keys nth false retry)) (left_tidies (ToTidy keys nth false retry))
+            keys (nth + 1) retry (omega arith) counts.1 (omega arith) (omega arith) (omega arith)
 
-      tidy_goes : (again : Bool) (end : Answer)
-          → GoesFrom (ToTidy keys nth again retry) (on_tidy driver keys nth again retry end)
-      tidy_goes true end = tidied_goes true
-      tidy_goes false (answer.NoRoom bucket) =
-          goes_at left_attempts (left_ops (ToTidy keys nth false retry)) (left_tidies (ToTidy keys nth false retry))
-          driver.nth (ToCollect bucket keys nth retry) (least, most) counts
-          record { attempts = omega arith; ops = omega arith; tidies = omega arith }
-      tidy_goes false _ = tidied_goes false
+        tidy_goes : (again : Bool) (end : Answer)
+            → GoesFrom (ToTidy keys nth again retry) (on_tidy driver keys nth again retry end)
+        tidy_goes true end = tidied_goes true
+        tidy_goes false (answer.NoRoom bucket) =
+            goes_at left_attempts (left_ops (ToTidy keys nth false retry)) (left_tidies (ToTidy keys nth false retry))
+            driver.nth (ToCollect bucket keys nth retry) (least, most) counts
+            record { attempts = omega arith; ops = omega arith; tidies = omega arith }
+        tidy_goes false _ = tidied_goes false
 
-      collect_goes : (bucket : ℕ)
-          → GoesFrom (ToCollect bucket keys nth retry) (record driver { place = ToTidy keys nth true retry })
-      collect_goes bucket =
-          goes_at left_attempts (left_ops (ToCollect bucket keys nth retry))
-          (left_tidies (ToCollect bucket keys nth retry)) driver.nth (ToTidy keys nth true retry) (least, most) counts
-          record { attempts = omega arith; ops = omega arith; tidies = omega arith }
+        collect_goes : (bucket : ℕ)
+            → GoesFrom (ToCollect bucket keys nth retry) (record driver { place = ToTidy keys nth true retry })
+        collect_goes bucket =
+            goes_at left_attempts (left_ops (ToCollect bucket keys nth retry))
+            (left_tidies (ToCollect bucket keys nth retry)) driver.nth (ToTidy keys nth true retry) (least, most) counts
+            record { attempts = omega arith; ops = omega arith; tidies = omega arith }
 
     takes : (place : DriverPlace) (end : Answer) → PlaceCounts driver.policy.tries driver.nth place
         → GoesFrom place (place_taken jobs driver place end)
@@ -417,14 +417,16 @@ module _ (shape : Shape) where
     call_takes end counts =
         let g = takes driver.place end counts in
         let c = call_within driver.place in
-        let next = room_left shape jobs (driver_take jobs driver end) in
-        (g.counts, subst (λ js. IsWithin (both_rooms (call_room shape (place_call job driver.nth driver.place)) next)
-        (driver_room shape driver js)) (sym (drop_from jobs driver.job job here))
-        record {
-          attempts = let l = g.attempts_within in let m = c.attempts in omega arith;
-          ops = let l = g.ops_within in let m = c.ops in omega arith;
-          tidies = let l = g.tidies_within in let m = c.tidies in omega arith;
-        })
+        let next = room_left shape jobs (driver_take jobs driver end) in (
+          g.counts,
+          subst (λ js. IsWithin (both_rooms (call_room shape (place_call job driver.nth driver.place)) next)
+              (driver_room shape driver js)) (sym (drop_from jobs driver.job job here))
+              record {
+                attempts = let l = g.attempts_within in let m = c.attempts in omega arith;
+                ops = let l = g.ops_within in let m = c.ops in omega arith;
+                tidies = let l = g.tidies_within in let m = c.tidies in omega arith;
+              },
+        )
 
   -- 5. The law
 

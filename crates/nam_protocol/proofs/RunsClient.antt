@@ -1,27 +1,25 @@
 -- What a client does for its driver: the call that runs stays the one that was asked, and what its answer says.
-use Rattle.std.proofs.Common.{◌≡◌, ℕ, zero, suc, ◌+◌, ◌-◌, ◌<◌, ◌≤◌, List, [], ◌∷◌, ◌++◌, length, take, refl, sym, ◌∙◌, ap}
-use Rattle.std.proofs.Common.{subst, arith, Bool, true, false, Option, Some, None}
+use Rattle.std.proofs.Common.{◌≡◌, ℕ, zero, suc, ◌+◌, ◌<◌, List, [], ◌∷◌, ◌++◌, length, take, refl, sym, ap}
+use Rattle.std.proofs.Common.{subst, Bool, true, false, Option, Some, None}
 use Rattle.std.proofs.Math.Numerals.{add-one}
-use Rattle.std.specs.Prelude.{◌==◌, if◌then◌else◌, slice_get, IsSome}
+use Rattle.std.specs.Prelude.{◌==◌, slice_get}
 use Rattle.std.proofs.lemmas.Option.{slice_get_within}
 use Rattle.si_model.specs.declared.row.Key.{Key}
 use Rattle.si_model.specs.declared.op.Op.{Op}
 use Rattle.si_model.specs.declared.op.Op.TheVariants.{Scan}
 use Rattle.si_model.specs.Rows.{key_at, writes_key}
 use Rattle.si_model.specs.Evaluation.{written_keys}
-use Rattle.si_model.specs.declared.op.Op.TheVariants as op
 use Rattle.nam_verbs.specs.declared.now.Now.{Now}
 use Rattle.nam_verbs.specs.declared.now.Now.TheVariants.{At, Over}
 use Rattle.nam_catalog.specs.declared.shape.Shape.{Shape}
 use Rattle.nam_catalog.specs.Fits.{FitsLimits}
 use Rattle.nam_layout.specs.declared.field.Place.{Place}
 use Rattle.nam_layout.specs.declared.field.Cells.{Cells}
-use Rattle.nam_layout.specs.Place.{place_of, cells_of, bucket_of, cells_by}
+use Rattle.nam_layout.specs.Place.{place_of, cells_of, cells_by}
 use Rattle.nam_vector.specs.declared.snap.SnapPlace.{SnapPlace}
 use Rattle.nam_vector.specs.declared.snap.SnapEnd.{SnapEnd}
 use Rattle.nam_vector.specs.Snap.{snap_after}
 use Rattle.nam_vector.specs.declared.snap.SnapEnd.TheVariants as snap_end
-use Rattle.nam_verbs.specs.Until.{until}
 use Rattle.nam_calls.specs.declared.index.FindEnd.{FindEnd}
 use Rattle.nam_calls.specs.declared.overflow.ClaimPlace.{ClaimPlace}
 use Rattle.nam_calls.specs.declared.overflow.ClaimEnd.{ClaimEnd}
@@ -34,18 +32,16 @@ use Rattle.nam_calls.specs.declared.mover.MovePlace.TheVariants.{MoveCount, Move
 use Rattle.nam_calls.specs.declared.mover.MovePlace.TheVariants.{MoveWords}
 use Rattle.nam_calls.specs.declared.mover.MovePlace.TheVariants.{MoveFill, MoveAgain, MoveFull, MoveFlag, MoveBack}
 use Rattle.nam_calls.specs.declared.mover.MoveAnswer.{MoveAnswer}
-use Rattle.nam_calls.specs.Words.{capacity_of, path_of}
+use Rattle.nam_calls.specs.Words.{path_of}
 use Rattle.nam_calls.specs.Index.{find_after}
 use Rattle.nam_calls.specs.Overflow.{claim_after, fill_after}
 use Rattle.nam_calls.specs.Mover.{on_claim, on_fill, move_after}
 use Rattle.nam_calls.specs.Horizon.{collect_after}
-use Rattle.nam_calls.specs.Fits.{IsTableOf}
 use Rattle.nam_calls.proofs.FallsTests.{either}
 use Rattle.nam_calls.proofs.FallsTables.{bucket_within}
 use Rattle.nam_calls.specs.declared.index.FindEnd.TheVariants as found_key
 use Rattle.nam_calls.specs.declared.mover.MoveAnswer.TheVariants as move_end
 use Rattle.nam_header.specs.Stamp.{is_moved}
-use Rattle.nam_protocol.specs.declared.txn.TxnState.{TxnState}
 use Rattle.nam_protocol.specs.declared.txn.TxnPlace.{TxnPlace}
 use Rattle.nam_protocol.specs.declared.txn.TxnPlace.TheVariants.{Finding, Reading, Claiming, Committing}
 use Rattle.nam_protocol.specs.declared.txn.TxnAnswer.{TxnAnswer}
@@ -66,12 +62,12 @@ use Rattle.nam_protocol.specs.TxnCalls.{txn_after, taken_at, taken_now}
 use Rattle.nam_protocol.specs.Log.{with_locks}
 use Rattle.nam_protocol.specs.Scan.{scan_skip, scan_read, scan_after, position_of}
 use Rattle.nam_protocol.specs.Telling.{new_locks, on_call, stepped}
-use Rattle.nam_protocol.specs.ScanCall.{gathered, on_skip, on_key, on_scan}
+use Rattle.nam_protocol.specs.ScanCall.{gathered, on_skip, on_scan}
 use Rattle.nam_protocol.specs.Client.{on_begin, on_seek, on_move, on_snap, on_collect, take_txn, take_scan, call_after}
-use Rattle.nam_protocol.specs.AttemptLaw.{HasAsked, has_passed, IsOfOp, AnswerAsks, NowAsks, Asks}
+use Rattle.nam_protocol.specs.AttemptLaw.{HasAsked, has_passed, NowAsks, Asks}
 use Rattle.nam_protocol.specs.TxnFits.{StateFits, TxnPlaceFits}
 use Rattle.nam_protocol.specs.ClientFits.{OpenFits, OpenPlaceFits, CallPlaceFits}
-use Rattle.nam_protocol.specs.SessionFits.{OpenAsked, OpenRuns, AskRuns, PlaceRuns}
+use Rattle.nam_protocol.specs.SessionFits.{OpenAsked, OpenRuns, PlaceRuns}
 use Rattle.nam_protocol.proofs.FallsAttempt.{unclaimed, take_asks}
 use Rattle.nam_protocol.proofs.FallsClient.{gathered_keeps}
 use Rattle.nam_protocol.proofs.RunsTxn.{OfOp, FullFits, CommitRuns, CommitStands, take_of, commit_runs}

@@ -1,6 +1,6 @@
 -- A transaction's call stays that of its operation, and what a commit says of a record that was full.
-use Rattle.std.proofs.Common.{◌≡◌, ℕ, zero, suc, ◌+◌, ◌<◌, ◌≤◌, List, [], ◌∷◌, ◌++◌, length, refl, sym, ◌∙◌, ap, subst}
-use Rattle.std.proofs.Common.{arith, Bool, true, false, not, Option, Some, None}
+use Rattle.std.proofs.Common.{◌≡◌, ℕ, zero, suc, ◌+◌, ◌<◌, ◌≤◌, List, [], ◌∷◌, ◌++◌, length, refl, sym, ap, subst}
+use Rattle.std.proofs.Common.{arith, Bool, true, false, not, Option, None}
 use Rattle.std.specs.Prelude.{◌==◌, if◌then◌else◌, map, slice_index_or}
 use Rattle.std.specs.List.{AllByRecursion}
 use Rattle.std.proofs.lemmas.Bool.{false≢true}
@@ -54,12 +54,12 @@ use Rattle.nam_protocol.specs.declared.txn.TxnAnswer.TheVariants.{Declined, Full
 use Rattle.nam_protocol.specs.Operations.{holding, own_value, read_of, answer_of, op_path}
 use Rattle.nam_protocol.specs.Txn.{Stepped, at, answered, with_op, ask_op, valued, on_find, on_read, on_claim}
 use Rattle.nam_protocol.specs.TxnCalls.{txn_after}
-use Rattle.nam_protocol.specs.Commit.{record_in, record_place, records_of, places, no_record, record_at, lock_at}
+use Rattle.nam_protocol.specs.Commit.{record_in, record_place, records_of, places, no_record}
 use Rattle.nam_protocol.specs.Commit.{ask_commit, go, on_lock, next_check, on_slot, on_return, on_words, on_copy}
 use Rattle.nam_protocol.specs.Commit.{on_install, next_free, commit_after}
 use Rattle.nam_protocol.specs.AttemptLaw.{HasAsked, has_passed, IsOfOp}
 use Rattle.nam_protocol.specs.Left.{key_bound, keys_bound}
-use Rattle.nam_protocol.specs.TxnFits.{is_claimed, IsPlaced, StateFits, CommitFits}
+use Rattle.nam_protocol.specs.TxnFits.{is_claimed, StateFits, CommitFits}
 use Rattle.nam_protocol.specs.SessionFits.{FullIsWritten}
 use Rattle.nam_protocol.proofs.FallsKeys.{own_claimed, record_placed}
 use Rattle.nam_protocol.proofs.FallsBegins.{record_key}
@@ -228,11 +228,14 @@ module _ (shape : Shape) where
     on_return_runs full (At given) fits e = (asked, e)
     on_return_runs full (Over done) fits e = (
       asked,
-      (refl, (
-        written_table state (lock_key full) fits e,
-        subst (λ keys. key_bound shape (lock_key full) ≤ keys_bound shape keys) asked.written
-            (written_bound state.writes (lock_key full) e),
-      )),
+      (
+        refl,
+        (
+          written_table state (lock_key full) fits e,
+          subst (λ keys. key_bound shape (lock_key full) ≤ keys_bound shape keys) asked.written
+              (written_bound state.writes (lock_key full) e),
+        ),
+      ),
     )
 
     on_words_runs : (nth : ℕ) (now : Now (List ℕ) (List ℕ)) → CommitStands ops (on_words state nth now)

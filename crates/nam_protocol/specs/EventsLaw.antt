@@ -11,7 +11,7 @@ use Rattle.nam_protocol.specs.declared.session.Job.{Job}
 use Rattle.nam_protocol.specs.declared.session.SessionState.{SessionState}
 use Rattle.nam_protocol.specs.Telling.{new_client}
 use Rattle.nam_protocol.specs.Session.{new_session, session_verb, session_after, session_log, session_cut}
-use Rattle.nam_protocol.specs.Left.{room_for}
+use Rattle.nam_protocol.specs.Left.{Room, room_for}
 use Rattle.nam_protocol.specs.SessionFits.{JobFits}
 
 module _ (shape : Shape) (worker start : ℕ) (jobs : List Job) (policy : Policy) where
@@ -22,14 +22,13 @@ module _ (shape : Shape) (worker start : ℕ) (jobs : List Job) (policy : Policy
         → session_verb shape session ≡ Some verb → IsReached (session_after shape session found)
     by_cut : (session : SessionState) → IsReached session → IsReached (session_cut session)
 
-  -- an event for each attempt and each tidying, and one for a commit that was stopped after it has published
-  abbrev pub EventsWithin : SessionState → Type 0
-  EventsWithin session =
-      length (session_log shape session).events
-      ≤ (room_for shape policy jobs).attempts + (room_for shape policy jobs).tidies + 1
+-- an event for each attempt and each tidying, and one for a commit that was stopped after it has published
+abbrev pub EventsWithin : Shape → Room → SessionState → Type 0
+EventsWithin shape room session = length (session_log shape session).events ≤ room.attempts + room.tidies + 1
 
 abbrev pub EventsLaw : Type 0
 EventsLaw =
     (shape : Shape) → FitsLimits shape → (worker start : ℕ) (jobs : List Job) (policy : Policy)
     → IsOf shape.workers worker → AllByRecursion (JobFits shape) jobs → 1 ≤ policy.tries → (session : SessionState)
-    → IsReached shape worker start jobs policy session → EventsWithin shape worker start jobs policy session
+    → IsReached shape worker start jobs policy session
+    → EventsWithin shape (room_for shape policy jobs) session

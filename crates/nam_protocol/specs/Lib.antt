@@ -27,6 +27,7 @@ pub mod Grows
 pub mod SessionFits
 pub mod EndsLaw
 pub mod RoomLaw
+pub mod ClientEvents
 pub mod EventsLaw
 pub mod ProgramCommit
 pub mod HoldsWords

@@ -16,7 +16,7 @@ use Rattle.nam_protocol.specs.declared.session.DriverPlace.{DriverPlace}
 use Rattle.nam_protocol.specs.declared.session.DriverPlace.TheVariants.{ToBegin, ToAsk, ToTidy, ToCollect}
 use Rattle.nam_protocol.specs.declared.session.DriverState.{DriverState}
 use Rattle.nam_protocol.specs.Driver.{new_driver, driver_next, driver_take}
-use Rattle.nam_protocol.specs.Left.{Room, writes_in, jobs_writes, ops_weight, jobs_weight, room_for}
+use Rattle.nam_protocol.specs.Left.{Room, writes_in, ops_weight, room_for}
 
 -- 1. What a call takes
 

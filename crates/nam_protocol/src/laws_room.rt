@@ -1,5 +1,6 @@
 //! The room that is reserved for jobs suffices.
 
+ghost use Rattle.nam_protocol.specs.ClientEvents.{ClientEventsLaw};
 ghost use Rattle.nam_protocol.specs.EventsLaw.{EventsLaw};
 ghost use Rattle.nam_protocol.specs.RoomLaw.{RoomLaw};
 
@@ -11,8 +12,12 @@ pub fn room_suffices()
     ensures { RoomLaw }
 {}
 
-/// A session lists, at each moment and however it is closed, no more events than its jobs have attempts and tidyings,
-/// and one more: the tail cut of a commit that was stopped after it has published.
+/// A client lists no event while a call runs and at most one with its answer, and as it is closed at most two: the call
+/// that was cut, and the tail of a commit that has published.
+///
+/// So a session, at each moment and however it is closed, has no more events than its jobs have attempts and tidyings,
+/// and that one tail cut.
 pub fn events_within()
-    ensures { EventsLaw }
+    ensures client { ClientEventsLaw }
+    ensures session { EventsLaw }
 {}

@@ -41,3 +41,4 @@ pub mod SortsLemmas
 pub mod SteppedLemmas
 pub mod OwnLemmas
 pub mod StageLemmas
+pub mod OpenLemmas

@@ -35,6 +35,7 @@ pub mod HoldsTxn
 pub mod HoldsClient
 pub mod HoldsVerbs
 pub mod HoldsSession
+pub mod HoldsOpening
 pub mod PlainLemmas
 pub mod ReaderLemmas
 pub mod SortsLemmas

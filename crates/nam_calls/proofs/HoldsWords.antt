@@ -1,5 +1,5 @@
 -- What is below 2^64 stays so: lists of words, header words and tags.
-use Rattle.std.specs.Prelude.{slice_index, slice_set}
+use Rattle.std.specs.Prelude.{replicate, slice_index, slice_set}
 use Rattle.std.proofs.Common.{Bool, List, None, Option, Some, [], arith, false, length, ℕ, ◌*◌, ◌++◌, ◌+◌, ◌-◌, ◌<◌}
 use Rattle.std.proofs.Common.{suc, zero}
 use Rattle.std.proofs.Common.{◌==◌, ◌^◌, ◌∷◌, ◌≤◌}
@@ -7,8 +7,8 @@ use Rattle.std.proofs.lemmas.Bool.Decides.{nat_tests}
 use Rattle.nam_verbs.specs.Until.{until}
 use Rattle.nam_verbs.proofs.TestLemmas.{by_test}
 use Rattle.nam_catalog.specs.declared.bounds.TheConstants.{MOST_WORKERS}
-use Rattle.nam_catalog.specs.declared.form.Form.TheVariants.{Narrow, Wide, Held}
 use Rattle.nam_catalog.specs.declared.form.Form.{Form}
+use Rattle.nam_catalog.specs.declared.form.Form.TheVariants.{Narrow, Wide, Held}
 use Rattle.nam_catalog.specs.Greatest.{greatest_number}
 use Rattle.nam_header.specs.declared.header.Header.{Header}
 use Rattle.nam_header.specs.Flag.{holder_named, locked_by}
@@ -37,6 +37,14 @@ pub words_set : (words : List ℕ) (nth word : ℕ) → AreWords words → IsWor
 words_set [] nth word all is = tt
 words_set (w ∷ ws) zero word all is = (is, all.1)
 words_set (w ∷ ws) (suc nth) word all is = (all.0, words_set ws nth word all.1 is)
+
+pub words_append : (xs ys : List ℕ) → AreWords xs → AreWords ys → AreWords (xs ++ ys)
+words_append [] ys all more = more
+words_append (x ∷ xs) ys all more = (all.0, words_append xs ys all.1 more)
+
+pub same_words : (n word : ℕ) → IsWord word → AreWords (replicate {A = ℕ} n word)
+same_words zero word is = tt
+same_words (suc n) word is = (is, same_words n word is)
 
 -- a word of a value, or 0
 pub value_word : (value : Option (List ℕ)) (nth : ℕ) → HasWords value → IsWord (word_in value nth)

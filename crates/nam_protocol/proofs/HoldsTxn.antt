@@ -4,18 +4,18 @@ use Rattle.std.specs.Prelude.{slice_index}
 use Rattle.std.proofs.Common.{Bool, List, None, Option, Some, [], arith, length, replicate, suc, sym, zero, ℕ, ◌+◌}
 use Rattle.std.proofs.Common.{false, true}
 use Rattle.std.proofs.Common.{◌-◌, ◌<◌, ◌==◌, ◌∷◌, ◌≡◌, ◌≤◌}
-use Rattle.std.proofs.lemmas.Bool.Decides.{nat_tests}
 use Rattle.std.proofs.lemmas.Bool.{false≢true}
-use Rattle.si_model.specs.declared.op.Op.TheVariants.{Get, Put, Add, Del, Need, Guard, Scan}
+use Rattle.std.proofs.lemmas.Bool.Decides.{nat_tests}
 use Rattle.si_model.specs.declared.op.Op.{Op}
+use Rattle.si_model.specs.declared.op.Op.TheVariants.{Get, Put, Add, Del, Need, Guard, Scan}
 use Rattle.si_model.specs.declared.row.Item.{Item}
 use Rattle.si_model.specs.declared.row.Key.{Key}
 use Rattle.si_model.specs.Evaluation.{can_change, field_of, op_key, writes_after}
 use Rattle.si_model.specs.Evaluation.{passes, changed, with_field}
 use Rattle.si_model.specs.Operations.{op_reads}
 use Rattle.si_model.specs.Rows.{item_at, item_key, key_at, same_key}
-use Rattle.nam_verbs.specs.declared.now.Now.TheVariants.{At, Over}
 use Rattle.nam_verbs.specs.declared.now.Now.{Now}
+use Rattle.nam_verbs.specs.declared.now.Now.TheVariants.{At, Over}
 use Rattle.nam_catalog.specs.declared.form.Form.{Form}
 use Rattle.nam_catalog.specs.declared.shape.Shape.{Shape}
 use Rattle.nam_catalog.specs.Greatest.{greatest_number}
@@ -32,17 +32,18 @@ use Rattle.nam_calls.specs.Holds.{IsWord}
 use Rattle.nam_calls.specs.Reading.{sight_of}
 use Rattle.nam_calls.proofs.FallsTests.{either}
 use Rattle.nam_calls.proofs.HoldsCalls.{lock_holds, read_holds, value_holds}
+use Rattle.nam_calls.proofs.HoldsWords.{same_words}
 use Rattle.nam_calls.proofs.HoldsWords.{words_at, words_set}
 use Rattle.nam_calls.specs.declared.index.ClaimKeyEnd.TheVariants as claimed_key
 use Rattle.nam_calls.specs.declared.index.FindEnd.TheVariants as found_key
 use Rattle.nam_calls.specs.declared.lock.LockEnd.TheVariants as lock_end
 use Rattle.nam_calls.specs.declared.reading.ReadingEnd.TheVariants as read_end
+use Rattle.nam_protocol.specs.declared.txn.CommitPlace.{CommitPlace}
 use Rattle.nam_protocol.specs.declared.txn.CommitPlace.TheVariants.{Checking, Copying, Freeing, Installing, Locking}
 use Rattle.nam_protocol.specs.declared.txn.CommitPlace.TheVariants.{Publishing, Returning, Saving}
-use Rattle.nam_protocol.specs.declared.txn.CommitPlace.{CommitPlace}
 use Rattle.nam_protocol.specs.declared.txn.TxnCall.{TxnCall}
-use Rattle.nam_protocol.specs.declared.txn.TxnPlace.TheVariants.{Finding, Reading, Claiming, Committing}
 use Rattle.nam_protocol.specs.declared.txn.TxnPlace.{TxnPlace}
+use Rattle.nam_protocol.specs.declared.txn.TxnPlace.TheVariants.{Finding, Reading, Claiming, Committing}
 use Rattle.nam_protocol.specs.declared.txn.TxnState.{TxnState}
 use Rattle.nam_protocol.specs.Commit.{ask_commit, commit_after, next_free, on_lock, on_words, places, record_place}
 use Rattle.nam_protocol.specs.HoldsWords.{CommitPlaceHolds, ItemHolds, OpHolds, ResultHolds, StateHolds, StepHolds}
@@ -60,13 +61,9 @@ use Rattle.nam_protocol.specs.declared.txn.TxnCall.TheVariants as txn_call
 
 -- 1. Operations
 
-zero_words : (n : ℕ) → AreWords (replicate n 0)
-zero_words zero = tt
-zero_words (suc n) = (omega arith, zero_words n)
-
 field_words : (width f n : ℕ) (value : Option (List ℕ)) → HasWords value → IsWord n
     → AreWords (with_field width value f n)
-field_words width f n None has is = words_set (replicate width 0) (f - 1) n (zero_words width) is
+field_words width f n None has is = words_set (replicate width 0) (f - 1) n (same_words width 0 (omega arith)) is
 field_words width f n (Some v) has is = words_set v (f - 1) n has is
 
 field_word : (value : Option (List ℕ)) (f : ℕ) → HasWords value → IsWord (field_of value f)

@@ -44,9 +44,11 @@ pub mod HoldsTxn
 pub mod HoldsClient
 pub mod HoldsVerbs
 pub mod HoldsSession
+pub mod HoldsOpening
 pub mod PlainLemmas
 pub mod ReaderLemmas
 pub mod SortsLemmas
 pub mod SteppedLemmas
 pub mod OwnLemmas
 pub mod StageLemmas
+pub mod OpenLemmas

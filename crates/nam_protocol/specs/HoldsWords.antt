@@ -1,12 +1,13 @@
 -- Words below 2^64: what is asked of a client, and what it holds that it may still write.
 use Rattle.std.specs.List.{AllByRecursion}
 use Rattle.std.specs.Prelude.{List, None, Option, Some, ℕ, ◌<◌, ◌≤◌}
-use Rattle.si_model.specs.declared.op.Op.TheVariants.{Get, Put, Add, Del, Need, Guard, Scan}
 use Rattle.si_model.specs.declared.op.Op.{Op}
+use Rattle.si_model.specs.declared.op.Op.TheVariants.{Get, Put, Add, Del, Need, Guard, Scan}
 use Rattle.si_model.specs.declared.row.Item.{Item}
+use Rattle.si_model.specs.declared.row.Row.{Row}
 use Rattle.si_model.specs.Evaluation.{changed, field_of}
-use Rattle.nam_verbs.specs.declared.now.Now.TheVariants.{At}
 use Rattle.nam_verbs.specs.declared.now.Now.{Now}
+use Rattle.nam_verbs.specs.declared.now.Now.TheVariants.{At}
 use Rattle.nam_catalog.specs.declared.form.Form.{Form}
 use Rattle.nam_catalog.specs.declared.shape.Shape.{Shape}
 use Rattle.nam_catalog.specs.Greatest.{greatest_number}
@@ -16,19 +17,19 @@ use Rattle.nam_calls.specs.Holds.{SnapHolds}
 use Rattle.nam_calls.specs.Words.{key_word}
 use Rattle.nam_protocol.specs.declared.client.Answer.{Answer}
 use Rattle.nam_protocol.specs.declared.client.Call.{Call}
-use Rattle.nam_protocol.specs.declared.client.CallPlace.TheVariants.{Collecting, InTxn, Moving, Snapping}
 use Rattle.nam_protocol.specs.declared.client.CallPlace.{CallPlace}
+use Rattle.nam_protocol.specs.declared.client.CallPlace.TheVariants.{Collecting, InTxn, Moving, Snapping}
 use Rattle.nam_protocol.specs.declared.client.ClientState.{ClientState}
 use Rattle.nam_protocol.specs.declared.client.Open.{Open}
 use Rattle.nam_protocol.specs.declared.session.Job.{Job}
 use Rattle.nam_protocol.specs.declared.session.SessionState.{SessionState}
-use Rattle.nam_protocol.specs.declared.txn.CommitPlace.TheVariants.{Copying, Locking, Saving}
 use Rattle.nam_protocol.specs.declared.txn.CommitPlace.{CommitPlace}
-use Rattle.nam_protocol.specs.declared.txn.TxnAnswer.TheVariants.{Committed}
+use Rattle.nam_protocol.specs.declared.txn.CommitPlace.TheVariants.{Copying, Locking, Saving}
 use Rattle.nam_protocol.specs.declared.txn.TxnAnswer.{TxnAnswer}
+use Rattle.nam_protocol.specs.declared.txn.TxnAnswer.TheVariants.{Committed}
 use Rattle.nam_protocol.specs.declared.txn.TxnCall.{TxnCall}
-use Rattle.nam_protocol.specs.declared.txn.TxnPlace.TheVariants.{Finding, Reading, Claiming, Committing}
 use Rattle.nam_protocol.specs.declared.txn.TxnPlace.{TxnPlace}
+use Rattle.nam_protocol.specs.declared.txn.TxnPlace.TheVariants.{Finding, Reading, Claiming, Committing}
 use Rattle.nam_protocol.specs.declared.txn.TxnState.{TxnState}
 use Rattle.nam_protocol.specs.Driver.{call_of}
 use Rattle.nam_protocol.specs.Operations.{value_in}
@@ -62,6 +63,10 @@ TxnCallHolds txn_call.Commit = Unit {0}
 abbrev pub CallHolds : Call → Type 0
 CallHolds (call.Txn asked) = TxnCallHolds asked
 CallHolds _ = Unit {0}
+
+-- a row that is loaded
+abbrev pub RowHolds : Row → Type 0
+RowHolds row = IsWord (key_word row.key) × AreWords row.value
 
 -- 2. What a transaction has at hand
 

@@ -1,4 +1,5 @@
 -- Words below 2^64 stay below 2^64: what is found leads to such words, and no other word is written.
+use Rattle.si_model.specs.declared.row.Row.{Row}
 use Rattle.std.specs.List.{AllByRecursion}
 use Rattle.std.specs.Prelude.{List, None, Option, Some, ℕ, ◌≡◌, ◌≤◌}
 use Rattle.si_model.specs.declared.op.Policy.{Policy}
@@ -17,10 +18,12 @@ use Rattle.nam_protocol.specs.Client.{client_abandon, client_after, client_ask, 
 use Rattle.nam_protocol.specs.ClientFits.{ClientFits}
 use Rattle.nam_protocol.specs.CutClient.{client_cut}
 use Rattle.nam_protocol.specs.HoldsWords.{CallHolds, HoldsWords, JobHolds, SessionHolds, WorldHolds}
+use Rattle.nam_protocol.specs.HoldsWords.{RowHolds}
 use Rattle.nam_protocol.specs.Session.{new_session, session_after, session_cut}
 use Rattle.nam_protocol.specs.Telling.{new_client}
 use Rattle.nam_protocol.specs.World.{Step, Cut}
 use Rattle.nam_protocol.specs.World.{Turn, World, after_turn, session_of}
+use Rattle.nam_protocol.specs.World.{new_world}
 
 -- 1. A client
 
@@ -55,6 +58,12 @@ abbrev pub SessionKeepsLaw : Type 0
 SessionKeepsLaw = (shape : Shape) → SessionKeepsWords shape
 
 -- 3. A world
+
+-- the world in which nothing was done yet
+abbrev pub NewWorldLaw : Type 0
+NewWorldLaw = (shape : Shape) → FitsLimits shape → (rows : List Row) (policy : Policy) (jobs : List (List Job))
+    → AllByRecursion RowHolds rows → AllByRecursion (AllByRecursion JobHolds) jobs
+    → WorldHolds shape (new_world shape rows policy jobs)
 
 -- the worker's client, where there is one, fits
 abbrev pub WorkerFits : Shape → Option SessionState → Type 0

@@ -1,14 +1,12 @@
 -- What a log tells over the calls: an attempt has the operations that were asked for in it, also without a snapshot; and
 -- how far a worker has come in the policy.
-use Rattle.std.proofs.Common.{◌≡◌, true, false, [], ◌∷◌, ◌++◌, refl, Some, None}
-use Rattle.std.specs.Prelude.{IsTrue}
-use Rattle.si_model.specs.declared.op.Op.{Op}
+use Rattle.std.proofs.Common.{◌≡◌, true, false, [], ◌∷◌, refl, Some, None}
 use Rattle.si_model.specs.declared.op.Op.TheVariants.{Add, Get}
 use Rattle.si_model.specs.declared.log.Log.{Log}
 use Rattle.si_model.specs.declared.log.Outcome.TheVariants.{Again, ReadOnly}
 use Rattle.si_model.specs.declared.log.Event.TheVariants.{NoRoom}
 use Rattle.si_model.specs.Rows.{key_at}
-use Rattle.si_model.specs.Tells.{Tell, OwnsItems, tells_with, tells_of, with_tell}
+use Rattle.si_model.specs.Tells.{Tell, tells_with, tells_of}
 use Rattle.si_model.specs.Tries.{attempted, tidied, owes_all, owed_along, may_be_at_hand, next_owed}
 use Rattle.si_model.specs.Tries.Stage.{going, committed}
 use Rattle.si_model.proofs.ExampleWords.{item, lock, tried, commits, collected, moved, whole_log}

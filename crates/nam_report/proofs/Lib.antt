@@ -1,5 +1,10 @@
 pub mod FitsLemmas
 pub mod SpellingLemmas
+mod NamedLemmas
+mod LineFitsLemmas
+mod Reader
+mod ToldLemmas
+mod TextLemmas
 mod LevelLemmas
 mod DepthLemmas
 mod OrderLemmas

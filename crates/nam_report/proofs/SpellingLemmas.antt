@@ -1,7 +1,7 @@
 -- Each kind of line of a report keeps both laws: what is written is read, and only what is written is read.
 use Rattle.std.proofs.Common.{◌≡◌, ℕ, suc, ◌+◌, ◌^◌, Bool, cond, true, false, List, [], ◌∷◌, ◌++◌, map, Option, Some}
 use Rattle.std.proofs.Common.{None, refl, sym, ap, ◌∙◌, subst, inl, inr, arith, add-zero}
-use Rattle.std.specs.Prelude.{codes, bytes_eq}
+use Rattle.std.specs.Prelude.{codes, bytes_eq, length, ◌==◌, nat_le}
 use Rattle.std.specs.List.{AllByRecursion, position_from}
 use Rattle.si_model.specs.declared.log.Event.{Event}
 use Rattle.si_model.specs.declared.log.Event.TheVariants.{Tried, NoRoom, Moved, Collected, CollectAgain, CollectCut}
@@ -18,7 +18,7 @@ use Rattle.si_model.specs.declared.log.Finish.TheVariants.{Clean, Undone, Rolled
 use Rattle.nam_catalog.specs.declared.shape.Table.{Table}
 use Rattle.nam_catalog.specs.Tables.{name_of, first_named}
 use Rattle.nam_text.specs.Token.{number_of, is_name}
-use Rattle.nam_text.specs.Read.{◌>>=◌, all_read, some_read}
+use Rattle.nam_text.specs.Read.{◌>>=◌, all_read, some_read, word_at, done}
 use Rattle.nam_text.specs.Spelling.{IsPlain, IsField, IsSpelling, among, some}
 use Rattle.nam_text.specs.Kinds.{of, fields, IsKind}
 use Rattle.nam_text.proofs.Takes.{if_then}
@@ -85,7 +85,7 @@ dash_is_none = refl
 value_is : IsSpelling value
 value_is = or_lone_dash_is (some_is 8 u64_is) dash_is_none
 
-lock_is : (tables : List Table) → IsSpelling (lock tables)
+pub lock_is : (tables : List Table) → IsSpelling (lock tables)
 lock_is tables =
     through_is lock_in lock_parts (λ _. refl) (λ _. refl)
     (next_is (table_is tables) (next_is u64_is (next_is u32_is (last_is u64_is))))
@@ -323,7 +323,7 @@ event_takes tables =
     (none_takes (spelt_event tables))))))))
 
 -- an event without the counts of the lines that it owns
-abbrev bare : Event → Event
+abbrev pub bare : Event → Event
 bare (Tried a) = Tried (record a { reads = 0; locks = 0; writes = 0 })
 bare e = e
 
@@ -343,6 +343,22 @@ event_again tables (TidyCut t k) fits = line_again (tidy_cut_is tables) (t, (k, 
 event_again tables TailCut fits = line_again (tail_cut_is tables) tt fits
 event_again tables (Finished how) fits = line_again (finished_is tables) how fits
 
+-- no space and no newline stands in the fields of an event
+pub event_plain : (tables : List Table) (e : Event) → (spelt_event tables e).Fits
+    → AllByRecursion IsPlain (fields (spelt_event tables e))
+unfolding spelt_event
+event_plain tables (Tried a) fits = line_plain (attempt_is tables) (a.txn, (a.nth, (a.prefix, a.outcome))) fits
+event_plain tables (NoRoom b) fits = line_plain (no_room_is tables) b fits
+event_plain tables (Moved b t k stamp how) fits =
+    line_plain (move_is tables) (b, (t, (k, (stamp.thread, (stamp.number, how))))) fits
+event_plain tables (Collected b p entries cut) fits = line_plain (collect_is tables) (b, inl (p, (entries, cut))) fits
+event_plain tables (CollectAgain b j first second) fits =
+    line_plain (collect_is tables) (b, inr (inl (j, (first, second)))) fits
+event_plain tables (CollectCut b) fits = line_plain (collect_is tables) (b, inr (inr tt)) fits
+event_plain tables (TidyCut t k) fits = line_plain (tidy_cut_is tables) (t, (k, tt)) fits
+event_plain tables TailCut fits = line_plain (tail_cut_is tables) tt fits
+event_plain tables (Finished how) fits = line_plain (finished_is tables) how fits
+
 -- ---- the other lines
 
 pub item_is : (tables : List Table) (letter : List ℕ) → IsSpelling (item_kind tables letter).rest
@@ -355,3 +371,53 @@ entry_is =
 
 pub worker_is : IsSpelling worker_kind.rest
 worker_is = next_is u64_is (word_is (codes "events") refl (last_is u64_is))
+
+rest_none : {A : Type 0} (o : Option A) (rest : Option (List A)) → rest ≡ None
+    → (o >>= (λ x. rest >>= (λ xs. Some (x ∷ xs)))) ≡ None
+rest_none None rest none = refl
+rest_none (Some x) rest none = rw none refl
+
+-- no value ends in the mark of a locked row
+all_read_none : {A : Type 0} (read : List ℕ → Option A) (fs : List (List ℕ)) (last : List ℕ) → read last ≡ None
+    → all_read read (fs ++ last ∷ []) ≡ None
+unfolding all_read
+all_read_none read [] last none = rw none refl
+all_read_none read (f ∷ fs) last none = rest_none (read f) (all_read read (fs ++ last ∷ [])) (all_read_none read fs last none)
+
+none_either : {A : Type 0} (b c : Bool) (o : Option A) → o ≡ None → cond b None (cond c o None) ≡ None
+none_either true c o none = refl
+none_either false true o none = none
+none_either false false o none = refl
+
+more_than_dash : (b : Bool) (fs : List (List ℕ)) (f : List ℕ) → (cond b (Some (fs ++ f ∷ [])) None >>= done) ≡ None
+more_than_dash true [] f = refl
+more_than_dash true (g ∷ fs) f = refl
+more_than_dash false fs f = refl
+
+locked_is_no_word : u64.read (codes "locked") ≡ None
+unfolding number_of
+locked_is_no_word = refl
+
+-- no words end in it
+no_words : (fs : List (List ℕ)) → (word_at (codes "-") (fs ++ codes "locked" ∷ []) >>= done) ≡ None
+    → value.read (fs ++ codes "locked" ∷ []) ≡ None
+unfolding some_read
+no_words fs no_dash =
+    let all = fs ++ codes "locked" ∷ [] in
+    let none : some_read 8 u64.read all ≡ None
+    = none_either (length all == 0) (nat_le (length all) 8) (all_read u64.read all)
+    (all_read_none u64.read fs (codes "locked") locked_is_no_word) in
+    rw (no_dash, none) refl
+
+locked_is_no_value : (fs : List (List ℕ)) → value.read (fs ++ codes "locked" ∷ []) ≡ None
+locked_is_no_value [] = no_words [] refl
+locked_is_no_value (f ∷ fs) = no_words (f ∷ fs) (more_than_dash (bytes_eq f (codes "-")) fs (codes "locked"))
+
+nothing_is_no_value : value.read [] ≡ None
+unfolding some_read
+nothing_is_no_value = refl
+
+pub audit_row_is : (tables : List Table) → IsSpelling (audit_row_kind tables).rest
+audit_row_is tables =
+    next_is (table_is tables) (next_is u64_is
+    (with_mark_is (codes "locked") refl locked_is_no_value nothing_is_no_value value_is))

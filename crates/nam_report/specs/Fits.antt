@@ -16,6 +16,7 @@ use Rattle.si_model.specs.declared.report.Report.{Report}
 use Rattle.si_model.specs.Tells.{reads_in, locks_in, total}
 use Rattle.nam_catalog.specs.Tables.{widths_of}
 use Rattle.nam_script.specs.declared.script.Script.{Script}
+use Rattle.nam_report.specs.Numbers.{NumbersFit}
 
 -- the number is one of the tables'
 abbrev pub NamesTable : List ℕ → ℕ → Type 0
@@ -74,9 +75,10 @@ EntryFits widths c = AllByRecursion (ItemFits widths) c.writes
 abbrev pub AuditRowFits : List ℕ → AuditRow → Type 0
 AuditRowFits widths a = HasWidth widths a.table a.value
 
--- the report has a log for each worker, and speaks of the script's tables
+-- the report has a log for each worker, and speaks of the script's tables; its numbers fit their fields
 pub record FitsScript (s : Script) (r : Report) : Type 0 where
   pub workers : length r.logs ≡ s.shape.workers
   pub history : AllByRecursion (EntryFits (widths_of s.shape.tables)) r.history
   pub logs : AllByRecursion (LogFits s.shape.workers (widths_of s.shape.tables)) r.logs
   pub audit : AllByRecursion (AuditRowFits (widths_of s.shape.tables)) r.audit
+  pub numbers : NumbersFit r

@@ -10,7 +10,9 @@ mod audit;
 mod event;
 mod history;
 mod item;
+mod laws;
 mod log;
+mod numbers;
 mod report;
 #[cfg(test)]
 mod tests;
@@ -18,4 +20,6 @@ mod tests;
 mod tests_arrange;
 
 pub use arranging::arrange;
+pub use laws::text_law;
+pub use numbers::numbers_fit;
 pub use report::report_text;

@@ -8,7 +8,7 @@ ghost use Rattle.nam_report.specs.Fits.{EntryFits, LogFits, FitsScript};
 use crate::attempt::push_attempt;
 use crate::audit::push_audit;
 use crate::event::push_event;
-use crate::report_text;
+use crate::{numbers_fit, report_text};
 use lists::{List, ShortList};
 use nam_catalog::{Form, Shape, Table, TableName};
 use nam_script::{Script, Turns};
@@ -135,6 +135,7 @@ fn transfer(alloc: Global) -> Result<(Script, Report), AllocError>
         logs: List::from_vec(vec![in alloc; log]?),
         audit: List::from_vec(vec![in alloc; audit_row(0, 90), audit_row(1, 10)]?),
     };
+    numbers_fit(&report);
     Ok((script(alloc, 1, "acct"), report))
 }
 
@@ -249,6 +250,7 @@ fn too_old(alloc: Global) -> Result<(Script, Report), AllocError>
         logs: two_logs(alloc)?,
         audit: List::from_vec(vec![in alloc; audit_row(0, 7)]?),
     };
+    numbers_fit(&report);
     Ok((script(alloc, 2, "t"), report))
 }
 

@@ -31,6 +31,7 @@ use Rattle.namdb.specs.InRange.{TxnInRange, IsInRange}
 use Rattle.si_model.specs.Tells.{reads_in, locks_in}
 use Rattle.nam_report.specs.Fits.{NamesTable, ItemFits, LockFits, EventFits, EntryFits, AuditRowFits, LogFits}
 use Rattle.nam_report.specs.Fits.{FitsScript}
+use Rattle.nam_report.specs.Numbers.{NumbersFit}
 use Rattle.nam_report.proofs.FitsLemmas.{AllByRecursion-append}
 use Rattle.nam_script.specs.ScriptSetting.{setting_of}
 use Rattle.namdb.specs.Serial.{lock_on, writes_by, entry_by, ops_of, evaluated_after, tell_after, entry_after}
@@ -376,8 +377,8 @@ fit-jobs workers widths (x ∷ xs) fits = (fits.0.ops, fit-jobs workers widths x
 pub serial_fits : (script : Script) (r : Report) (rows : List Row) → IsInRange script
     → r.history ≡ end_after (setting_of script) 1 [] script.shape.workers
     → r.logs ≡ logs_after (setting_of script) 1 [] script.shape.workers → r.audit ≡ audit_of rows
-    → ListsRows rows (state_at (rows_of script.rows) r.history) → FitsScript script r
-serial_fits script r rows in_range history logs audit lists =
+    → ListsRows rows (state_at (rows_of script.rows) r.history) → NumbersFit r → FitsScript script r
+serial_fits script r rows in_range history logs audit lists numbers =
     let s = setting_of script in
     let rows_fit = in_range.rows in
     let jobs_fit = fit-jobs script.shape.workers s.widths script.txns in_range.txns in
@@ -392,4 +393,5 @@ serial_fits script r rows in_range history logs audit lists =
       audit = subst (AllByRecursion (AuditRowFits s.widths)) (sym audit)
           (fit-listed s.widths rows (state_at (rows_of script.rows) r.history) lists
           (fit-state s rows_fit jobs_fit r.history history_fits));
+      numbers = numbers;
     }

@@ -10,6 +10,7 @@ ghost use Rattle.nam_catalog.specs.Tables.{widths_of};
 ghost use Rattle.nam_script.specs.Limits.{IsScript};
 ghost use Rattle.namdb.specs.InRange.{IsInRange};
 ghost use Rattle.nam_report.specs.Fits.{FitsScript};
+ghost use Rattle.nam_report.specs.Numbers.{NumbersFit};
 ghost use Rattle.nam_script.specs.ScriptSetting.{setting_of};
 ghost use Rattle.namdb.specs.Few.{HasFew};
 ghost use Rattle.namdb.specs.Store.{IsStore, IsPlan};
@@ -21,6 +22,7 @@ use crate::keys::names_of;
 use crate::store::Store;
 use lists::List;
 use nam_catalog::{Table, greatest};
+use nam_report::numbers_fit;
 use nam_script::Script;
 use si_model::{AuditRow, Log, Report, Row};
 use std::alloc::{AllocError, Global};
@@ -163,15 +165,18 @@ fn close(alloc: Global, store: Store, logs: List<Log>) -> Result<Report, AllocEr
     ensures logs { IfOk result (λ report. report.logs ≡ logs) }
     ensures audit { IfOk result (λ report.
         (rows : List Row) × (report.audit ≡ audit_of rows) × ListsRows rows (rows_held store.rows)) }
+    ensures numbers { IfOk result NumbersFit }
 {
     let Store { rows, history, .. } = store;
     let rows = rows.into_rows(alloc)?;
     let audit = audit(alloc, rows)?;
-    Ok(Report {
+    let report = Report {
         history,
         logs,
         audit,
-    })
+    };
+    numbers_fit(&report);
+    Ok(report)
 }
 
 /// Runs a script, one worker after another, and each transaction once.

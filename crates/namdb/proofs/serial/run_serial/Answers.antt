@@ -1,4 +1,5 @@
-use Rattle.std.proofs.Common.{◌≡◌, List, ◌∙◌, ap, sym, subst, length}
+use Rattle.std.proofs.Common.{◌≡◌, List, ◌∙◌, ap, sym, subst, length, Result, Ok, Err}
+use Rattle.std.specs.Prelude.{IfOk}
 use Rattle.std.proofs.lemmas.List.{length-map}
 use Rattle.si_model.specs.declared.row.Row.{Row}
 use Rattle.si_model.specs.declared.report.Report.{Report}
@@ -8,6 +9,7 @@ use Rattle.si_model.specs.State.{state_at}
 use Rattle.si_model.specs.Run.{IsRun}
 use Rattle.nam_script.specs.declared.script.Script.{Script}
 use Rattle.nam_report.specs.Fits.{FitsScript}
+use Rattle.nam_report.specs.Numbers.{NumbersFit}
 use Rattle.namdb.specs.declared.store.Store.{Store}
 use Rattle.nam_script.specs.ScriptSetting.{setting_of}
 use Rattle.namdb.specs.Store.{IsStore}
@@ -57,16 +59,22 @@ returns-clause-run c =
     (final_rows script store r c.in_ok-logs.ensures.store h a.0 a.2))
     c.close.ensures.history c.close.ensures.logs c.close.ensures.audit
 
+-- a fact of an Ok, and what follows from it
+if_ok_with : {A E : Type 0} (r : Result A E) (P Q : A → Type 0) → IfOk r P → IfOk r (λ a. P a → Q a) → IfOk r Q
+if_ok_with (Ok a) P Q p f = f p
+if_ok_with (Err e) P Q p f = tt
+
 pub returns-clause-fits : goal.returns-clause-fits
 returns-clause-fits c =
     let script = c.args.script.now in
     let s = setting_of script in
     let store = c.run_workers.new.store in
     let none = c.in_ok-store.ensures.history in
-    if_ok_all c.close.result _ _ _ (FitsScript script)
+    if_ok_with c.close.result NumbersFit (FitsScript script) c.close.ensures.numbers
+    (if_ok_all c.close.result _ _ _ (λ r. NumbersFit r → FitsScript script r)
     (λ r h l a.
     let history = h ∙ c.in_ok-logs.ensures.history ∙ ap (λ z. end_after s 1 z s.workers) none in
     let logs = l ∙ c.in_ok-logs.ensures.logs ∙ ap (λ z. logs_after s 1 z s.workers) none in
     serial_fits script r a.0 (in_range c.args.script.now c.requires) history logs a.1
     (final_rows script store r c.in_ok-logs.ensures.store h a.0 a.2))
-    c.close.ensures.history c.close.ensures.logs c.close.ensures.audit
+    c.close.ensures.history c.close.ensures.logs c.close.ensures.audit)

@@ -1,11 +1,9 @@
 //! What a field spells.
 
-ghost use Rattle.std.specs.Prelude.{◌≡◌, ◌<◌, length, true};
+ghost use Rattle.std.specs.Prelude.{◌≡◌, ◌≤◌, ◌<◌, ◌+◌, ◌*◌, ◌^◌, true, MatchOption};
 ghost use Rattle.std.specs.List.{list_all};
-ghost use Rattle.std.specs.Char.{is_ascii_digit};
+ghost use Rattle.std.specs.Char.{is_ascii_digit, digit_value};
 ghost use Rattle.nam_text.specs.Token.{is_number, number_of, number_value, is_name, is_name_byte};
-
-use std::str;
 
 /// A number as it is spelt: none where it is above 2^64 - 1.
 pub type Number = Option<u64>;
@@ -26,17 +24,26 @@ fn is_number(field: &[u8]) -> bool
     field[0] != b'0' || field.len() == 1
 }
 
+/// A number with one digit more. None where it is above 2^64 - 1.
+#[tactic(auto, using(crate::proofs::Digits::digit_is))]
+fn with_digit(value: u64, digit: u8) -> Number
+    requires { is_ascii_digit digit ≡ true }
+    ensures { MatchOption result (2 ^ 64 ≤ value * 10 + digit_value digit) (λ more.
+        (more ≡ value * 10 + digit_value digit) × (more < 2 ^ 64)) }
+{
+    value.checked_mul(10)?.checked_add(u64::from(digit - b'0'))
+}
+
 /// The number that digits spell.
-#[tactic(auto, using(crate::proofs::Tokens::value_gives, crate::proofs::Tokens::utf8_from_digits))]
 fn number_value(digits: &[u8]) -> Number
-    requires digits { list_all is_ascii_digit digits.now ≡ true }
-    requires some { 0 < length digits.now }
+    requires { list_all is_ascii_digit digits.now ≡ true }
     ensures { result ≡ number_value digits.now }
 {
-    let Ok(text) = str::from_utf8(digits) else {
-        return None;
-    };
-    text.parse::<u64>().ok()
+    let mut value: u64 = 0;
+    for digit in digits {
+        value = with_digit(value, *digit)?;
+    }
+    Some(value)
 }
 
 /// The number that a field spells in decimal digits, without a leading zero. None where it spells no number.

@@ -1,60 +1,55 @@
 //! What a field spells.
 
-ghost use Rattle.std.specs.Prelude.{◌≡◌, ◌≤◌, ◌<◌, ◌+◌, ◌*◌, ◌^◌, true, MatchOption};
+ghost use Rattle.std.specs.Prelude.{◌≡◌, true, false, MatchOption};
 ghost use Rattle.std.specs.List.{list_all};
 ghost use Rattle.std.specs.Char.{is_ascii_digit, digit_value};
-ghost use Rattle.nam_text.specs.Token.{is_number, number_of, number_value, is_name, is_name_byte};
+ghost use Rattle.nam_text.specs.Token.{is_led, with_digit, number_of, is_name, is_name_byte};
 
 /// A number as it is spelt: none where it is above 2^64 - 1.
 pub type Number = Option<u64>;
 
-fn all_digits(field: &[u8]) -> bool
-    ensures { result ≡ list_all is_ascii_digit field.now }
+/// Is it not empty, and without a leading zero, 0 alone excepted?
+fn is_led(field: &[u8]) -> bool
+    ensures { result ≡ is_led field.now }
 {
-    field.iter().all(|byte| byte.is_ascii_digit())
-}
-
-/// Are these decimal digits, without a leading zero?
-fn is_number(field: &[u8]) -> bool
-    ensures { result ≡ is_number field.now }
-{
-    if field.is_empty() || !all_digits(field) {
+    if field.is_empty() {
         return false;
     }
     field[0] != b'0' || field.len() == 1
 }
 
-/// A number with one digit more. None where it is above 2^64 - 1.
+/// The value of a digit.
 #[tactic(auto, using(crate::proofs::Digits::digit_is))]
-fn with_digit(value: u64, digit: u8) -> Number
-    requires { is_ascii_digit digit ≡ true }
-    ensures { MatchOption result (2 ^ 64 ≤ value * 10 + digit_value digit) (λ more.
-        (more ≡ value * 10 + digit_value digit) × (more < 2 ^ 64)) }
+fn digit_of(byte: u8) -> Option<u8>
+    ensures { MatchOption result (is_ascii_digit byte ≡ false) (λ digit.
+        (is_ascii_digit byte ≡ true) × (digit ≡ digit_value byte)) }
 {
-    value.checked_mul(10)?.checked_add(u64::from(digit - b'0'))
+    if byte.is_ascii_digit() {
+        Some(byte - b'0')
+    } else {
+        None
+    }
 }
 
-/// The number that digits spell.
-fn number_value(digits: &[u8]) -> Number
-    requires { list_all is_ascii_digit digits.now ≡ true }
-    ensures { result ≡ number_value digits.now }
+/// A number with one digit more. None where it is above 2^64 - 1.
+fn with_digit(number: Number, digit: u8) -> Number
+    ensures { result ≡ with_digit number digit }
 {
-    let mut value: u64 = 0;
-    for digit in digits {
-        value = with_digit(value, *digit)?;
-    }
-    Some(value)
+    number?.checked_mul(10)?.checked_add(u64::from(digit))
 }
 
 /// The number that a field spells in decimal digits, without a leading zero. None where it spells no number.
-#[tactic(auto, unfolding(crate::specs::Token::number_of))]
 pub fn number(field: &[u8]) -> Option<Number>
     ensures { result ≡ number_of field.now }
 {
-    if !is_number(field) {
+    if !is_led(field) {
         return None;
     }
-    Some(number_value(field))
+    let mut value = Some(0);
+    for byte in field {
+        value = with_digit(value, digit_of(*byte)?);
+    }
+    Some(value)
 }
 
 fn all_name_bytes(field: &[u8]) -> bool

@@ -8,7 +8,7 @@ use Rattle.nam_text.specs.Fields.{fields_of, lines_of}
 use Rattle.nam_text.specs.Kinds.{fields, text}
 use Rattle.nam_text.proofs.KindLemmas.{join_is}
 use Rattle.nam_text.proofs.Again.{no_newline, split_again}
-use Rattle.nam_script.specs.declared.line.Line.{Line}
+use Rattle.nam_script.specs.Line.{Line}
 use Rattle.nam_script.specs.declared.draft.Draft.{Draft}
 use Rattle.nam_script.specs.declared.refusal.ParseEnd.{ParseEnd}
 use Rattle.nam_script.specs.declared.script.Script.{Script}

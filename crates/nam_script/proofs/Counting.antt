@@ -10,8 +10,8 @@ use Rattle.si_model.specs.declared.row.Row.{Row}
 use Rattle.nam_catalog.specs.declared.shape.Table.{Table}
 use Rattle.nam_catalog.specs.Fits.{FitsTable}
 use Rattle.nam_catalog.specs.Tables.{widths_of, capacities_of}
-use Rattle.nam_script.specs.declared.line.Line.{Line}
-use Rattle.nam_script.specs.declared.line.Line.TheVariants as line
+use Rattle.nam_script.specs.Line.{Line}
+use Rattle.nam_script.specs.Line as line
 use Rattle.nam_script.specs.declared.script.ScriptTxn.{ScriptTxn}
 use Rattle.nam_script.specs.declared.script.Stint.{Stint}
 use Rattle.nam_script.specs.declared.draft.Draft.{Draft}

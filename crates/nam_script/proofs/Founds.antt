@@ -9,8 +9,8 @@ use Rattle.si_model.specs.declared.row.Row.{Row}
 use Rattle.nam_catalog.specs.declared.shape.Shape.{Shape}
 use Rattle.nam_catalog.specs.Limits.{fault_of}
 use Rattle.si_model.specs.declared.op.Policy.{Policy}
-use Rattle.nam_script.specs.declared.line.Line.{Line}
-use Rattle.nam_script.specs.declared.line.Line.TheVariants as line
+use Rattle.nam_script.specs.Line.{Line}
+use Rattle.nam_script.specs.Line as line
 use Rattle.nam_script.specs.declared.script.ScriptTxn.{ScriptTxn}
 use Rattle.nam_script.specs.declared.script.Stint.{Stint}
 use Rattle.nam_script.specs.declared.script.Script.{Script}

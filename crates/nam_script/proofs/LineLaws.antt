@@ -17,10 +17,10 @@ use Rattle.nam_text.proofs.Spellings.{last_is, next_is, some_is}
 use Rattle.nam_text.proofs.KindLemmas.{Takes, none_takes, or_takes, line_again, line_plain}
 use Rattle.nam_script.specs.declared.line.Change.{Change}
 use Rattle.nam_script.specs.declared.line.SpeltStint.{SpeltStint}
-use Rattle.nam_script.specs.declared.line.Line.{Line}
-use Rattle.nam_script.specs.declared.line.Line.TheVariants.{Version, Header, Workers, Tries, Tidy, Start, Overflow}
-use Rattle.nam_script.specs.declared.line.Line.TheVariants.{Table, Row, Txn, Get, Put, Add, Del, Need, Guard, Scan}
-use Rattle.nam_script.specs.declared.line.Line.TheVariants.{End, Turns, Seed}
+use Rattle.nam_script.specs.Line.{Line}
+use Rattle.nam_script.specs.Line.{Version, Header, Workers, Tries, Tidy, Start, Overflow}
+use Rattle.nam_script.specs.Line.{Table, Row, Txn, Get, Put, Add, Del, Need, Guard, Scan}
+use Rattle.nam_script.specs.Line.{End, Turns, Seed}
 use Rattle.nam_script.specs.Lines.{form_word, form, switch_word, switch, change_text, is_zero as zero_amount}
 use Rattle.nam_script.specs.Lines.{change_by, change_of, FitsChange, change, spelt_stint_text, parted_at, stint_of}
 use Rattle.nam_script.specs.Lines.{FitsStint, stint, version_line, header_line, workers_line, tries_line, tidy_line}

@@ -20,8 +20,8 @@ use Rattle.nam_catalog.specs.Tables.{widths_of, capacities_of}
 use Rattle.nam_catalog.specs.Limits.{fault_of}
 use Rattle.nam_catalog.proofs.FitsLemmas.{fits_limits}
 use Rattle.nam_script.specs.declared.refusal.Kind.TheVariants as kind
-use Rattle.nam_script.specs.declared.line.Line.{Line}
-use Rattle.nam_script.specs.declared.line.Line.TheVariants as line
+use Rattle.nam_script.specs.Line.{Line}
+use Rattle.nam_script.specs.Line as line
 use Rattle.nam_script.specs.declared.script.ScriptTxn.{ScriptTxn}
 use Rattle.nam_script.specs.declared.script.Stint.{Stint}
 use Rattle.nam_script.specs.declared.checks.Found.{Found}

@@ -9,7 +9,7 @@ use Rattle.std.proofs.lemmas.Grind.{flat_map-append}
 use Rattle.nam_text.specs.Fields.{fields_of, lines_of}
 use Rattle.nam_text.proofs.Takes.{if_then}
 use Rattle.nam_script.specs.declared.refusal.Kind.{Kind}
-use Rattle.nam_script.specs.declared.line.Line.{Line}
+use Rattle.nam_script.specs.Line.{Line}
 use Rattle.nam_script.specs.declared.script.Stint.{Stint}
 use Rattle.nam_script.specs.declared.draft.Draft.{Draft}
 use Rattle.nam_script.specs.Stages.{can_end}

@@ -9,8 +9,8 @@ use Rattle.si_model.specs.declared.op.Op.{Op}
 use Rattle.nam_catalog.specs.declared.shape.Table.{Table}
 use Rattle.nam_text.specs.Token.{number_text}
 use Rattle.nam_text.specs.Kinds.{behind_spaces}
-use Rattle.nam_script.specs.declared.line.Line.{Line}
-use Rattle.nam_script.specs.declared.line.Line.TheVariants as line
+use Rattle.nam_script.specs.Line.{Line}
+use Rattle.nam_script.specs.Line as line
 use Rattle.nam_script.specs.declared.script.ScriptTxn.{ScriptTxn}
 use Rattle.nam_script.specs.declared.script.Stint.{Stint}
 use Rattle.nam_script.specs.Lines.{spelt_stint_text, spelt_line}

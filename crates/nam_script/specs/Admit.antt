@@ -20,8 +20,8 @@ use Rattle.nam_script.specs.declared.refusal.LineEnd.{LineEnd}
 use Rattle.nam_script.specs.declared.refusal.LineEnd.TheVariants as ends
 use Rattle.nam_script.specs.declared.line.Change.{Change}
 use Rattle.nam_script.specs.declared.line.SpeltStint.{SpeltStint}
-use Rattle.nam_script.specs.declared.line.Line.{Line}
-use Rattle.nam_script.specs.declared.line.Line.TheVariants as line
+use Rattle.nam_script.specs.Line.{Line}
+use Rattle.nam_script.specs.Line as line
 use Rattle.nam_script.specs.declared.draft.Body.{Body}
 use Rattle.nam_script.specs.declared.draft.Draft.{Draft}
 use Rattle.nam_script.specs.declared.stage.Stage.TheVariants as stage
@@ -257,3 +257,8 @@ abbrev pub Takes : {A : Type 0} → Result (Unit {0}) LineEnd → A → Result A
 Takes (Ok u) new given = given ≡ Ok new
 Takes (Err (ends.Bad k)) new given = given ≡ Err k
 Takes (Err ends.Memory) new given = Unit {0}
+
+-- the same of a line by its fields: nothing was returned where they spell none
+abbrev pub TakesLine : Option (Result (Unit {0}) LineEnd) → Draft → Draft → Option Line → Type 0
+TakesLine None new old read = read ≡ None
+TakesLine (Some taken) new old read = Takes taken new (admit_spelt old read)

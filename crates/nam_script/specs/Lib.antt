@@ -1,5 +1,6 @@
 pub mod Text
 pub mod Limits
+pub mod Line
 pub mod Lines
 pub mod Stages
 pub mod Checks

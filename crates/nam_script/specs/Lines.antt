@@ -11,10 +11,10 @@ use Rattle.nam_text.specs.Spelling.{Field, FitsWord, IsWord, number, name, choic
 use Rattle.nam_text.specs.Kinds.{LineKind, kind, Spelt, of, Reader, no_line, or}
 use Rattle.nam_script.specs.declared.line.Change.{Change}
 use Rattle.nam_script.specs.declared.line.SpeltStint.{SpeltStint}
-use Rattle.nam_script.specs.declared.line.Line.{Line}
-use Rattle.nam_script.specs.declared.line.Line.TheVariants.{Version, Header, Workers, Tries, Tidy, Start, Overflow}
-use Rattle.nam_script.specs.declared.line.Line.TheVariants.{Table, Row, Txn, Get, Put, Add, Del, Need, Guard, Scan}
-use Rattle.nam_script.specs.declared.line.Line.TheVariants.{End, Turns, Seed}
+use Rattle.nam_script.specs.Line.{Line}
+use Rattle.nam_script.specs.Line.{Version, Header, Workers, Tries, Tidy, Start, Overflow}
+use Rattle.nam_script.specs.Line.{Table, Row, Txn, Get, Put, Add, Del, Need, Guard, Scan}
+use Rattle.nam_script.specs.Line.{End, Turns, Seed}
 
 -- ---- parts of lines
 

@@ -11,7 +11,7 @@ use Rattle.nam_script.specs.declared.script.Stint.{Stint}
 use Rattle.nam_script.specs.declared.script.Turns.{Turns}
 use Rattle.nam_script.specs.declared.script.Turns.TheVariants as turns
 use Rattle.nam_script.specs.declared.script.Script.{Script}
-use Rattle.nam_script.specs.declared.line.Line.TheVariants as line
+use Rattle.nam_script.specs.Line as line
 use Rattle.nam_script.specs.Lines.{spelt_stint_text}
 use Rattle.nam_script.specs.Spelling.{line_text, text_of, spelt, opening_lines, store_lines, table_line, row_line}
 use Rattle.nam_script.specs.Spelling.{op_line, turns_line}

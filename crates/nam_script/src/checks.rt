@@ -5,7 +5,7 @@ ghost use Rattle.nam_script.specs.Checks.{within, small, all_small, key_of, stin
 ghost use Rattle.nam_script.specs.Checks.{total_within, keys_after, steps_of};
 ghost use Rattle.nam_script.specs.Admit.{Takes};
 
-use crate::line::{Numbers, SpeltStint, SpeltStints};
+use crate::line::{Numbers, SpeltStint};
 use crate::refusal::{Kind, LineEnd};
 use crate::script::Stint;
 use lists::{List, ShortList};
@@ -79,7 +79,8 @@ fn stint_within(workers: u32, spelt: SpeltStint) -> Result<Stint, Kind>
 }
 
 /// The stints, each within its limits.
-pub fn all_stints(workers: u32, spelt: &SpeltStints) -> Result<Stints, Kind>
+pub fn all_stints(workers: u32, spelt: &List<SpeltStint>) -> Result<Stints, Kind>
+    requires { length spelt.now ≤ 64 }
     ensures { result ≡ all_stints workers spelt.now }
 {
     let mut stints = Stints::new();
@@ -102,13 +103,13 @@ pub fn steps_of(stints: &[Stint]) -> u64
 }
 
 /// The first table of a name.
-pub fn place_of(tables: &[Table], name: &str) -> Result<Found, Kind>
+pub fn place_of(tables: &[Table], name: &[u8]) -> Result<Found, Kind>
     requires { length tables.now ≤ 8 }
     ensures place { result ≡ place_of tables.now name.now }
     ensures few { IfOk result (λ found. found.table < 8) }
 {
     for (place, table) in tables.iter().enumerate() {
-        if table.name.as_str() == name {
+        if table.name.as_str().as_bytes() == name {
             return Ok(Found {
                 table: place as u32,
                 width: table.width,

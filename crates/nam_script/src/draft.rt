@@ -1,6 +1,7 @@
 //! The script so far, line by line.
 
-ghost use Rattle.std.specs.Prelude.{◌≡◌, ◌<◌, IfOk};
+ghost use Rattle.std.specs.Prelude.{◌≡◌, ◌<◌, true, IfOk};
+ghost use Rattle.nam_text.specs.Token.{is_name};
 ghost use Rattle.nam_script.specs.Checks.{place_of};
 ghost use Rattle.nam_script.specs.Admit.{Takes, no_body, start, is_held, admit_version, admit_header, admit_workers};
 ghost use Rattle.nam_script.specs.Admit.{admit_tries, admit_tidy, admit_start, admit_overflow, admit_table};
@@ -17,8 +18,8 @@ use nam_catalog::bounds::{
     MOST_BUCKETS, MOST_CAPACITY, MOST_CELLS, MOST_RING, MOST_TABLES, MOST_TRIES, MOST_WIDTH,
     MOST_WORKERS,
 };
-use nam_catalog::{Form, Shape, Table, TableName, check, greatest};
-use nam_text::Number;
+use nam_catalog::{Form, Shape, Table, check, greatest};
+use nam_text::{Number, table_name};
 use si_model::{Key, Op, Policy, Row};
 use std::alloc::Global;
 
@@ -174,26 +175,27 @@ impl Draft {
     }
 
     /// Finds a table by its name.
-    pub fn find(&self, name: &TableName) -> Result<Found, Kind>
+    pub fn find(&self, name: &[u8]) -> Result<Found, Kind>
         ensures place { result ≡ place_of self.now.shape.tables name.now }
         ensures few { IfOk result (λ found. found.table < 8) }
     {
-        place_of(self.shape.tables.as_slice(), name.as_str())
+        place_of(self.shape.tables.as_slice(), name)
     }
 
     pub fn table(
         &mut self,
-        name: TableName,
+        name: &[u8],
         width: Number,
         capacity: Number,
         ring: Number,
     ) -> Result<(), LineEnd>
-        ensures { Takes result self.new (admit_table self.old name width capacity ring) }
+        requires { is_name name.now ≡ true }
+        ensures { Takes result self.new (admit_table self.old name.now width capacity ring) }
     {
         if !self.stage.takes_table() {
             return Err(LineEnd::Bad(Kind::Word));
         }
-        if self.find(&name).is_ok() {
+        if self.find(name).is_ok() {
             return Err(LineEnd::Bad(Kind::Name));
         }
         let width = within_u32(1, MOST_WIDTH, width)?;
@@ -203,7 +205,7 @@ impl Draft {
             return Err(LineEnd::Bad(Kind::Size));
         }
         self.shape.tables.push(Table {
-            name,
+            name: table_name(name),
             width,
             capacity,
             ring,
@@ -216,13 +218,13 @@ impl Draft {
         Ok(())
     }
 
-    pub fn row(&mut self, table: TableName, key: Number, values: Numbers) -> Result<(), LineEnd>
-        ensures { Takes result self.new (admit_row self.old table key values) }
+    pub fn row(&mut self, table: &[u8], key: Number, values: Numbers) -> Result<(), LineEnd>
+        ensures { Takes result self.new (admit_row self.old table.now key values) }
     {
         if !self.stage.takes_row() {
             return Err(LineEnd::Bad(Kind::Word));
         }
-        let found = self.find(&table)?;
+        let found = self.find(table)?;
         let key = key_of(key)?;
         let value = all_small(&values)?;
         if self.body.rows.is_given(found.table, key) {

@@ -8,12 +8,11 @@ use crate::checks::{
     all_small, all_stints, claim, key_of, small, steps_of, total_within, within_u32,
 };
 use crate::draft::Draft;
-use crate::line::{Change, Numbers, SpeltStints};
+use crate::line::{Change, Numbers, SpeltStint};
 use crate::refusal::{Kind, LineEnd};
 use crate::script::{ScriptTxn, Stint};
 use crate::stage::Stage;
 use lists::List;
-use nam_catalog::TableName;
 use nam_catalog::bounds::{MOST_OPS, MOST_PICKS, MOST_TURNS, MOST_TXN_OPS, MOST_TXNS};
 use nam_text::Number;
 use si_model::Op;
@@ -57,13 +56,13 @@ impl Draft {
         Ok(())
     }
 
-    pub fn get(&mut self, table: TableName, key: Number) -> Result<(), LineEnd>
-        ensures { Takes result self.new (admit_get self.old table key) }
+    pub fn get(&mut self, table: &[u8], key: Number) -> Result<(), LineEnd>
+        ensures { Takes result self.new (admit_get self.old table.now key) }
     {
         if !self.stage.is_at(Stage::Open) {
             return Err(LineEnd::Bad(Kind::Word));
         }
-        let found = self.find(&table)?;
+        let found = self.find(table)?;
         let key = key_of(key)?;
         let op = Op::Get {
             table: found.table,
@@ -72,13 +71,13 @@ impl Draft {
         self.push_op(op, 1)
     }
 
-    pub fn put(&mut self, table: TableName, key: Number, values: Numbers) -> Result<(), LineEnd>
-        ensures { Takes result self.new (admit_put self.old table key values) }
+    pub fn put(&mut self, table: &[u8], key: Number, values: Numbers) -> Result<(), LineEnd>
+        ensures { Takes result self.new (admit_put self.old table.now key values) }
     {
         if !self.stage.is_at(Stage::Open) {
             return Err(LineEnd::Bad(Kind::Word));
         }
-        let found = self.find(&table)?;
+        let found = self.find(table)?;
         let key = key_of(key)?;
         let value = all_small(&values)?;
         if value.len() != found.width as usize {
@@ -94,17 +93,17 @@ impl Draft {
 
     pub fn add(
         &mut self,
-        table: TableName,
+        table: &[u8],
         key: Number,
         field: Number,
         change: Change,
     ) -> Result<(), LineEnd>
-        ensures { Takes result self.new (admit_add self.old table key field change) }
+        ensures { Takes result self.new (admit_add self.old table.now key field change) }
     {
         if !self.stage.is_at(Stage::Open) {
             return Err(LineEnd::Bad(Kind::Word));
         }
-        let found = self.find(&table)?;
+        let found = self.find(table)?;
         let key = key_of(key)?;
         let field = within_u32(1, found.width, field)?;
         let by = small(change.by)?;
@@ -118,13 +117,13 @@ impl Draft {
         self.push_op(op, 1)
     }
 
-    pub fn del(&mut self, table: TableName, key: Number) -> Result<(), LineEnd>
-        ensures { Takes result self.new (admit_del self.old table key) }
+    pub fn del(&mut self, table: &[u8], key: Number) -> Result<(), LineEnd>
+        ensures { Takes result self.new (admit_del self.old table.now key) }
     {
         if !self.stage.is_at(Stage::Open) {
             return Err(LineEnd::Bad(Kind::Word));
         }
-        let found = self.find(&table)?;
+        let found = self.find(table)?;
         let key = key_of(key)?;
         let op = Op::Del {
             table: found.table,
@@ -135,17 +134,17 @@ impl Draft {
 
     pub fn need(
         &mut self,
-        table: TableName,
+        table: &[u8],
         key: Number,
         field: Number,
         least: Number,
     ) -> Result<(), LineEnd>
-        ensures { Takes result self.new (admit_need self.old table key field least) }
+        ensures { Takes result self.new (admit_need self.old table.now key field least) }
     {
         if !self.stage.is_at(Stage::Open) {
             return Err(LineEnd::Bad(Kind::Word));
         }
-        let found = self.find(&table)?;
+        let found = self.find(table)?;
         let key = key_of(key)?;
         let field = within_u32(1, found.width, field)?;
         let least = small(least)?;
@@ -158,13 +157,13 @@ impl Draft {
         self.push_op(op, 1)
     }
 
-    pub fn guard(&mut self, table: TableName, key: Number) -> Result<(), LineEnd>
-        ensures { Takes result self.new (admit_guard self.old table key) }
+    pub fn guard(&mut self, table: &[u8], key: Number) -> Result<(), LineEnd>
+        ensures { Takes result self.new (admit_guard self.old table.now key) }
     {
         if !self.stage.is_at(Stage::Open) {
             return Err(LineEnd::Bad(Kind::Word));
         }
-        let found = self.find(&table)?;
+        let found = self.find(table)?;
         let key = key_of(key)?;
         let op = Op::Guard {
             table: found.table,
@@ -173,13 +172,13 @@ impl Draft {
         self.push_op(op, 1)
     }
 
-    pub fn scan(&mut self, table: TableName, low: Number, high: Number) -> Result<(), LineEnd>
-        ensures { Takes result self.new (admit_scan self.old table low high) }
+    pub fn scan(&mut self, table: &[u8], low: Number, high: Number) -> Result<(), LineEnd>
+        ensures { Takes result self.new (admit_scan self.old table.now low high) }
     {
         if !self.stage.is_at(Stage::Open) {
             return Err(LineEnd::Bad(Kind::Word));
         }
-        let found = self.find(&table)?;
+        let found = self.find(table)?;
         let low = key_of(low)?;
         let high = key_of(high)?;
         if low > high {
@@ -203,7 +202,7 @@ impl Draft {
             return Err(LineEnd::Bad(Kind::Word));
         }
         let ops = mem::replace(&mut self.body.ops, List::new(alloc));
-        self.body.keys = List::new(alloc);
+        self.body.keys.clear();
         self.body.txns.push(ScriptTxn {
             worker: self.body.worker,
             ops,
@@ -212,13 +211,14 @@ impl Draft {
         Ok(())
     }
 
-    pub fn turns(&mut self, spelt: SpeltStints) -> Result<(), LineEnd>
-        ensures { Takes result self.new (admit_turns self.old spelt) }
+    pub fn turns(&mut self, spelt: &List<SpeltStint>) -> Result<(), LineEnd>
+        requires { length spelt.now ≤ 64 }
+        ensures { Takes result self.new (admit_turns self.old spelt.now) }
     {
         if !self.stage.takes_turns() {
             return Err(LineEnd::Bad(Kind::Word));
         }
-        let stints = all_stints(self.shape.workers, &spelt)?;
+        let stints = all_stints(self.shape.workers, spelt)?;
         let steps = steps_of(stints.as_slice());
         self.body.steps = total_within(self.body.steps, steps, MOST_TURNS)?;
         push_stints(&mut self.body.stints, stints.as_slice())?;

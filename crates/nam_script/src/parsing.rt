@@ -8,7 +8,7 @@ ghost use Rattle.nam_script.specs.Stages.{can_end};
 ghost use Rattle.nam_script.specs.Admit.{start};
 ghost use Rattle.nam_script.specs.Parse.{Gives, GivesDraft, draft_of, whole_script, script_of, end_at};
 ghost use Rattle.nam_script.specs.Spelling.{IsGood, admit_all, text_of};
-ghost use Rattle.nam_script.specs.declared.line.Line.{Line};
+ghost use Rattle.nam_script.specs.Line.{Line};
 ghost use Rattle.nam_script.specs.declared.draft.Draft.{Draft};
 ghost use Rattle.nam_script.specs.declared.script.Script.{Script};
 

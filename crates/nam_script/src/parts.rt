@@ -1,14 +1,16 @@
 //! Readers of the parts of lines. Each tells by None that the part is misspelt.
 
-ghost use Rattle.std.specs.Prelude.{◌≡◌, Option};
+ghost use Rattle.std.specs.Prelude.{◌≡◌, ◌≤◌, length, Option, IfOk, IfSome};
 ghost use Rattle.std.specs.List.{position};
 ghost use Rattle.nam_text.specs.Token.{number_of};
 ghost use Rattle.nam_text.specs.Read.{Reads, field_at, some_read};
 ghost use Rattle.nam_script.specs.Lines.{form, switch, change, change_of, stint_of};
 
-use crate::line::{Change, Numbers, SpeltStint, SpeltStints};
+use crate::line::{Change, Numbers, SpeltStint};
+use lists::List;
 use nam_catalog::Form;
 use nam_text::{Fields, find_byte, is_word, number};
+use std::alloc::{AllocError, Global};
 
 #[tactic(auto, unfolding(nam_text::specs::Read::field_at))]
 pub fn form_at(fields: &mut Fields) -> Option<Form>
@@ -95,19 +97,23 @@ fn stint(field: &[u8]) -> Option<SpeltStint>
 }
 
 /// 1 to 64 stints, and nothing after them.
-pub fn stints_at(fields: &mut Fields) -> Option<SpeltStints>
-    ensures { result ≡ some_read 64 stint_of fields.old }
+pub fn stints_at(alloc: Global, fields: &mut Fields) -> Result<Option<List<SpeltStint>>, AllocError>
+    ensures read { IfOk result (λ read. read ≡ some_read 64 stint_of fields.old) }
+    ensures few { IfOk result (λ read. IfSome read (λ stints. length stints ≤ 64)) }
 {
-    let mut stints = SpeltStints::new();
+    let mut stints = List::new(alloc);
     while let Some(field) = fields.next() {
         if stints.len() == 64 {
-            return None;
+            return Ok(None);
         }
-        stints.push(stint(field)?);
+        let Some(spelt) = stint(field) else {
+            return Ok(None);
+        };
+        stints.push(spelt)?;
     }
     if stints.len() == 0 {
-        None
+        Ok(None)
     } else {
-        Some(stints)
+        Ok(Some(stints))
     }
 }

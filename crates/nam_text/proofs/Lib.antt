@@ -4,3 +4,4 @@ pub mod Takes
 pub mod Again
 pub mod Spellings
 pub mod KindLemmas
+pub mod Digits

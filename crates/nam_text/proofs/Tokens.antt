@@ -22,21 +22,6 @@ tells_digits = search rules
 pub numerals : IsNumeralModel AreDigits (digits_value 10)
 numerals = numerals_by_value AreDigits tells_digits
 
-value_by_cases : {E : Type 0} (ds : List ℕ) (r : Result ℕ E) → 0 < length ds
-    → OkIff r ((0 < length ds) × (digits_value 10 ds < 2 ^ 64)) (digits_value 10 ds) → result_ok r ≡ number_value ds
-value_by_cases ds (Ok x) some h = rw (lt-ltb _ _ h.0.1, h.1) refl
-value_by_cases ds (Err e) some h =
-    let le : 2 ^ 64 ≤ digits_value 10 ds = elim (cases_lt (digits_value 10 ds) (2 ^ 64))
-    [ inl lt ↦ absurd (h (some, lt)) | inr le ↦ le ] in
-    rw (le-ltb _ _ le) refl
-
-pub value_gives : {E : Type 0} (ds : List ℕ) (r : Result ℕ E) → AreDigits ds → 0 < length ds → ParsesUnsigned 64 10 ds r
-    → result_ok r ≡ number_value ds
-value_gives ds r p some h = value_by_cases ds r some (parse_digits numerals 64 ds r h p)
-
-pub utf8_from_digits : (ds : List ℕ) → AreDigits ds → IsUtf8 ds
-utf8_from_digits ds p = IsUtf8-from_ascii ds (IsAscii-from_digits ds (numerals.to ds p))
-
 name_byte_ascii : (b : ℕ) → is_name_byte b ≡ true → b < 128
 name_byte_ascii b h = grind (arith, nat_tests)
 

@@ -13,6 +13,6 @@ mod token;
 mod value;
 
 pub use fields::{Fields, find_byte, first_line};
-pub use reading::{done, is_word, name_at, number_at, word_at};
+pub use reading::{done, is_word, name_at, number_at, table_name, word_at};
 pub use token::{Number, is_name, number};
 pub use value::{push_value, push_words};

@@ -1,7 +1,8 @@
 //! Readers of single fields. Each tells by None that the next field isn't what it reads.
 
-ghost use Rattle.std.specs.Prelude.{◌≡◌, ◌≤◌, length, true, IsTrue};
-ghost use Rattle.std.specs.Str.{bytes_eq, IsUtf8};
+ghost use Rattle.std.specs.Prelude.{◌≡◌, true, IfSome};
+ghost use Rattle.std.specs.Option.{option_copied};
+ghost use Rattle.std.specs.Str.{bytes_eq};
 ghost use Rattle.nam_text.specs.Token.{is_name};
 ghost use Rattle.nam_text.specs.Read.{word_at, field_at, done, Reads, ReadsWord};
 ghost use Rattle.nam_text.specs.Spelling.{number, name};
@@ -37,28 +38,25 @@ pub fn number_at(fields: &mut Fields) -> Option<Number>
     number(fields.next()?)
 }
 
+/// Reads the name of a table.
+#[tactic(auto, unfolding(crate::specs::Read::field_at))]
+pub fn name_at<'a>(fields: &mut Fields<'a>) -> Option<&'a [u8]>
+    ensures read { Reads (option_copied result) fields.new (field_at name.read fields.old) }
+    ensures name { IfSome result (λ text. is_name text.now ≡ true) }
+{
+    let field = fields.next()?;
+    if is_name(field) { Some(field) } else { None }
+}
+
 /// The name of a table with this text.
 #[tactic(auto, using(crate::proofs::Tokens::utf8_from_name, crate::proofs::Tokens::short_name))]
-fn name_of(text: &[u8]) -> TableName
+pub fn table_name(text: &[u8]) -> TableName
     requires { is_name text.now ≡ true }
     ensures { result ≡ text.now }
 {
     match str::from_utf8(text) {
         Ok(text) => TableName::from_text(text),
         Err(_) => TableName::default(),
-    }
-}
-
-/// Reads the name of a table.
-#[tactic(auto, unfolding(crate::specs::Read::field_at))]
-pub fn name_at(fields: &mut Fields) -> Option<TableName>
-    ensures { Reads result fields.new (field_at name.read fields.old) }
-{
-    let field = fields.next()?;
-    if is_name(field) {
-        Some(name_of(field))
-    } else {
-        None
     }
 }
 

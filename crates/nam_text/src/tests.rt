@@ -1,6 +1,6 @@
 use crate::{
     Fields, find_byte, first_line, is_name, is_word, name_at, number, number_at, push_value,
-    push_words, word_at,
+    push_words, table_name, word_at,
 };
 use si_model::Value;
 use std::alloc::AllocError;
@@ -22,7 +22,8 @@ fn fields_are_read(rt: HostRuntime) {
     let mut fields = Fields::new(b"row acct 18446744073709551616 07");
     assert!(rt; word_at(&mut fields, b"row").is_some());
     let name = name_at(&mut fields);
-    assert!(rt; name.is_some_and(|name| name.as_str() == "acct"));
+    assert!(rt; name.is_some_and(|name| is_word(name, b"acct")));
+    assert!(rt; table_name(b"acct").as_str() == "acct");
     assert!(rt; number_at(&mut fields) == Some(None));
     assert!(rt; number_at(&mut fields).is_none());
     assert!(rt; fields.next().is_none());

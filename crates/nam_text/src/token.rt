@@ -1,53 +1,55 @@
 //! What a field spells.
 
-ghost use Rattle.std.specs.Prelude.{◌≡◌, ◌<◌, length, true};
+ghost use Rattle.std.specs.Prelude.{◌≡◌, true, false, MatchOption};
 ghost use Rattle.std.specs.List.{list_all};
-ghost use Rattle.std.specs.Char.{is_ascii_digit};
-ghost use Rattle.nam_text.specs.Token.{is_number, number_of, number_value, is_name, is_name_byte};
-
-use std::str;
+ghost use Rattle.std.specs.Char.{is_ascii_digit, digit_value};
+ghost use Rattle.nam_text.specs.Token.{is_led, with_digit, number_of, is_name, is_name_byte};
 
 /// A number as it is spelt: none where it is above 2^64 - 1.
 pub type Number = Option<u64>;
 
-fn all_digits(field: &[u8]) -> bool
-    ensures { result ≡ list_all is_ascii_digit field.now }
+/// Is it not empty, and without a leading zero, 0 alone excepted?
+fn is_led(field: &[u8]) -> bool
+    ensures { result ≡ is_led field.now }
 {
-    field.iter().all(|byte| byte.is_ascii_digit())
-}
-
-/// Are these decimal digits, without a leading zero?
-fn is_number(field: &[u8]) -> bool
-    ensures { result ≡ is_number field.now }
-{
-    if field.is_empty() || !all_digits(field) {
+    if field.is_empty() {
         return false;
     }
     field[0] != b'0' || field.len() == 1
 }
 
-/// The number that digits spell.
-#[tactic(auto, using(crate::proofs::Tokens::value_gives, crate::proofs::Tokens::utf8_from_digits))]
-fn number_value(digits: &[u8]) -> Number
-    requires digits { list_all is_ascii_digit digits.now ≡ true }
-    requires some { 0 < length digits.now }
-    ensures { result ≡ number_value digits.now }
+/// The value of a digit.
+#[tactic(auto, using(crate::proofs::Digits::digit_is))]
+fn digit_of(byte: u8) -> Option<u8>
+    ensures { MatchOption result (is_ascii_digit byte ≡ false) (λ digit.
+        (is_ascii_digit byte ≡ true) × (digit ≡ digit_value byte)) }
 {
-    let Ok(text) = str::from_utf8(digits) else {
-        return None;
-    };
-    text.parse::<u64>().ok()
+    if byte.is_ascii_digit() {
+        Some(byte - b'0')
+    } else {
+        None
+    }
+}
+
+/// A number with one digit more. None where it is above 2^64 - 1.
+fn with_digit(number: Number, digit: u8) -> Number
+    ensures { result ≡ with_digit number digit }
+{
+    number?.checked_mul(10)?.checked_add(u64::from(digit))
 }
 
 /// The number that a field spells in decimal digits, without a leading zero. None where it spells no number.
-#[tactic(auto, unfolding(crate::specs::Token::number_of))]
 pub fn number(field: &[u8]) -> Option<Number>
     ensures { result ≡ number_of field.now }
 {
-    if !is_number(field) {
+    if !is_led(field) {
         return None;
     }
-    Some(number_value(field))
+    let mut value = Some(0);
+    for byte in field {
+        value = with_digit(value, digit_of(*byte)?);
+    }
+    Some(value)
 }
 
 fn all_name_bytes(field: &[u8]) -> bool

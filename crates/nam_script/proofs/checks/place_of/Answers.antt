@@ -5,12 +5,12 @@ use Rattle.nam_script.proofs.checks.place_of.Goals as goal
 pub returns-then-eq-clause-place : goal.returns-then-eq-clause-place
 returns-then-eq-clause-place c =
     sym (that_name _ _ _ _ c.loop-place-test.true c.index-tables-place.is
-    (rw (← c.as_str.ensures) (sym c.if-eq.ensures)))
+    (rw (← c.as_str.ensures, ← c.as_bytes.ensures.value) (sym c.if-eq.ensures)))
     ∙ c.loop-place.invariant
 
 pub loop-place-preserved : goal.loop-place-preserved
 loop-place-preserved c =
-    another_name _ _ _ _ c.loop-place-test.true c.index-tables-place.is (rw (← c.as_str.ensures) (sym c.if-eq.ensures))
+    another_name _ _ _ _ c.loop-place-test.true c.index-tables-place.is (rw (← c.as_str.ensures, ← c.as_bytes.ensures.value) (sym c.if-eq.ensures))
     ∙ c.loop-place.invariant
 
 pub returns-clause-place : goal.returns-clause-place

@@ -1,5 +1,5 @@
 use Rattle.nam_text.proofs.Tokens.{utf8_from_name}
-use Rattle.nam_text.proofs.reading.name_of.Goals as goal
+use Rattle.nam_text.proofs.reading.table_name.Goals as goal
 
 -- a name is plain text
 pub returns-in-Err : goal.returns-in-Err

@@ -7,6 +7,8 @@ pub mod HeldLemmas
 pub mod RangeLemmas
 pub mod StepLemmas
 pub mod WriteLemmas
+pub mod PlaceLemmas
+pub mod ScanLemmas
 mod ExampleWords
 mod TransferExample
 mod FirstCommitterWinsExample

@@ -9,6 +9,8 @@ pub mod StepLemmas
 pub mod WriteLemmas
 pub mod TellsLemmas
 pub mod TriesLemmas
+pub mod PlaceLemmas
+pub mod ScanLemmas
 mod ExampleWords
 mod TellsExample
 mod TransferExample

@@ -5,6 +5,7 @@ pub mod Evaluation
 pub mod EvaluationLaws
 pub mod Operations
 pub mod Held
+pub mod Places
 pub mod Committed
 pub mod State
 pub mod History

@@ -1,13 +1,14 @@
 //! The committed state: the rows after the first entries of a history.
 
-ghost use Rattle.std.specs.Prelude.{◌≡◌, ◌≤◌, length, take, IfOk, OnOk, if◌then◌else◌};
+ghost use Rattle.std.specs.Prelude.{◌≡◌, ◌-◌, ◌≤◌, ◌++◌, length, take, IfOk, OnOk, if◌then◌else◌};
 ghost use Rattle.si_model.specs.declared.row.Key.{Key};
+ghost use Rattle.si_model.specs.Committed.{rows_held};
 ghost use Rattle.si_model.specs.Held.{held_at};
-ghost use Rattle.si_model.specs.Rows.{same_key, rows_of, overlay, ListsRows};
+ghost use Rattle.si_model.specs.Rows.{same_key, rows_of, overlay, items_from, ListsRows};
 ghost use Rattle.si_model.specs.State.{state_at};
 
 use crate::report::CommitLine;
-use crate::row::{Item, Key, Row, Value, copy_value};
+use crate::row::{Item, Items, Key, Row, Value, copy_value};
 use std::alloc::{AllocError, Global};
 use std::collections::BTreeMap;
 
@@ -72,8 +73,6 @@ pub struct CommittedRows {
 }
 
 impl CommittedRows {
-    ghost use Rattle.si_model.specs.Committed.{rows_held};
-
     /// The loaded rows. Where several have one key, the first counts.
     pub fn load(alloc: Global, rows: &[Row]) -> Result<CommittedRows, AllocError>
         ensures { IfOk result (λ c. (key : Key) → rows_held c key ≡ rows_of rows.now key) }
@@ -96,6 +95,27 @@ impl CommittedRows {
         write_over(&mut self.held, writes)
     }
 
+    /// Appends the items of the rows of a table whose keys are from `low` on and before `end`, in order of keys.
+    pub(crate) fn add_items_before(
+        &self,
+        items: &mut Items,
+        table: u32,
+        low: u64,
+        end: u64,
+    ) -> Result<(), AllocError>
+        requires { low ≤ end }
+        ensures { OnOk result (items.new ≡ items.old ++ items_from (rows_held self.now) table low (end - low)) }
+    {
+        for (key, value) in self.held.range(Key { table, key: low }..Key { table, key: end }) {
+            items.push(Item {
+                table: key.table,
+                key: key.key,
+                value: Some(value.copy()),
+            })?;
+        }
+        Ok(())
+    }
+
     /// The rows, ordered by table and key.
     pub fn into_rows(self, alloc: Global) -> Result<Vec<Row>, AllocError>
         ensures { IfOk result (λ listed. ListsRows listed.items (rows_held self)) }
@@ -103,6 +123,23 @@ impl CommittedRows {
         let CommittedRows { held } = self;
         rows_in_order(alloc, held)
     }
+}
+
+/// What the first `p` entries of a history leave of the rows. Where rows share a key, the first counts.
+pub(crate) fn committed_at(
+    alloc: Global,
+    rows: &[Row],
+    history: &[CommitLine],
+    p: usize,
+) -> Result<CommittedRows, AllocError>
+    requires { p ≤ length history.now }
+    ensures { IfOk result (λ c. rows_held c ≡ state_at (rows_of rows.now) (take p history.now)) }
+{
+    let mut committed = CommittedRows::load(alloc, rows)?;
+    for line in &history[..p] {
+        committed.write(line.writes.as_slice())?;
+    }
+    Ok(committed)
 }
 
 /// The rows after the first `p` entries of a history, each key once, ordered by table and key. Where rows share a
@@ -116,9 +153,6 @@ pub fn state(
     requires { p ≤ length history.now }
     ensures { IfOk result (λ listed. ListsRows listed.items (state_at (rows_of rows.now) (take p history.now))) }
 {
-    let mut held = held_by(alloc, rows)?;
-    for line in &history[..p] {
-        write_over(&mut held, line.writes.as_slice())?;
-    }
-    rows_in_order(alloc, held)
+    let committed = committed_at(alloc, rows, history, p)?;
+    committed.into_rows(alloc)
 }

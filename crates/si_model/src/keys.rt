@@ -8,15 +8,60 @@ use crate::op::Op;
 use crate::row::{Item, Key};
 use lists::List;
 use std::alloc::{AllocError, Global};
+use std::collections::BTreeSet;
+use std::marker::Model;
 
-/// Notes a key: each stands once, in the order of first notes.
-pub fn note_key(keys: &mut List<Key>, key: Key) -> Result<(), AllocError>
-    ensures { OnOk result (keys.new ≡ guarded keys.old key) }
-{
-    if keys.as_slice().contains(&key) {
-        return Ok(());
+/// Keys, each once, in the order of first notes.
+#[derive(Drop)]
+pub(crate) struct KeyList {
+    keys: List<Key>,
+    /// The same keys, to be found.
+    listed: BTreeSet<Key>,
+}
+
+impl Model for KeyList {
+    ghost use Rattle.std.specs.Prelude.{List};
+    ghost use Rattle.si_model.specs.declared.row.Key.{Key};
+
+    ghost Value = { List Key };
+
+    ghost use Rattle.si_model.specs.Places.{HasListed};
+
+    ghost view = { λ k. k.keys };
+
+    ghost invariant = { λ k. HasListed k.listed k.keys };
+}
+
+impl KeyList {
+    pub fn new(alloc: Global) -> KeyList
+        ensures { result ≡ [] }
+    {
+        KeyList {
+            keys: List::new(alloc),
+            listed: BTreeSet::new(alloc),
+        }
     }
-    keys.push(key)
+
+    /// Notes a key, if it is not there.
+    pub fn note(&mut self, key: Key) -> Result<(), AllocError>
+        ensures { OnOk result (self.new ≡ guarded self.old key) }
+    {
+        if self.listed.contains(&key) {
+            return Ok(());
+        }
+        self.listed.insert(key)?;
+        if self.keys.push(key).is_err() {
+            self.listed.remove(&key);
+            return Err(AllocError);
+        }
+        Ok(())
+    }
+
+    pub fn as_slice(&self) -> &[Key]
+        ensures { result.now ≡ self.now }
+    {
+        self.keys.as_slice()
+    }
 }
 
 /// Does one of the operations write the key?
@@ -27,13 +72,13 @@ fn ops_write(ops: &[Op], key: Key) -> bool
 }
 
 /// The keys that the operations guard, also those that they write.
-fn keys_guarded(alloc: Global, ops: &[Op]) -> Result<List<Key>, AllocError>
+fn keys_guarded(alloc: Global, ops: &[Op]) -> Result<KeyList, AllocError>
     ensures { IfOk result (λ keys. keys ≡ keys_from key_guarded [] ops.now) }
 {
-    let mut keys = List::new(alloc);
+    let mut keys = KeyList::new(alloc);
     for op in ops {
         if let Some(key) = op.key_guarded() {
-            note_key(&mut keys, key)?;
+            keys.note(key)?;
         }
     }
     Ok(keys)

@@ -10,9 +10,9 @@ ghost use Rattle.si_model.specs.State.{state_at};
 ghost use Rattle.si_model.specs.History.{none_writes, MayFollow, IsLegal};
 ghost use Rattle.si_model.specs.Gives.{Gives};
 
-use crate::committed::state;
+use crate::committed::committed_at;
 use crate::evaluated::Evaluated;
-use crate::evaluation::{eval, is_written};
+use crate::evaluation::eval_on;
 use crate::keys::keys_of;
 use crate::op::Op;
 use crate::report::CommitLine;
@@ -24,6 +24,13 @@ fn are_same(a: &[Item], b: &[Item]) -> bool
     ensures { Decides result (a.now ≡ b.now) }
 {
     a == b
+}
+
+/// Does the write set write the key?
+fn is_written(writes: &[Item], key: Key) -> bool
+    ensures { result ≡ writes_key writes.now key }
+{
+    writes.iter().any(|item| item.key() == key)
 }
 
 /// Does the write set write none of the keys?
@@ -71,8 +78,8 @@ fn evaluated_at(
     ensures { IfOk result (λ e.
         e ≡ evaluation_of widths.now (state_at (rows_of rows.now) (take prefix done.now)) ops.now) }
 {
-    let seen = state(alloc, rows, done, prefix)?;
-    eval(alloc, widths, ops, seen.as_slice())
+    let seen = committed_at(alloc, rows, done, prefix)?;
+    eval_on(alloc, widths, ops, &seen)
 }
 
 /// Did the evaluation give this write set, and did no entry since write a key that it wrote or guarded?

@@ -13,18 +13,18 @@ mod generator;
 mod keys;
 mod legal;
 mod log;
-mod lookup;
 mod op;
 mod report;
 mod row;
 #[cfg(test)]
 mod tests;
+mod write_set;
 
 pub use committed::{CommittedRows, state};
 pub use evaluated::Evaluated;
-pub use evaluation::eval;
+pub use evaluation::{eval, eval_on};
 pub use generator::{next_state, pick};
-pub use keys::{guard_keys, keys_of, note_key};
+pub use keys::{guard_keys, keys_of};
 pub use legal::is_legal;
 pub use log::{Attempt, Event, Finish, Lock, Log, MoveEnd, Outcome, Snapshot, Stamp};
 pub use op::{Op, Policy};

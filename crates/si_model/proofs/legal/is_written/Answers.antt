@@ -3,7 +3,7 @@ use Rattle.std.proofs.lemmas.Iterator.{YieldsList-from_slice}
 use Rattle.std.proofs.lemmas.Iterator.Search.{any_from_yields_List}
 use borrow.Author.Tests.{tests}
 use Rattle.si_model.proofs.WriteLemmas.{is_of, writes_key_is}
-use Rattle.si_model.proofs.evaluation.is_written.Goals as goal
+use Rattle.si_model.proofs.legal.is_written.Goals as goal
 
 pub returns : goal.returns
 returns c =

@@ -1,13 +1,10 @@
 -- What the text of a report shows of it.
-use Rattle.std.specs.Prelude.{◌≡◌, List, [], map, true}
-use Rattle.std.specs.List.{AllByRecursion}
+use Rattle.std.specs.Prelude.{◌≡◌, [], map}
 use Rattle.si_model.specs.declared.log.Attempt.{Attempt}
 use Rattle.si_model.specs.declared.log.Event.{Event}
 use Rattle.si_model.specs.declared.log.Event.TheVariants.{Tried}
 use Rattle.si_model.specs.declared.log.Log.{Log}
 use Rattle.si_model.specs.declared.report.Report.{Report}
-use Rattle.nam_catalog.specs.declared.shape.Table.{Table}
-use Rattle.nam_text.specs.Token.{is_name}
 use Rattle.nam_script.specs.declared.script.Script.{Script}
 use Rattle.nam_script.specs.Limits.{IsScript}
 use Rattle.nam_report.specs.Fits.{FitsScript}
@@ -26,11 +23,7 @@ shown_log l = record l { events = map shown_event l.events; writes = []; snaps =
 abbrev pub shown_of : Report → Report
 shown_of r = record r { logs = map shown_log r.logs }
 
--- the tables have names that a line can hold
-abbrev pub HaveNames : List Table → Type 0
-HaveNames tables = AllByRecursion (λ t. is_name t.name ≡ true) tables
-
 -- A text spells one report: two that fit one script and have the same text show the same.
 abbrev pub TextLaw : Type 0
-TextLaw = (s : Script) → IsScript s → HaveNames s.shape.tables → (r q : Report) → FitsScript s r → FitsScript s q
+TextLaw = (s : Script) → IsScript s → (r q : Report) → FitsScript s r → FitsScript s q
     → report_text s.shape.tables r ≡ report_text s.shape.tables q → shown_of r ≡ shown_of q

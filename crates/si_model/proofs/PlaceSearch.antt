@@ -1,7 +1,7 @@
 -- The operation that an attempt stopped at is looked for among all, so that an attempt that has none is seen by computing.
 use Rattle.std.proofs.Common.{◌≡◌, ℕ, zero, suc, Bool, true, false, List, [], ◌∷◌, ◌++◌, refl, ap, sym, subst}
 use Rattle.std.proofs.Common.{Option, Some, None, take, length, arith, append-nil}
-use Rattle.std.specs.Prelude.{◌==◌, ◌&&◌, ◌||◌, not, IsTrue}
+use Rattle.std.specs.Prelude.{◌==◌, ◌&&◌, ◌||◌, not}
 use Rattle.std.specs.List.{AllByRecursion}
 use Rattle.std.proofs.lemmas.Bool.Decides.{nat_tests}
 use Rattle.std.proofs.lemmas.List.{append_assoc}
@@ -84,7 +84,7 @@ outcome_places s v j t a e p (NoSpace table) (k, op, stands, lacks, reads, none)
 outcome_places s v j t a e p (TooOld i entry horizon) (k, op, stands, overtaken, reads, none) =
     let many : length t.reads ≡ length (reads_from s.widths (v.value t) [] (take k t.ops)) = ap length reads.1 in
     let same : (length t.reads == length (reads_from s.widths (v.value t) [] (take k t.ops))) ≡ true =
-        grind (arith, nat_tests) in
+    grind (arith, nat_tests) in
     placed (too_old_at s v t) [] k op t.ops stands (rw (overtaken, same) refl)
 outcome_places s v j t a e p outcome h = refl
 

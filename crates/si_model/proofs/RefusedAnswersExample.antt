@@ -1,5 +1,5 @@
 -- Worked rows with a lock, a read or an outcome that the evaluation doesn't give are no runs.
-use Rattle.std.proofs.Common.{◌≡◌, ◌<◌, ℕ, List, [], ◌∷◌, length, ap, sym, arith, Some, None, inl, inr}
+use Rattle.std.proofs.Common.{◌<◌, ℕ, List, [], ◌∷◌, length, ap, sym, arith, Some, None, inl, inr}
 use Rattle.std.specs.Prelude.{IsTrue, slice_index_or}
 use Rattle.std.proofs.lemmas.Bool.{false≢true}
 use Rattle.si_model.specs.declared.row.Key.{Key}
@@ -124,7 +124,9 @@ lock_before_newer_missing : IsRun skew.setting (in_log 2 (λ l. with_locks []
     (event_at 1 (tried 2 1 (Some 0) 4 0 (Newer (lock 0 0 1 1))) l)) skew.report) → ⊥
 lock_before_newer_missing run =
     let met = run.workers.1.0.answers.0.0 in
-    let next = done_as (LocksBefore (key_at 0 0) []) met.2 met.3 in
+    let reads = item 0 0 60 ∷ item 0 1 60 ∷ item 0 0 60 ∷ item 0 1 60 ∷ [] in
+    let next = done_as {reads = reads} {ws = item 0 1 0 ∷ []} {gs = key_at 0 0 ∷ []} (LocksBefore (key_at 0 0) [])
+    met.2 met.3 in
     false≢true (ap (λ (ks : List Key). same_key (slice_index_or ks 0 (key_at 0 0)) (key_at 0 0)) next.2)
 
 -- a full ring is found under all locks, and is one of a key that is written

@@ -1,5 +1,5 @@
 -- Worked rows with an audit that isn't of the final state, or with a mark that nobody left, are no runs.
-use Rattle.std.proofs.Common.{◌≡◌, ℕ, [], ◌∷◌, false, refl, None}
+use Rattle.std.proofs.Common.{[], ◌∷◌, false, refl, None}
 use Rattle.std.proofs.lemmas.Bool.{false≢true}
 use Rattle.si_model.specs.declared.log.Outcome.TheVariants.{Locked}
 use Rattle.si_model.specs.Rows.{key_at}

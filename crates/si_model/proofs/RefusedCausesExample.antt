@@ -1,5 +1,5 @@
 -- Worked rows in which an event has no cause are no runs.
-use Rattle.std.proofs.Common.{◌≡◌, ℕ, List, [], ◌∷◌, refl, ap, sym, arith, Some, None, inl, inr}
+use Rattle.std.proofs.Common.{ℕ, List, [], ◌∷◌, refl, ap, sym, arith, Some, None, inl, inr}
 use Rattle.std.specs.Prelude.{slice_index}
 use Rattle.std.proofs.lemmas.Bool.{false≢true}
 use Rattle.si_model.specs.declared.log.Outcome.TheVariants.{Commit, Locked, Newer, Full, Again, TooOld}
@@ -58,8 +58,8 @@ full_of_moved run = false≢true (sym run.workers.0.causes.1.1.0.2)
 -- numbers follow up to the greatest
 spent_early : IsRun (record spent.setting { start = 4294967293 }) (record (in_log 1 (event_at 1
     (tried 1 1 (Some 0) 0 1 (Commit 4294967294))) spent.report) {
-  history = entry 1 4294967294 0 1 (item 0 0 2 ∷ []) ∷ [];
-}) → ⊥
+      history = entry 1 4294967294 0 1 (item 0 0 2 ∷ []) ∷ [];
+    }) → ⊥
 spent_early run = omega (arith, run.workers.0.causes.1.0)
 
 -- the other worker's lock is of another key, or of another version

@@ -1,9 +1,7 @@
 -- Worked rows that the history's numbers and prefixes refuse, or what a worker knows.
-use Rattle.std.proofs.Common.{◌≡◌, ℕ, List, [], ◌∷◌, ◌++◌, refl, arith, Some, None}
+use Rattle.std.proofs.Common.{◌≡◌, ◌≤◌, [], ◌∷◌, ◌++◌, refl, arith, Some, None}
 use Rattle.std.specs.Prelude.{IsTrue, slice_index_or}
 use Rattle.std.proofs.lemmas.Bool.{false≢true}
-use Rattle.si_model.specs.declared.row.Key.{Key}
-use Rattle.si_model.specs.declared.row.Item.{Item}
 use Rattle.si_model.specs.declared.log.Outcome.TheVariants.{Commit, ReadOnly, Again, Spent, TooOld, Cut}
 use Rattle.si_model.specs.History.{keys_of, none_writes}
 use Rattle.si_model.specs.Run.{IsRun}
@@ -47,17 +45,17 @@ first_below_known run = omega (arith, run.workers.0.sees.1.0.1.2)
 -- both committed on the same prefix, and wrote the same key
 lost_update : IsRun first.setting (record (in_log 2 (λ l. log (tried 2 1 (Some 0) 1 1 (Commit 1) ∷ [])
     (item 0 0 100 ∷ []) (lock 0 0 0 0 ∷ [])) first.report) {
-  history = entry 1 1 0 1 (item 0 0 105 ∷ []) ∷ entry 2 1 0 2 (item 0 0 107 ∷ []) ∷ [];
-  audit = audited 0 0 107 ∷ [];
-}) → ⊥
+      history = entry 1 1 0 1 (item 0 0 105 ∷ []) ∷ entry 2 1 0 2 (item 0 0 107 ∷ []) ∷ [];
+      audit = audited 0 0 107 ∷ [];
+    }) → ⊥
 lost_update run = false≢true run.legal.1.0.first_wins
 
 -- the second wrote its key where a guard of the first's is overwritten
 guard_overwritten : IsRun skew.setting (record (in_log 2 (λ l. with_locks (lock 0 1 0 0 ∷ lock 0 0 0 0 ∷ [])
     (event_at 1 (tried 2 1 (Some 0) 4 2 (Commit 1)) l)) skew.report) {
-  history = entry 1 1 0 1 (item 0 0 0 ∷ []) ∷ entry 2 1 0 2 (item 0 1 0 ∷ []) ∷ [];
-  audit = audited 0 0 0 ∷ audited 0 1 0 ∷ [];
-}) → ⊥
+      history = entry 1 1 0 1 (item 0 0 0 ∷ []) ∷ entry 2 1 0 2 (item 0 1 0 ∷ []) ∷ [];
+      audit = audited 0 0 0 ∷ audited 0 1 0 ∷ [];
+    }) → ⊥
 guard_overwritten run =
     false≢true (done_as (λ ws gs. IsTrue (none_writes (keys_of ws gs) (entry 1 1 0 1 (item 0 0 0 ∷ []) ∷ [])))
     run.legal.1.0.evaluates run.legal.1.0.first_wins)
@@ -65,22 +63,28 @@ guard_overwritten run =
 -- a reader's transaction stands as an entry
 entry_without_writes : IsRun again.setting (record (in_log 1 (event_at 2 (tried 1 2 (Some 1) 1 0 (Commit 1)))
     again.report) {
-  history = entry 2 1 0 2 (item 0 0 101 ∷ []) ∷ entry 1 1 1 1 [] ∷ [];
-}) → ⊥
+      history = entry 2 1 0 2 (item 0 0 101 ∷ []) ∷ entry 1 1 1 1 [] ∷ [];
+    }) → ⊥
 entry_without_writes run = omega (arith, run.legal.1.0.writes)
 
 -- the write isn't the evaluation's
 write_changed : IsRun first.setting (record first.report {
   history = entry 1 1 0 1 (item 0 0 106 ∷ []) ∷ entry 2 1 1 2 (item 0 0 112 ∷ []) ∷ [];
 }) → ⊥
-write_changed run = omega (arith, same_number (done_as (λ ws gs. item 0 0 106 ≡ slice_index_or ws 0 (item 0 0 0))
-    run.legal.0.evaluates refl))
+write_changed run = omega (
+  arith,
+  same_number (done_as (λ ws gs. item 0 0 106 ≡ slice_index_or ws 0 (item 0 0 0))
+      run.legal.0.evaluates refl),
+)
 
 -- no transaction has this number; the first would stand at its place
 entry_of_no_transaction : IsRun first.setting (record first.report {
   history = entry 1 1 0 0 (item 0 0 105 ∷ []) ∷ entry 2 1 1 2 (item 0 0 112 ∷ []) ∷ [];
 }) → ⊥
-entry_of_no_transaction run = omega (arith, run.legal.0.job.0)
+entry_of_no_transaction run = none run.legal.0.job.0
+  where
+    none : 1 ≤ 0 → ⊥
+    none h = omega (arith, h)
 
 -- the second worker was stopped before it took a snapshot
 entry_unlisted : IsRun first.setting (in_log 2 (λ l. with_locks [] (event_at 2 (tried 2 2 None 0 0 Cut) l)) first.report)

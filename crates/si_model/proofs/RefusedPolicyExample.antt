@@ -1,5 +1,5 @@
 -- Worked rows whose logs the policy doesn't allow are no runs.
-use Rattle.std.proofs.Common.{◌≡◌, ℕ, false, [], ◌∷◌, refl, Some}
+use Rattle.std.proofs.Common.{false, [], ◌∷◌, refl, Some}
 use Rattle.std.proofs.lemmas.Bool.{false≢true}
 use Rattle.si_model.specs.declared.log.Outcome.TheVariants.{Commit, ReadOnly, Declined, Locked, Full, Cut}
 use Rattle.si_model.specs.declared.log.Event.TheVariants.{NoRoom}

@@ -1,6 +1,6 @@
 -- Small reports that are runs: a commit was cut under its first lock, and another worker meets the lock, or the version
 -- that the stopped worker had begun to write; or the stopped worker is finished.
-use Rattle.std.proofs.Common.{ℕ, true, false, List, [], ◌∷◌, refl, arith, Some, inr}
+use Rattle.std.proofs.Common.{true, false, List, [], ◌∷◌, refl, arith, Some, inr}
 use Rattle.std.proofs.lemmas.Bool.Decides.{nat_tests}
 use Rattle.std.specs.Prelude.{slice_index_or}
 use Rattle.si_model.specs.declared.op.Op.TheVariants.{Put}

@@ -1,5 +1,5 @@
 -- Worked rows with one thing changed that are runs still.
-use Rattle.std.proofs.Common.{ℕ, true, false, [], ◌∷◌, refl, arith, Some, inl, inr}
+use Rattle.std.proofs.Common.{true, [], ◌∷◌, refl, arith, Some, inl, inr}
 use Rattle.std.proofs.lemmas.Bool.Decides.{nat_tests}
 use Rattle.si_model.specs.declared.log.Outcome.TheVariants.{Commit, Cut, Locked, ReadOnly, TooOld}
 use Rattle.si_model.specs.declared.log.Event.TheVariants.{TailCut}

@@ -82,6 +82,10 @@ abbrev pub rows_in : List Row → ℕ → ℕ
 rows_in [] table = 0
 rows_in (r ∷ rs) table = (if r.table == table then 1 else 0) + rows_in rs table
 
+-- what is wrong with a row that does not fit its table: its key is given before, or else it is its size
+abbrev pub misfit : List Row → ℕ → ℕ → Kind
+misfit rows table key = if is_given rows table key then kind.Twice else kind.Size
+
 -- what an operation counts of the operations in all: a scan counts as its table's capacity
 abbrev pub op_cost : List ℕ → Op → ℕ
 op_cost capacities (Scan t low high) = slice_index capacities t

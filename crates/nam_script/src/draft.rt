@@ -1,8 +1,8 @@
 //! The script so far, line by line.
 
-ghost use Rattle.std.specs.Prelude.{◌≡◌, ◌<◌, true, IfOk};
+ghost use Rattle.std.specs.Prelude.{◌≡◌, ◌==◌, ◌&&◌, ◌<◌, nat_lt, true, IfOk};
 ghost use Rattle.nam_text.specs.Token.{is_name};
-ghost use Rattle.nam_script.specs.Checks.{place_of};
+ghost use Rattle.nam_script.specs.Checks.{place_of, rows_in, misfit};
 ghost use Rattle.nam_script.specs.Admit.{Takes, no_body, start, is_held, admit_version, admit_header, admit_workers};
 ghost use Rattle.nam_script.specs.Admit.{admit_tries, admit_tidy, admit_start, admit_overflow, admit_table};
 ghost use Rattle.nam_script.specs.Admit.{admit_row};
@@ -69,6 +69,17 @@ fn is_held(form: Form) -> bool
     ensures { result ≡ is_held form }
 {
     matches!(form, Form::Held)
+}
+
+/// What is wrong with a row that does not fit its table. A key that is given before comes first.
+fn misfit(rows: &Rows, table: u32, key: u64) -> Kind
+    ensures { result ≡ misfit rows.now table key }
+{
+    if rows.is_given(table, key) {
+        Kind::Twice
+    } else {
+        Kind::Size
+    }
 }
 
 impl Draft {
@@ -218,6 +229,15 @@ impl Draft {
         Ok(())
     }
 
+    /// Is there room for a row of a table, and is this its width?
+    fn takes_row_of(&self, found: &Found, width: usize) -> bool
+        requires { found.now.table < 8 }
+        ensures { result ≡ (nat_lt (rows_in self.now.body.rows found.now.table) found.now.capacity
+            && width == found.now.width) }
+    {
+        self.body.rows.count(found.table) < found.capacity && width == found.width as usize
+    }
+
     pub fn row(&mut self, table: &[u8], key: Number, values: Numbers) -> Result<(), LineEnd>
         ensures { Takes result self.new (admit_row self.old table.now key values) }
     {
@@ -227,20 +247,17 @@ impl Draft {
         let found = self.find(table)?;
         let key = key_of(key)?;
         let value = all_small(&values)?;
-        if self.body.rows.is_given(found.table, key) {
-            return Err(LineEnd::Bad(Kind::Twice));
+        if !self.takes_row_of(&found, value.len()) {
+            return Err(LineEnd::Bad(misfit(&self.body.rows, found.table, key)));
         }
-        if self.body.rows.count(found.table) >= found.capacity {
-            return Err(LineEnd::Bad(Kind::Size));
-        }
-        if value.len() != found.width as usize {
-            return Err(LineEnd::Bad(Kind::Size));
-        }
-        self.body.rows.push(Row {
+        let is_new = self.body.rows.push(Row {
             table: found.table,
             key,
             value,
         })?;
+        if !is_new {
+            return Err(LineEnd::Bad(Kind::Twice));
+        }
         self.stage = Stage::Rows;
         Ok(())
     }

@@ -1,7 +1,7 @@
 //! The loaded rows so far, with the set of their keys and their number in each table, so that each row is tried in
 //! logarithmic time.
 
-ghost use Rattle.std.specs.Prelude.{◌≡◌, ◌<◌, ◌^◌, ◌-◌, [], ◌∷◌, ◌++◌, OnOk, OnErr};
+ghost use Rattle.std.specs.Prelude.{◌≡◌, ◌<◌, ◌^◌, ◌-◌, [], ◌∷◌, ◌++◌, not, IsTrue, IfOk};
 ghost use Rattle.nam_script.specs.Checks.{is_given, rows_in};
 
 use lists::{List, ShortList};
@@ -75,21 +75,31 @@ impl Rows {
         *self.counts.at(table as usize)
     }
 
-    pub fn push(&mut self, row: Row) -> Result<(), AllocError>
+    /// Appends a row, and tells if its key is new. The rows stay as they were where it is not.
+    pub fn push(&mut self, row: Row) -> Result<bool, AllocError>
         requires table { row.table < 8 }
         requires count { rows_in self.old row.table < 2 ^ 32 - 1 }
-        ensures { OnOk result (self.new ≡ self.old ++ row ∷ []) }
+        ensures new { IfOk result (λ new. new ≡ not (is_given self.old row.table row.key)) }
+        ensures pushed { IfOk result (λ new. IsTrue new → self.new ≡ self.old ++ row ∷ []) }
     {
         let table = row.table as usize;
         let key = row.key();
         self.rows.push(row)?;
-        if let Err(failed) = self.keys.insert(key) {
-            self.rows.pop();
-            return Err(AllocError::from(failed));
+        match self.keys.insert(key) {
+            Ok(true) => {
+                let count = *self.counts.at(table);
+                self.counts.set(table, count + 1);
+                Ok(true)
+            }
+            Ok(false) => {
+                self.rows.pop();
+                Ok(false)
+            }
+            Err(failed) => {
+                self.rows.pop();
+                Err(AllocError::from(failed))
+            }
         }
-        let count = *self.counts.at(table);
-        self.counts.set(table, count + 1);
-        Ok(())
     }
 
     pub fn into_list(self) -> List<Row>

@@ -11,14 +11,14 @@ use Rattle.nam_script.proofs.LoadedRows.{given_push, set_length, counts_push}
 use Rattle.nam_script.proofs.rows.Rows.push.Goals as goal
 
 -- the key is in the set, and its table's count is one more
-pub invariant_of-self-2 : goal.invariant_of-self-2
-invariant_of-self-2 c =
+pub invariant_of-self-in-Ok-true : goal.invariant_of-self-in-Ok-true
+invariant_of-self-in-Ok-true c =
     let old = c.self.inside.rows.items in
     let row = c.args.row in
     let known = c.self.invariant in
     let now = c.set.ensures in
     let is = sym c.in_ok-push.ensures.items in (
-      λ t k. c.in_default.ensures.updates.0 (key_at t k)
+      λ t k. c.in-Ok-true.ensures.updates.0 (key_at t k)
           ∙ ap (λ (q : Key). cond (is_eq (key_cmp q (key_at t k))) true
           (contains key_cmp c.self.inside.keys (key_at t k))) c.key-key.ensures
           ∙ ap (λ (b : Bool). cond (is_eq (key_cmp (key_at row.table row.key) (key_at t k))) true b) (known.0 t k)

@@ -52,10 +52,9 @@ use Rattle.nam_protocol.specs.Client.{counted, ask_txn, ask_scan, client_ask, on
 use Rattle.nam_protocol.specs.Client.{on_collect, take_txn, take_scan, call_after, after_call}
 use Rattle.nam_protocol.specs.CutClient.{cut_in_txn, cut_open, left_open, cut_move, closed_call}
 use Rattle.nam_protocol.specs.ClientFits.{CallPlaceFits, OpenPlaceFits}
-use Rattle.nam_protocol.specs.ClientEvents.{ClientLists, NeedsOpen, closing, ClientEvents, ClientEventsLaw}
+use Rattle.nam_protocol.specs.ClientEvents.{ClientLists, NeedsOpen, closing, ClientEventsLaw}
 use Rattle.nam_protocol.specs.declared.txn.TxnAnswer.TheVariants as txn_answer
 use Rattle.nam_protocol.specs.declared.scan.ScanAnswer.TheVariants as scan_answer
-use Rattle.nam_protocol.specs.declared.client.Answer.TheVariants as answer
 
 -- 1. Events
 

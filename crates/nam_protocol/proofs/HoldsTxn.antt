@@ -1,7 +1,7 @@
 -- What a transaction may still write is below 2^64 after each word below 2^64, its commit included.
 use Rattle.std.specs.List.{AllByRecursion}
 use Rattle.std.specs.Prelude.{slice_index}
-use Rattle.std.proofs.Common.{Bool, List, None, Option, Some, [], arith, length, replicate, suc, sym, zero, ℕ, ◌+◌}
+use Rattle.std.proofs.Common.{Bool, List, None, Option, Some, [], arith, length, replicate, sym, ℕ, ◌+◌}
 use Rattle.std.proofs.Common.{false, true}
 use Rattle.std.proofs.Common.{◌-◌, ◌<◌, ◌==◌, ◌∷◌, ◌≡◌, ◌≤◌}
 use Rattle.std.proofs.lemmas.Bool.{false≢true}
@@ -50,7 +50,6 @@ use Rattle.nam_protocol.specs.HoldsWords.{CommitPlaceHolds, ItemHolds, OpHolds, 
 use Rattle.nam_protocol.specs.HoldsWords.{TxnCallHolds, TxnEndHolds, TxnPlaceHolds}
 use Rattle.nam_protocol.specs.Operations.{answer_of, holding, own_value, read_of, value_in}
 use Rattle.nam_protocol.specs.Txn.{Stepped, ask_op, on_find, on_read, valued, with_op}
-use Rattle.nam_protocol.specs.Txn.{answered}
 use Rattle.nam_protocol.specs.Txn.{on_claim}
 use Rattle.nam_protocol.specs.TxnCalls.{txn_after, txn_ask}
 use Rattle.nam_protocol.proofs.FallsKeys.{all_wrote}
@@ -262,8 +261,10 @@ ask_commit_holds shape state h =
     let read_none : StateHolds shape.form (record state { read = None }) =
     record { last_is = h.last_is; written = h.written; found = tt; headers = h.headers } in
     ask_commit_goes (StepHolds shape.form) state shape (λ e. (read_none, tt)) (λ e f. (read_none, tt))
-    (λ e f. (record { last_is = h.last_is; written = h.written; found = tt; headers = tt },
-    (less_from state.last (greatest_number shape.form) h.last_is f, tt)))
+    (λ e f. (
+      record { last_is = h.last_is; written = h.written; found = tt; headers = tt },
+      (less_from state.last (greatest_number shape.form) h.last_is f, tt),
+    ))
 
 -- 4. A transaction
 

@@ -24,7 +24,6 @@ use Rattle.nam_protocol.specs.declared.txn.TxnCall.{TxnCall}
 use Rattle.nam_protocol.specs.declared.txn.TxnCall.TheVariants.{Get, Put, Add, Del, Need, Guard, Commit}
 use Rattle.nam_protocol.specs.declared.txn.TxnPlace.{TxnPlace}
 use Rattle.nam_protocol.specs.declared.txn.TxnPlace.TheVariants.{Finding, Reading, Claiming, Committing}
-use Rattle.nam_protocol.specs.declared.txn.TxnState.{TxnState}
 use Rattle.nam_protocol.specs.Client.{ask_scan, ask_txn, client_after, client_ask, counted, take_scan, take_txn}
 use Rattle.nam_protocol.specs.ClientFits.{CallFits, CallPlaceFits, ClientFits, NowFits, OpenPlaceFits}
 use Rattle.nam_protocol.specs.Plain.{KeepsOpen, Plain}

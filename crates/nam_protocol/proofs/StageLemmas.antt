@@ -40,7 +40,7 @@ use Rattle.nam_protocol.specs.Telling.{go, stepped}
 use Rattle.nam_protocol.specs.Telling.{new_client}
 use Rattle.nam_protocol.specs.Txn.{Stepped}
 use Rattle.nam_protocol.proofs.GoesClient.{begin_goes, snap_goes}
-use Rattle.nam_protocol.proofs.GoesCommit.{ask_commit_goes, next_free_goes, on_copy_goes, on_install_goes}
+use Rattle.nam_protocol.proofs.GoesCommit.{ask_commit_goes, next_free_goes, on_copy_goes}
 use Rattle.nam_protocol.proofs.GoesCommit.{on_return_goes, on_slot_goes, on_words_goes}
 use Rattle.nam_protocol.proofs.SortsLemmas.{ask_sort, word_sort}
 use Rattle.nam_protocol.specs.Commit.{go as go_to}

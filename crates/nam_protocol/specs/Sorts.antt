@@ -15,7 +15,7 @@ use Rattle.nam_protocol.specs.declared.client.ClientState.{ClientState}
 use Rattle.nam_protocol.specs.declared.client.Open.{Open}
 use Rattle.nam_protocol.specs.declared.scan.ScanPlace.TheVariants.{ScanKey}
 use Rattle.nam_protocol.specs.declared.txn.CommitPlace.{CommitPlace}
-use Rattle.nam_protocol.specs.declared.txn.TxnPlace.TheVariants.{Finding, Reading, Claiming, Committing}
+use Rattle.nam_protocol.specs.declared.txn.TxnPlace.TheVariants.{Finding, Claiming, Committing}
 use Rattle.nam_protocol.specs.Client.{call_after, client_ask}
 use Rattle.nam_protocol.specs.Commit.{ask_commit, commit_after, locks_taken}
 use Rattle.nam_protocol.specs.Plain.{Plain}

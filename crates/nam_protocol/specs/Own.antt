@@ -1,6 +1,5 @@
 -- What holds of a client by itself, whatever the words are.
-use Rattle.std.specs.Prelude.{IsNone, IsSome}
-use Rattle.std.specs.Prelude.{List, None, Option, Some, false, is_some, length, true, ℕ, ◌≡◌}
+use Rattle.std.specs.Prelude.{IsNone, IsSome, List, None, Option, Some, false, is_some, length, true, ℕ, ◌≡◌}
 use Rattle.si_model.specs.Lists.{Listed}
 use Rattle.nam_verbs.specs.declared.now.Now.{Now}
 use Rattle.nam_verbs.specs.declared.now.Now.TheVariants.{At}

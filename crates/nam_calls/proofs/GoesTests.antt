@@ -1,18 +1,15 @@
 -- Where the calls go on by the tests of their words. For any property of what comes out: if it holds where a test leads
 -- to, under what the test says, then it holds after the word.
 use Rattle.std.specs.Prelude.{nat_lt, slice_index}
-use Rattle.std.proofs.Common.{List, None, Some, [], arith, false, inl, inr, length, not, true, ℕ, ◌&&◌, ◌++◌, ◌+◌}
-use Rattle.std.proofs.Common.{◌<◌, ◌==◌, ◌||◌, ◌∷◌, ◌≡◌, ◌≢◌, ◌≤◌, ◌⊎◌}
+use Rattle.std.proofs.Common.{List, None, Some, [], arith, false, inl, inr, length, not, true, ℕ, ◌&&◌, ◌++◌, ◌+◌, ◌<◌}
+use Rattle.std.proofs.Common.{◌==◌, ◌||◌, ◌∷◌, ◌≡◌, ◌≢◌, ◌≤◌, ◌⊎◌, ⊎_elim}
 use Rattle.std.proofs.lemmas.Bool.Decides.{nat_tests}
-use Rattle.std.proofs.Common.{⊎_elim}
-use Rattle.std.proofs.lemmas.Bool.{not-true, not-false}
-use Rattle.std.proofs.lemmas.Bool.{and_parts, eqb-false, eqb-true, or_cases, or_parts}
+use Rattle.std.proofs.lemmas.Bool.{not-true, not-false, and_parts, eqb-false, eqb-true, or_cases, or_parts}
 use Rattle.nam_verbs.specs.declared.now.Now.TheVariants.{At, Over}
 use Rattle.nam_verbs.specs.declared.now.Now.{Now}
 use Rattle.nam_verbs.proofs.TestLemmas.{by_equal, by_test}
 use Rattle.nam_catalog.specs.declared.form.Form.{Form}
-use Rattle.nam_header.specs.Stamp.{is_deleted, is_locked, is_moved, is_within, mark, sees, stamp_in}
-use Rattle.nam_header.specs.Stamp.{same_stamp}
+use Rattle.nam_header.specs.Stamp.{is_deleted, is_locked, is_moved, is_within, mark, sees, stamp_in, same_stamp}
 use Rattle.nam_header.specs.Tag.{has_next, is_free, is_full, written}
 use Rattle.nam_layout.specs.declared.field.Cells.{Cells}
 use Rattle.nam_layout.specs.declared.field.Place.{Place}
@@ -24,8 +21,7 @@ use Rattle.nam_calls.specs.declared.lock.LockEnd.TheVariants.{Locked, Newer}
 use Rattle.nam_calls.specs.declared.lock.LockEnd.{LockEnd}
 use Rattle.nam_calls.specs.declared.lock.LockPlace.TheVariants.{GiveBack, Peek, Seize}
 use Rattle.nam_calls.specs.declared.lock.LockPlace.{LockPlace}
-use Rattle.nam_calls.specs.declared.overflow.ClaimEnd.TheVariants.{Claimed}
-use Rattle.nam_calls.specs.declared.overflow.ClaimEnd.TheVariants.{NoRoom}
+use Rattle.nam_calls.specs.declared.overflow.ClaimEnd.TheVariants.{Claimed, NoRoom}
 use Rattle.nam_calls.specs.declared.overflow.ClaimEnd.{ClaimEnd}
 use Rattle.nam_calls.specs.declared.overflow.ClaimPlace.TheVariants.{ClaimLook, ClaimTake}
 use Rattle.nam_calls.specs.declared.overflow.ClaimPlace.{ClaimPlace}

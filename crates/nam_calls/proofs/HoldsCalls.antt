@@ -1,15 +1,13 @@
 -- The words that a call may still write are below 2^64 after each word below 2^64, and each verb writes such a word.
-use Rattle.std.specs.Prelude.{if◌then◌else◌}
-use Rattle.std.specs.Prelude.{nat_lt, slice_index}
+use Rattle.std.specs.Prelude.{if◌then◌else◌, nat_lt, slice_index}
 use Rattle.std.proofs.Common.{Bool, List, None, Some, [], length, not, ℕ, ◌&&◌, ◌++◌, ◌+◌, ◌==◌, ◌||◌, ◌∷◌, ◌≤◌}
-use Rattle.si_model.specs.Tries.{move_end}
 use Rattle.nam_verbs.specs.declared.now.Now.TheVariants.{At, Over}
 use Rattle.nam_verbs.specs.declared.now.Now.{Now}
 use Rattle.nam_verbs.specs.Falls.{Any}
 use Rattle.nam_catalog.specs.declared.bounds.TheConstants.{MOST_WORKERS}
 use Rattle.nam_catalog.specs.declared.form.Form.{Form}
-use Rattle.nam_header.specs.Stamp.{is_deleted, is_locked, is_moved, mark, sees, stamp_in, without_moved}
-use Rattle.nam_header.specs.Stamp.{same_stamp, is_within}
+use Rattle.nam_header.specs.Stamp.{is_deleted, is_locked, is_moved, mark, sees, stamp_in, without_moved, same_stamp}
+use Rattle.nam_header.specs.Stamp.{is_within}
 use Rattle.nam_header.specs.Tag.{has_next, is_free, is_full, written}
 use Rattle.nam_layout.specs.declared.field.Cells.{Cells}
 use Rattle.nam_layout.specs.declared.field.Place.{Place}
@@ -27,9 +25,8 @@ use Rattle.nam_calls.specs.declared.lock.LockEnd.{LockEnd}
 use Rattle.nam_calls.specs.declared.lock.LockPlace.TheVariants.{GiveBack, Peek, Seize}
 use Rattle.nam_calls.specs.declared.lock.LockPlace.{LockPlace}
 use Rattle.nam_calls.specs.declared.mover.MoveAnswer.{MoveAnswer}
-use Rattle.nam_calls.specs.declared.mover.MovePlace.TheVariants.{MoveAgain, MoveBack, MoveClaim, MoveCount}
-use Rattle.nam_calls.specs.declared.mover.MovePlace.TheVariants.{MoveEnding, MoveFill, MoveFlag, MoveFull, MoveHead}
-use Rattle.nam_calls.specs.declared.mover.MovePlace.TheVariants.{MoveWords}
+use Rattle.nam_calls.specs.declared.mover.MovePlace.TheVariants.{MoveAgain, MoveBack, MoveClaim, MoveCount, MoveEnding}
+use Rattle.nam_calls.specs.declared.mover.MovePlace.TheVariants.{MoveFill, MoveFlag, MoveFull, MoveHead, MoveWords}
 use Rattle.nam_calls.specs.declared.mover.MovePlace.{MovePlace}
 use Rattle.nam_calls.specs.declared.overflow.CellPlace.TheVariants.{CellAgain, CellBegin, CellEnding, CellOwner}
 use Rattle.nam_calls.specs.declared.overflow.CellPlace.TheVariants.{CellTag, CellWords}
@@ -56,21 +53,18 @@ use Rattle.nam_calls.specs.declared.ring.SearchEnd.TheVariants.{Found, NotThere}
 use Rattle.nam_calls.specs.declared.ring.SearchEnd.{SearchEnd}
 use Rattle.nam_calls.specs.Holds.{AreWords, CellHolds, ClaimEndHolds, ClaimHolds, CollectHolds, CurrentEndHolds}
 use Rattle.nam_calls.specs.Holds.{CurrentHolds, HasWords, IsWord, LockEndHolds, LockHolds, MoveHolds, ReadHolds}
-use Rattle.nam_calls.specs.Holds.{HoldsNow}
-use Rattle.nam_calls.specs.Holds.{ReadingHolds, RingHolds, SearchHolds, SnapEndHolds, SnapHolds, VersionHolds}
+use Rattle.nam_calls.specs.Holds.{HoldsNow, ReadingHolds, RingHolds, SearchHolds, SnapEndHolds, SnapHolds, VersionHolds}
 use Rattle.nam_calls.specs.Holds.{WritesWord}
 use Rattle.nam_calls.specs.Horizon.{collect_after, collect_next, collect_verb, entry_known}
 use Rattle.nam_calls.specs.Lock.{give_back, lock_after, lock_next, lock_verb, loss_of, nth_place}
 use Rattle.nam_calls.specs.Mover.{move_after, move_verb, on_claim, on_fill}
-use Rattle.nam_calls.specs.Overflow.{cell_after, claim_after, claim_next, claim_verb, fill_begin, fill_verb}
-use Rattle.nam_calls.specs.Overflow.{next_cell}
+use Rattle.nam_calls.specs.Overflow.{cell_after, claim_after, claim_next, claim_verb, fill_begin, fill_verb, next_cell}
 use Rattle.nam_calls.specs.Reading.{on_cells, on_current, on_horizon, on_ring, on_unsure, read_after}
 use Rattle.nam_calls.specs.Record.{current_after, recheck_end, words_after}
 use Rattle.nam_calls.specs.Ring.{next_slot, ring_after, ring_begin}
 use Rattle.nam_calls.proofs.FallsTests.{either}
 use Rattle.nam_calls.proofs.HoldsWords.{freed_word, full_word, moved_word, unmoved_word, words_at, words_push}
-use Rattle.nam_calls.proofs.HoldsWords.{locked_word, until_holds}
-use Rattle.nam_calls.proofs.HoldsWords.{written_word}
+use Rattle.nam_calls.proofs.HoldsWords.{locked_word, until_holds, written_word}
 use Rattle.nam_calls.specs.declared.lock.LockEnd.TheVariants as lock_end
 use Rattle.nam_calls.specs.declared.mover.MoveAnswer.TheVariants as move_end
 use Rattle.nam_calls.specs.declared.record.CurrentEnd.TheVariants as current

@@ -1,8 +1,7 @@
 -- What is below 2^64 stays so: lists of words, header words and tags.
 use Rattle.std.specs.Prelude.{replicate, slice_index, slice_set}
 use Rattle.std.proofs.Common.{Bool, List, None, Option, Some, [], arith, false, length, ℕ, ◌*◌, ◌++◌, ◌+◌, ◌-◌, ◌<◌}
-use Rattle.std.proofs.Common.{suc, zero}
-use Rattle.std.proofs.Common.{◌==◌, ◌^◌, ◌∷◌, ◌≤◌}
+use Rattle.std.proofs.Common.{suc, zero, ◌==◌, ◌^◌, ◌∷◌, ◌≤◌}
 use Rattle.std.proofs.lemmas.Bool.Decides.{nat_tests}
 use Rattle.nam_verbs.specs.Until.{until}
 use Rattle.nam_verbs.proofs.TestLemmas.{by_test}
@@ -11,11 +10,9 @@ use Rattle.nam_catalog.specs.declared.form.Form.{Form}
 use Rattle.nam_catalog.specs.declared.form.Form.TheVariants.{Narrow, Wide, Held}
 use Rattle.nam_catalog.specs.Greatest.{greatest_number}
 use Rattle.nam_header.specs.declared.header.Header.{Header}
-use Rattle.nam_header.specs.Flag.{holder_named, locked_by}
-use Rattle.nam_header.specs.Flag.{moved}
+use Rattle.nam_header.specs.Flag.{holder_named, locked_by, moved}
 use Rattle.nam_header.specs.Header.{IsWithin, fields_of, header_of, word_of}
-use Rattle.nam_header.specs.Stamp.{mark, with_lock, with_moved, without_moved}
-use Rattle.nam_header.specs.Stamp.{version_word}
+use Rattle.nam_header.specs.Stamp.{mark, with_lock, with_moved, without_moved, version_word}
 use Rattle.nam_header.specs.Tag.{freed, full, generation_of, has_next, written}
 use Rattle.nam_calls.specs.Holds.{AreWords, HasWords, IsWord}
 use Rattle.nam_calls.specs.Record.{word_in}

@@ -1,5 +1,5 @@
 -- Which field the verb of a place may change, and that a read changes none.
-use Rattle.std.proofs.Common.{List, None, Option, refl, ℕ, ◌≡◌}
+use Rattle.std.proofs.Common.{List, None, Option, refl, ℕ, ◌≡◌, sym}
 use Rattle.si_model.specs.declared.log.Stamp.{Stamp}
 use Rattle.nam_verbs.specs.VerbAt.{ExchangeAt, ReadAt, VerbAt, WriteAt, left_at, target}
 use Rattle.nam_layout.specs.declared.field.Cells.{Cells}
@@ -15,9 +15,8 @@ use Rattle.nam_calls.specs.declared.index.ClaimKeyPlace.{ClaimKeyPlace}
 use Rattle.nam_calls.specs.declared.index.Path.{Path}
 use Rattle.nam_calls.specs.declared.lock.LockPlace.TheVariants.{GiveBack, Peek, Seize}
 use Rattle.nam_calls.specs.declared.lock.LockPlace.{LockPlace}
-use Rattle.nam_calls.specs.declared.mover.MovePlace.TheVariants.{MoveAgain, MoveBack, MoveClaim, MoveCount}
-use Rattle.nam_calls.specs.declared.mover.MovePlace.TheVariants.{MoveEnding, MoveFill, MoveFlag, MoveFull, MoveHead}
-use Rattle.nam_calls.specs.declared.mover.MovePlace.TheVariants.{MoveWords}
+use Rattle.nam_calls.specs.declared.mover.MovePlace.TheVariants.{MoveAgain, MoveBack, MoveClaim, MoveCount, MoveEnding}
+use Rattle.nam_calls.specs.declared.mover.MovePlace.TheVariants.{MoveFill, MoveFlag, MoveFull, MoveHead, MoveWords}
 use Rattle.nam_calls.specs.declared.mover.MovePlace.{MovePlace}
 use Rattle.nam_calls.specs.declared.overflow.CellPlace.TheVariants.{CellAgain, CellBegin, CellEnding, CellOwner}
 use Rattle.nam_calls.specs.declared.overflow.CellPlace.TheVariants.{CellTag, CellWords}
@@ -50,7 +49,6 @@ use Rattle.nam_calls.specs.Overflow.{cell_verb, claim_verb, fill_verb}
 use Rattle.nam_calls.specs.Reading.{read_verb}
 use Rattle.nam_calls.specs.Record.{current_verb, install_verb}
 use Rattle.nam_calls.specs.Ring.{copy_verb, ring_verb, slot_verb}
-use Rattle.std.proofs.Common.{sym}
 use Rattle.std.proofs.lemmas.Option.{none-some}
 use Rattle.nam_calls.specs.Writes.{claim_key_writes, claim_writes, collect_writes, copy_writes, fill_writes}
 use Rattle.nam_calls.specs.Writes.{install_writes, lock_writes, move_writes, written_by}

@@ -1,7 +1,6 @@
 -- Words below 2^64: which of its words a place holds that its call may still write, and what a verb writes.
 use Rattle.std.specs.List.{AllByRecursion}
-use Rattle.std.specs.Prelude.{List, Option, Some, ℕ, ◌<◌, ◌^◌}
-use Rattle.std.specs.Prelude.{None}
+use Rattle.std.specs.Prelude.{List, Option, Some, ℕ, ◌<◌, ◌^◌, None}
 use Rattle.nam_verbs.specs.declared.now.Now.TheVariants.{At, Over}
 use Rattle.nam_verbs.specs.declared.now.Now.{Now}
 use Rattle.nam_verbs.specs.VerbAt.{ExchangeAt, ReadAt, VerbAt, WriteAt}
@@ -16,15 +15,13 @@ use Rattle.nam_calls.specs.declared.lock.LockEnd.TheVariants.{Held, Locked, Newe
 use Rattle.nam_calls.specs.declared.lock.LockEnd.{LockEnd}
 use Rattle.nam_calls.specs.declared.lock.LockPlace.TheVariants.{GiveBack, Peek, Seize}
 use Rattle.nam_calls.specs.declared.lock.LockPlace.{LockPlace}
-use Rattle.nam_calls.specs.declared.mover.MovePlace.TheVariants.{MoveAgain, MoveBack, MoveClaim, MoveEnding}
-use Rattle.nam_calls.specs.declared.mover.MovePlace.TheVariants.{MoveCount}
+use Rattle.nam_calls.specs.declared.mover.MovePlace.TheVariants.{MoveAgain, MoveBack, MoveClaim, MoveEnding, MoveCount}
 use Rattle.nam_calls.specs.declared.mover.MovePlace.TheVariants.{MoveFill, MoveFlag, MoveFull, MoveHead, MoveWords}
 use Rattle.nam_calls.specs.declared.mover.MovePlace.{MovePlace}
 use Rattle.nam_calls.specs.declared.overflow.CellPlace.TheVariants.{CellAgain, CellBegin, CellEnding, CellOwner}
 use Rattle.nam_calls.specs.declared.overflow.CellPlace.TheVariants.{CellTag, CellWords}
 use Rattle.nam_calls.specs.declared.overflow.CellPlace.{CellPlace}
-use Rattle.nam_calls.specs.declared.overflow.ClaimEnd.TheVariants.{Claimed}
-use Rattle.nam_calls.specs.declared.overflow.ClaimEnd.TheVariants.{NoRoom}
+use Rattle.nam_calls.specs.declared.overflow.ClaimEnd.TheVariants.{Claimed, NoRoom}
 use Rattle.nam_calls.specs.declared.overflow.ClaimEnd.{ClaimEnd}
 use Rattle.nam_calls.specs.declared.overflow.ClaimPlace.TheVariants.{ClaimLook, ClaimTake}
 use Rattle.nam_calls.specs.declared.overflow.ClaimPlace.{ClaimPlace}
@@ -32,17 +29,14 @@ use Rattle.nam_calls.specs.declared.overflow.Version.{Version}
 use Rattle.nam_calls.specs.declared.reading.ReadPlace.TheVariants.{ReadCells, ReadCurrent, ReadHorizon, ReadRecheck}
 use Rattle.nam_calls.specs.declared.reading.ReadPlace.TheVariants.{ReadRing, ReadUnsure}
 use Rattle.nam_calls.specs.declared.reading.ReadPlace.{ReadPlace}
-use Rattle.nam_calls.specs.declared.reading.ReadingEnd.TheVariants.{Astray}
-use Rattle.nam_calls.specs.declared.reading.ReadingEnd.TheVariants.{Got, Passed}
+use Rattle.nam_calls.specs.declared.reading.ReadingEnd.TheVariants.{Astray, Got, Passed}
 use Rattle.nam_calls.specs.declared.reading.ReadingEnd.{ReadingEnd}
 use Rattle.nam_calls.specs.declared.record.CurrentEnd.{CurrentEnd}
-use Rattle.nam_calls.specs.declared.record.CurrentPlace.TheVariants.{CurrentAgain, CurrentWords}
-use Rattle.nam_calls.specs.declared.record.CurrentPlace.TheVariants.{CurrentHead}
+use Rattle.nam_calls.specs.declared.record.CurrentPlace.TheVariants.{CurrentAgain, CurrentWords, CurrentHead}
 use Rattle.nam_calls.specs.declared.record.CurrentPlace.{CurrentPlace}
 use Rattle.nam_calls.specs.declared.ring.RingPlace.TheVariants.{SlotAgain, SlotEnding, SlotHead, SlotWords}
 use Rattle.nam_calls.specs.declared.ring.RingPlace.{RingPlace}
-use Rattle.nam_calls.specs.declared.ring.SearchEnd.TheVariants.{Found}
-use Rattle.nam_calls.specs.declared.ring.SearchEnd.TheVariants.{NotThere}
+use Rattle.nam_calls.specs.declared.ring.SearchEnd.TheVariants.{Found, NotThere}
 use Rattle.nam_calls.specs.declared.ring.SearchEnd.{SearchEnd}
 use Rattle.nam_calls.specs.declared.record.CurrentEnd.TheVariants as current
 

@@ -107,7 +107,8 @@ written_claimed cs (w ∷ ws) key all e = elim (cases_Bool (same_key (item_key w
   | inr other ↦ written_claimed cs ws key all.1 (rw other at e)
 ]
 
-pub all_wrote : (P : Item → Type 0) (ws : List Item) (i : Item) → AllByRecursion P ws → P i → AllByRecursion P (wrote ws i)
+pub all_wrote : (P : Item → Type 0) (ws : List Item) (i : Item) → AllByRecursion P ws → P i
+    → AllByRecursion P (wrote ws i)
 all_wrote P [] i all new = (new, tt)
 all_wrote P (w ∷ ws) i all new =
     either (AllByRecursion P) (same_key (item_key w) (item_key i)) (i ∷ ws) (w ∷ wrote ws i) (new, all.1)

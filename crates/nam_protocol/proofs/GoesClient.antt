@@ -40,7 +40,7 @@ use Rattle.nam_protocol.specs.declared.scan.ScanPlace.TheVariants.{ScanKey, Scan
 use Rattle.nam_protocol.specs.Operations.{own_value}
 use Rattle.nam_protocol.specs.Txn.{Stepped}
 use Rattle.nam_protocol.specs.TxnCalls.{taken_now}
-use Rattle.nam_protocol.specs.Scan.{scan_skip, scan_read}
+use Rattle.nam_protocol.specs.Scan.{scan_skip}
 use Rattle.nam_protocol.specs.Log.{with_locks, with_snap, prefix_of, unbegun}
 use Rattle.nam_protocol.specs.Telling.{go, answered, opened, told, ended, committed, read_listed, items_of, new_locks}
 use Rattle.nam_protocol.specs.Telling.{on_answer, on_call, stepped}

@@ -1,7 +1,7 @@
 -- What a client may still write is below 2^64 after each word below 2^64, and after each call that is asked.
 use Rattle.std.proofs.Common.{List, None, Option, Some, subst, ℕ, ◌≤◌}
-use Rattle.nam_verbs.specs.declared.now.Now.TheVariants.{At, Over}
 use Rattle.nam_verbs.specs.declared.now.Now.{Now}
+use Rattle.nam_verbs.specs.declared.now.Now.TheVariants.{At, Over}
 use Rattle.nam_verbs.specs.Falls.{Any}
 use Rattle.nam_catalog.specs.declared.shape.Shape.{Shape}
 use Rattle.nam_catalog.specs.Greatest.{greatest_number}
@@ -12,27 +12,24 @@ use Rattle.nam_calls.specs.declared.horizon.CollectPlace.{CollectPlace}
 use Rattle.nam_calls.specs.declared.index.FindEnd.{FindEnd}
 use Rattle.nam_calls.specs.declared.mover.MoveAnswer.{MoveAnswer}
 use Rattle.nam_calls.specs.declared.mover.MovePlace.{MovePlace}
-use Rattle.nam_calls.specs.Holds.{AreWords, CollectHolds, MoveHolds, SnapEndHolds, SnapHolds}
-use Rattle.nam_calls.specs.Holds.{IsWord, HoldsNow}
+use Rattle.nam_calls.specs.Holds.{AreWords, CollectHolds, MoveHolds, SnapEndHolds, SnapHolds, IsWord, HoldsNow}
 use Rattle.nam_calls.proofs.HoldsCalls.{collect_holds, move_holds, snap_holds}
 use Rattle.nam_protocol.specs.declared.client.Answer.{Answer}
 use Rattle.nam_protocol.specs.declared.client.Call.{Call}
+use Rattle.nam_protocol.specs.declared.client.CallPlace.{CallPlace}
 use Rattle.nam_protocol.specs.declared.client.CallPlace.TheVariants.{Beginning, InTxn, Scanning, Seeking, Moving}
 use Rattle.nam_protocol.specs.declared.client.CallPlace.TheVariants.{Snapping, Collecting}
-use Rattle.nam_protocol.specs.declared.client.CallPlace.{CallPlace}
 use Rattle.nam_protocol.specs.declared.client.ClientState.{ClientState}
 use Rattle.nam_protocol.specs.declared.client.Open.{Open}
 use Rattle.nam_protocol.specs.declared.scan.ScanPlace.{ScanPlace}
 use Rattle.nam_protocol.specs.declared.txn.TxnAnswer.{TxnAnswer}
 use Rattle.nam_protocol.specs.declared.txn.TxnCall.{TxnCall}
 use Rattle.nam_protocol.specs.declared.txn.TxnPlace.{TxnPlace}
-use Rattle.nam_protocol.specs.Client.{abandon_open, after_call, ask_scan, ask_txn, call_after, client_after}
-use Rattle.nam_protocol.specs.Client.{client_ask, counted, take_scan, take_txn}
-use Rattle.nam_protocol.specs.Client.{on_begin, on_move, on_snap, on_seek, on_collect}
+use Rattle.nam_protocol.specs.Client.{abandon_open, after_call, ask_scan, ask_txn, call_after, client_after, client_ask}
+use Rattle.nam_protocol.specs.Client.{counted, take_scan, take_txn, on_begin, on_move, on_snap, on_seek, on_collect}
 use Rattle.nam_protocol.specs.CutClient.{client_cut}
 use Rattle.nam_protocol.specs.HoldsWords.{CallHolds, CallPlaceHolds, OpenHolds, OpenPlaceHolds, RunHolds, StateHolds}
-use Rattle.nam_protocol.specs.HoldsWords.{HoldsWords}
-use Rattle.nam_protocol.specs.HoldsWords.{StepHolds, TxnCallHolds, TxnEndHolds, TxnPlaceHolds}
+use Rattle.nam_protocol.specs.HoldsWords.{HoldsWords, StepHolds, TxnCallHolds, TxnEndHolds, TxnPlaceHolds}
 use Rattle.nam_protocol.specs.Telling.{answered, stepped, on_answer}
 use Rattle.nam_protocol.specs.Txn.{Stepped}
 use Rattle.nam_protocol.specs.WordsLaw.{ClientKeepsWords}
@@ -46,12 +43,6 @@ use Rattle.nam_protocol.specs.declared.txn.TxnCall.TheVariants as txn_call
 module _ (shape : Shape) where
   abbrev Holds : ClientState → Type 0
   Holds = HoldsWords shape
-
-  -- the client without a call that could write
-  at_rest : (client : ClientState) → client.last ≤ greatest_number shape.form → OpenHolds shape.form client.txn
-      → (call : Option (Now CallPlace Answer)) → RunHolds shape.form client.txn call
-      → Holds (record client { call = call })
-  at_rest client last opened call running = record { last_is = last; opened = opened; running = running }
 
   -- 1. A transaction has stepped
 
@@ -100,13 +91,10 @@ module _ (shape : Shape) where
       (λ outcome end e. record { last_is = h.last_is; opened = tt; running = tt })
 
   module _ (client : ClientState) (h : Holds client) where
-    idle : (call : Option (Now CallPlace Answer)) → RunHolds shape.form client.txn call
-        → Holds (record client { call = call })
-    idle call running = record { last_is = h.last_is; opened = h.opened; running = running }
-
     begin_holds : (txn nth : ℕ) (now : Now SnapPlace SnapEnd) → Holds (on_begin shape client txn nth now)
     begin_holds txn nth now =
-        begin_goes Holds shape client txn nth now (λ next e. record { last_is = h.last_is; opened = h.opened; running = tt })
+        begin_goes Holds shape client txn nth now
+        (λ next e. record { last_is = h.last_is; opened = h.opened; running = tt })
         (λ seen e. record {
           last_is = h.last_is;
           opened = record { last_is = h.last_is; written = tt; found = tt; headers = tt };
@@ -170,7 +158,8 @@ module _ (shape : Shape) where
         on_move_holds table key position _ _ (move_holds place (cells_by shape place) at found p is)
     call_holds (Snapping bucket at) found p is = on_snap_holds bucket _ (snap_holds shape.workers at found p is)
     call_holds (Collecting bucket prefix seen at) found p is =
-        on_collect_holds bucket prefix seen _ p.0 (collect_holds (cells_of shape bucket) seen shape.workers at found p.1 is)
+        on_collect_holds bucket prefix seen _ p.0
+        (collect_holds (cells_of shape bucket) seen shape.workers at found p.1 is)
 
     now_holds : (call : Option (Now CallPlace Answer)) (found : ℕ) → RunHolds shape.form client.txn call → IsWord found
         → Holds (after_call shape client call found)
@@ -183,29 +172,11 @@ module _ (shape : Shape) where
 
     -- 3. A call is asked, the transaction given up, the client stopped
 
-    ask_txn_holds : (call : TxnCall) (opened : Option Open) → OpenHolds shape.form opened → TxnCallHolds call
-        → Holds (ask_txn shape client call opened)
-    ask_txn_holds call None o c = h
-    ask_txn_holds (txn_call.Get t k) (Some attempt) o c =
-        stepped_holds client (counted attempt (txn_call.Get t k)) 0 _ h.last_is
-        (txn_ask_holds shape attempt.state o (txn_call.Get t k) c)
-    ask_txn_holds (txn_call.Put t k v) (Some attempt) o c =
-        stepped_holds client (counted attempt (txn_call.Put t k v)) 0 _ h.last_is
-        (txn_ask_holds shape attempt.state o (txn_call.Put t k v) c)
-    ask_txn_holds (txn_call.Add t k f up by) (Some attempt) o c =
-        stepped_holds client (counted attempt (txn_call.Add t k f up by)) 0 _ h.last_is
-        (txn_ask_holds shape attempt.state o (txn_call.Add t k f up by) c)
-    ask_txn_holds (txn_call.Del t k) (Some attempt) o c =
-        stepped_holds client (counted attempt (txn_call.Del t k)) 0 _ h.last_is
-        (txn_ask_holds shape attempt.state o (txn_call.Del t k) c)
-    ask_txn_holds (txn_call.Need t k f least) (Some attempt) o c =
-        stepped_holds client (counted attempt (txn_call.Need t k f least)) 0 _ h.last_is
-        (txn_ask_holds shape attempt.state o (txn_call.Need t k f least) c)
-    ask_txn_holds (txn_call.Guard t k) (Some attempt) o c =
-        stepped_holds client (counted attempt (txn_call.Guard t k)) 0 _ h.last_is
-        (txn_ask_holds shape attempt.state o (txn_call.Guard t k) c)
-    ask_txn_holds txn_call.Commit (Some attempt) o c =
-        stepped_holds client attempt 0 _ h.last_is (txn_ask_holds shape attempt.state o txn_call.Commit c)
+    ask_txn_holds : (asked : TxnCall) (opened : Option Open) → OpenHolds shape.form opened → TxnCallHolds asked
+        → Holds (ask_txn shape client asked opened)
+    ask_txn_holds asked None o c = h
+    ask_txn_holds asked (Some attempt) o c =
+        stepped_holds client (counted attempt asked) 0 _ h.last_is (txn_ask_holds shape attempt.state o asked c)
 
     ask_scan_holds : (table low high : ℕ) (opened : Option Open) → OpenHolds shape.form opened
         → Holds (ask_scan shape client table low high opened)

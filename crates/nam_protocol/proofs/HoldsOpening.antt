@@ -104,6 +104,7 @@ module _ (shape : Shape) (limits : FitsLimits shape) where
   )
 
 pub new_world_holds : NewWorldLaw
-new_world_holds shape limits rows policy jobs has all =
-    (rows_loaded shape limits rows (blank_words shape) has (blank_words_hold shape limits),
-    new_sessions_hold shape limits policy 1 jobs all)
+new_world_holds shape limits rows policy jobs has all = (
+  rows_loaded shape limits rows (blank_words shape) has (blank_words_hold shape limits),
+  new_sessions_hold shape limits policy 1 jobs all,
+)

@@ -2,8 +2,7 @@
 use Rattle.std.specs.List.{AllByRecursion}
 use Rattle.std.specs.Prelude.{if◌then◌else◌, slice_get, slice_index, slice_set}
 use Rattle.std.proofs.Common.{Bool, List, None, Option, Some, [], arith, refl, subst, suc, zero, ℕ, ◌-◌, ◌==◌, ◌∷◌}
-use Rattle.std.proofs.Common.{false, true}
-use Rattle.std.proofs.Common.{◌≡◌}
+use Rattle.std.proofs.Common.{false, true, ◌≡◌}
 use Rattle.std.proofs.lemmas.Option.{none-some, same_Some}
 use Rattle.si_model.specs.declared.op.Op.{Op}
 use Rattle.nam_verbs.specs.Verb.{after_verb, found_by}
@@ -12,8 +11,7 @@ use Rattle.nam_catalog.specs.declared.shape.Shape.{Shape}
 use Rattle.nam_catalog.specs.Fits.{FitsLimits}
 use Rattle.nam_layout.specs.declared.field.Field.{Field}
 use Rattle.nam_layout.specs.Address.{address}
-use Rattle.nam_calls.specs.Holds.{AreWords}
-use Rattle.nam_calls.specs.Holds.{IsWord, WritesWord}
+use Rattle.nam_calls.specs.Holds.{AreWords, IsWord, WritesWord}
 use Rattle.nam_calls.specs.Memory.{verb_there}
 use Rattle.nam_calls.proofs.FallsTests.{either}
 use Rattle.nam_calls.proofs.HoldsWords.{words_at, words_set}
@@ -28,16 +26,11 @@ use Rattle.nam_protocol.specs.declared.session.SessionState.{SessionState}
 use Rattle.nam_protocol.specs.Client.{client_after, client_ask}
 use Rattle.nam_protocol.specs.ClientFits.{ClientFits}
 use Rattle.nam_protocol.specs.CutClient.{client_cut}
-use Rattle.nam_protocol.specs.Driver.{call_of}
-use Rattle.nam_protocol.specs.Driver.{driver_next, job_call, new_driver, op_call, place_call}
-use Rattle.nam_protocol.specs.HoldsWords.{CallHolds, JobHolds, SessionHolds, WorldHolds}
-use Rattle.nam_protocol.specs.HoldsWords.{HoldsWords}
-use Rattle.nam_protocol.specs.Session.{answer_now, has_ended, session_after, session_verb, settle}
-use Rattle.nam_protocol.specs.Session.{taken, calls_at_most}
+use Rattle.nam_protocol.specs.Driver.{call_of, driver_next, job_call, new_driver, op_call, place_call}
+use Rattle.nam_protocol.specs.HoldsWords.{CallHolds, JobHolds, SessionHolds, WorldHolds, HoldsWords}
+use Rattle.nam_protocol.specs.Session.{answer_now, has_ended, session_after, session_verb, settle, taken, calls_at_most}
 use Rattle.nam_protocol.specs.WordsLaw.{SessionKeepsWords, WorkerFits, WorldKeepsLaw}
-use Rattle.nam_protocol.specs.World.{Step, Cut}
-use Rattle.nam_protocol.specs.World.{World, session_of, step_by}
-use Rattle.nam_protocol.specs.World.{step_of, cut_of}
+use Rattle.nam_protocol.specs.World.{Step, Cut, World, session_of, step_by, step_of, cut_of}
 use Rattle.nam_protocol.proofs.HoldsClient.{ask_holds, cut_holds, word_holds}
 use Rattle.nam_protocol.proofs.HoldsVerbs.{client_writes}
 

@@ -1,8 +1,7 @@
 -- What a transaction may still write is below 2^64 after each word below 2^64, its commit included.
 use Rattle.std.specs.List.{AllByRecursion}
 use Rattle.std.specs.Prelude.{slice_index}
-use Rattle.std.proofs.Common.{Bool, List, None, Option, Some, [], arith, length, replicate, suc, sym, zero, ℕ, ◌+◌}
-use Rattle.std.proofs.Common.{false, true}
+use Rattle.std.proofs.Common.{Bool, List, None, Option, Some, [], arith, length, replicate, sym, ℕ, ◌+◌, false, true}
 use Rattle.std.proofs.Common.{◌-◌, ◌<◌, ◌==◌, ◌∷◌, ◌≡◌, ◌≤◌}
 use Rattle.std.proofs.lemmas.Bool.{false≢true}
 use Rattle.std.proofs.lemmas.Bool.Decides.{nat_tests}
@@ -10,8 +9,7 @@ use Rattle.si_model.specs.declared.op.Op.{Op}
 use Rattle.si_model.specs.declared.op.Op.TheVariants.{Get, Put, Add, Del, Need, Guard, Scan}
 use Rattle.si_model.specs.declared.row.Item.{Item}
 use Rattle.si_model.specs.declared.row.Key.{Key}
-use Rattle.si_model.specs.Evaluation.{can_change, field_of, op_key, writes_after}
-use Rattle.si_model.specs.Evaluation.{passes, changed, with_field}
+use Rattle.si_model.specs.Evaluation.{can_change, field_of, op_key, writes_after, passes, changed, with_field}
 use Rattle.si_model.specs.Operations.{op_reads}
 use Rattle.si_model.specs.Rows.{item_at, item_key, key_at, same_key}
 use Rattle.nam_verbs.specs.declared.now.Now.{Now}
@@ -32,8 +30,7 @@ use Rattle.nam_calls.specs.Holds.{IsWord}
 use Rattle.nam_calls.specs.Reading.{sight_of}
 use Rattle.nam_calls.proofs.FallsTests.{either}
 use Rattle.nam_calls.proofs.HoldsCalls.{lock_holds, read_holds, value_holds}
-use Rattle.nam_calls.proofs.HoldsWords.{same_words}
-use Rattle.nam_calls.proofs.HoldsWords.{words_at, words_set}
+use Rattle.nam_calls.proofs.HoldsWords.{same_words, words_at, words_set}
 use Rattle.nam_calls.specs.declared.index.ClaimKeyEnd.TheVariants as claimed_key
 use Rattle.nam_calls.specs.declared.index.FindEnd.TheVariants as found_key
 use Rattle.nam_calls.specs.declared.lock.LockEnd.TheVariants as lock_end
@@ -49,9 +46,7 @@ use Rattle.nam_protocol.specs.Commit.{ask_commit, commit_after, next_free, on_lo
 use Rattle.nam_protocol.specs.HoldsWords.{CommitPlaceHolds, ItemHolds, OpHolds, ResultHolds, StateHolds, StepHolds}
 use Rattle.nam_protocol.specs.HoldsWords.{TxnCallHolds, TxnEndHolds, TxnPlaceHolds}
 use Rattle.nam_protocol.specs.Operations.{answer_of, holding, own_value, read_of, value_in}
-use Rattle.nam_protocol.specs.Txn.{Stepped, ask_op, on_find, on_read, valued, with_op}
-use Rattle.nam_protocol.specs.Txn.{answered}
-use Rattle.nam_protocol.specs.Txn.{on_claim}
+use Rattle.nam_protocol.specs.Txn.{Stepped, ask_op, on_find, on_read, valued, with_op, on_claim}
 use Rattle.nam_protocol.specs.TxnCalls.{txn_after, txn_ask}
 use Rattle.nam_protocol.proofs.FallsKeys.{all_wrote}
 use Rattle.nam_protocol.proofs.GoesCommit.{ask_commit_goes, next_free_goes, on_copy_goes, on_install_goes}
@@ -262,8 +257,10 @@ ask_commit_holds shape state h =
     let read_none : StateHolds shape.form (record state { read = None }) =
     record { last_is = h.last_is; written = h.written; found = tt; headers = h.headers } in
     ask_commit_goes (StepHolds shape.form) state shape (λ e. (read_none, tt)) (λ e f. (read_none, tt))
-    (λ e f. (record { last_is = h.last_is; written = h.written; found = tt; headers = tt },
-    (less_from state.last (greatest_number shape.form) h.last_is f, tt)))
+    (λ e f. (
+      record { last_is = h.last_is; written = h.written; found = tt; headers = tt },
+      (less_from state.last (greatest_number shape.form) h.last_is f, tt),
+    ))
 
 -- 4. A transaction
 

@@ -1,8 +1,8 @@
 -- Each verb of a client writes a word below 2^64, or none.
 use Rattle.std.specs.List.{AllByRecursion}
 use Rattle.std.specs.Prelude.{is_some, slice_index, slice_index_or}
-use Rattle.std.proofs.Common.{Bool, List, None, Option, Some, [], ap, arith, false, length, not, refl, subst, suc}
-use Rattle.std.proofs.Common.{sym, zero, ℕ, ◌+◌, ◌<◌, ◌∷◌, ◌≡◌, ◌≤◌}
+use Rattle.std.proofs.Common.{Bool, List, None, Option, Some, [], ap, arith, false, length, not, refl, subst, suc, sym}
+use Rattle.std.proofs.Common.{zero, ℕ, ◌+◌, ◌<◌, ◌∷◌, ◌≡◌, ◌≤◌}
 use Rattle.std.proofs.lemmas.Option.{none-some, same_Some}
 use Rattle.si_model.specs.declared.op.Op.TheVariants.{Get, Put, Add, Del, Need, Guard, Scan}
 use Rattle.si_model.specs.declared.op.Op.{Op}
@@ -27,8 +27,7 @@ use Rattle.nam_calls.specs.declared.index.ClaimKeyPlace.{ClaimKeyPlace}
 use Rattle.nam_calls.specs.declared.record.InstallPlace.TheVariants.{InstallCount, InstallHead, InstallWord}
 use Rattle.nam_calls.specs.declared.ring.CopyPlace.TheVariants.{CopyEnding, CopyHead, CopyMark, CopyWord}
 use Rattle.nam_calls.specs.Fits.{IsOf}
-use Rattle.nam_calls.specs.Holds.{HasWords}
-use Rattle.nam_calls.specs.Holds.{IsWord, WritesWord}
+use Rattle.nam_calls.specs.Holds.{HasWords, IsWord, WritesWord}
 use Rattle.nam_calls.specs.Index.{claim_key_verb}
 use Rattle.nam_calls.specs.Reading.{read_verb, sight_of}
 use Rattle.nam_calls.specs.Ring.{slot_verb}
@@ -52,8 +51,7 @@ use Rattle.nam_protocol.specs.Client.{call_verb, open_verb, verb_of}
 use Rattle.nam_protocol.specs.ClientFits.{CallPlaceFits, ClientFits, NowFits, OpenFits, OpenPlaceFits}
 use Rattle.nam_protocol.specs.Commit.{commit_verb, no_item, own_stamp, places, record_place, value_at}
 use Rattle.nam_protocol.specs.FieldLaw.{IsRowPlace}
-use Rattle.nam_protocol.specs.HoldsWords.{CallPlaceHolds, CommitPlaceHolds, ItemHolds, OpHolds, OpenHolds}
-use Rattle.nam_protocol.specs.HoldsWords.{HoldsWords}
+use Rattle.nam_protocol.specs.HoldsWords.{CallPlaceHolds, CommitPlaceHolds, ItemHolds, OpHolds, OpenHolds, HoldsWords}
 use Rattle.nam_protocol.specs.HoldsWords.{OpenPlaceHolds, RunHolds, StateHolds, TxnPlaceHolds}
 use Rattle.nam_protocol.specs.Operations.{op_path}
 use Rattle.nam_protocol.specs.Scan.{scan_verb}

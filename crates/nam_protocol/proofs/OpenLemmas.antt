@@ -18,11 +18,11 @@ use Rattle.nam_protocol.specs.Client.{abandon_open, after_call, ask_scan, ask_tx
 use Rattle.nam_protocol.specs.Client.{client_after, client_ask, counted, take_scan, take_txn}
 use Rattle.nam_protocol.specs.CutClient.{client_cut}
 use Rattle.nam_protocol.specs.Own.{IsOpenAt, IsOpenFor, IsOpenNow, MayAsk, OpenClient, Rests}
-use Rattle.nam_protocol.specs.Telling.{go, stepped}
-use Rattle.nam_protocol.specs.Telling.{new_client}
+use Rattle.nam_protocol.specs.Telling.{go, stepped, new_client}
 use Rattle.nam_protocol.specs.Txn.{Stepped}
 use Rattle.nam_protocol.proofs.GoesClient.{begin_goes, seek_goes, move_goes, snap_goes, collect_goes, scan_goes}
 use Rattle.nam_protocol.proofs.GoesClient.{stepped_goes}
+use Rattle.nam_protocol.proofs.SteppedLemmas.{abandoned_view}
 use Rattle.nam_protocol.specs.declared.client.Call.TheVariants as call
 
 module _ (shape : Shape) where
@@ -50,7 +50,8 @@ module _ (shape : Shape) where
   call_open client (Beginning txn nth at) found is =
       begin_goes OpenClient shape client txn nth _ (λ next e. is) (λ seen e. tt) (λ worker first second e. tt)
   call_open client (InTxn at) found is = take_txn_open client at client.txn found is
-  call_open client (Scanning table low high at) found is = take_scan_open client table low high at client.txn found is is
+  call_open client (Scanning table low high at) found is =
+      take_scan_open client table low high at client.txn found is is
   call_open client (Seeking table key passed) found is =
       seek_goes OpenClient shape client table key _ (λ next e. is) (λ position e. is) (λ e. tt)
   call_open client (Moving table key position at) found is =
@@ -82,7 +83,8 @@ module _ (shape : Shape) where
   ask_scan_open client table low high None some = absurd (cc)
   ask_scan_open client table low high (Some attempt) some = refl
 
-  ask_open : (client : ClientState) (asked : Call) → IsOpenFor client.txn asked → OpenClient (client_ask shape client asked)
+  ask_open : (client : ClientState) (asked : Call) → IsOpenFor client.txn asked
+      → OpenClient (client_ask shape client asked)
   ask_open client (call.Begin txn nth) is = is
   ask_open client (call.Txn asked) is = ask_txn_open client asked client.txn is
   ask_open client (call.Scan table low high) is = ask_scan_open client table low high client.txn is
@@ -95,17 +97,9 @@ module _ (shape : Shape) where
 
 -- 3. The transaction is given up, and the client stopped
 
-rests_open : (call : Option (Now CallPlace Answer)) (opened : Option Open) → Rests call → IsOpenNow opened call
-rests_open None opened rests = tt
-rests_open (Some (Over answer)) opened rests = tt
-rests_open (Some (At place)) opened rests = absurd rests
-
 pub open_abandoned : (client : ClientState) → Rests client.call → OpenClient (client_abandon client)
-open_abandoned client rests = abandoned client.txn
-  where
-    abandoned : (opened : Option Open) → OpenClient (abandon_open client opened)
-    abandoned None = rests_open client.call client.txn rests
-    abandoned (Some attempt) = rests_open client.call None rests
+open_abandoned client rests =
+    abandoned_view (λ call opened. IsOpenNow opened call) (λ opened. tt) (λ answer opened. tt) client rests
 
 pub open_cut : (client : ClientState) → OpenClient client → OpenClient (client_cut client)
 open_cut client is = is

@@ -9,33 +9,25 @@ use Rattle.nam_vector.specs.declared.snap.SnapEnd.{SnapEnd}
 use Rattle.nam_vector.specs.declared.snap.SnapPlace.{SnapPlace}
 use Rattle.nam_protocol.specs.declared.client.Call.{Call}
 use Rattle.nam_protocol.specs.declared.client.CallPlace.{CallPlace}
-use Rattle.nam_protocol.specs.declared.client.CallPlace.TheVariants.{Beginning, InTxn, Scanning, Seeking, Moving}
-use Rattle.nam_protocol.specs.declared.client.CallPlace.TheVariants.{Snapping, Collecting}
+use Rattle.nam_protocol.specs.declared.client.CallPlace.TheVariants.{Beginning, InTxn, Snapping}
 use Rattle.nam_protocol.specs.declared.client.ClientState.{ClientState}
 use Rattle.nam_protocol.specs.declared.client.Open.{Open}
 use Rattle.nam_protocol.specs.declared.txn.CommitPlace.{CommitPlace}
 use Rattle.nam_protocol.specs.declared.txn.TxnAnswer.{TxnAnswer}
 use Rattle.nam_protocol.specs.declared.txn.TxnPlace.{TxnPlace}
-use Rattle.nam_protocol.specs.declared.txn.TxnPlace.TheVariants.{Finding, Reading, Claiming, Committing}
 use Rattle.nam_protocol.specs.declared.txn.TxnState.{TxnState}
-use Rattle.nam_protocol.specs.Client.{abandon_open, client_abandon, client_after, client_ask}
-use Rattle.nam_protocol.specs.Client.{on_begin, on_snap}
+use Rattle.nam_protocol.specs.Client.{abandon_open, client_abandon, client_after, client_ask, on_begin, on_snap}
 use Rattle.nam_protocol.specs.ClientFits.{ClientFits}
 use Rattle.nam_protocol.specs.Commit.{ask_commit, commit_after}
 use Rattle.nam_protocol.specs.CutClient.{client_cut}
 use Rattle.nam_protocol.specs.Own.{MayAsk, OwnOk, OwnOpen, OwnsOpen}
 use Rattle.nam_protocol.specs.Plain.{KeepsOpen, Plain, SameBegin}
-use Rattle.nam_protocol.specs.Sorts.{AskOf, StepOf, committing_at}
-use Rattle.nam_protocol.specs.Sorts.{AsksPlain, AsksBegin, AsksCollect, AsksCommit}
-use Rattle.nam_protocol.specs.Sorts.{Finds, Reads, Moves, Collects, Begins, Snaps, Commits}
-use Rattle.nam_protocol.specs.Telling.{go, answered, stepped, on_answer}
-use Rattle.nam_protocol.specs.Telling.{items_of, with_read}
-use Rattle.nam_protocol.specs.Telling.{new_client}
+use Rattle.nam_protocol.specs.Sorts.{AskOf, StepOf, committing_at, AsksPlain, AsksBegin, AsksCollect, AsksCommit, Finds}
+use Rattle.nam_protocol.specs.Sorts.{Reads, Moves, Collects, Begins, Snaps, Commits}
+use Rattle.nam_protocol.specs.Telling.{go, answered, stepped, on_answer, items_of, with_read, new_client}
 use Rattle.nam_protocol.specs.Txn.{Stepped}
-use Rattle.nam_protocol.proofs.GoesClient.{begin_goes, snap_goes}
-use Rattle.nam_protocol.proofs.GoesClient.{on_answer_goes, step_lists, step_opens, stepped_goes}
-use Rattle.nam_protocol.proofs.GoesCommit.{ask_commit_goes}
-use Rattle.nam_protocol.proofs.GoesCommit.{commit_goes}
+use Rattle.nam_protocol.proofs.GoesClient.{begin_goes, snap_goes, on_answer_goes, step_lists, step_opens, stepped_goes}
+use Rattle.nam_protocol.proofs.GoesCommit.{ask_commit_goes, commit_goes}
 use Rattle.nam_protocol.proofs.PlainLemmas.{same_begin}
 use Rattle.nam_protocol.proofs.SortsLemmas.{ask_sort, word_sort}
 use Rattle.nam_protocol.specs.declared.client.Answer.TheVariants as client_answer
@@ -115,7 +107,8 @@ module _ (shape : Shape) (worker : ℕ) where
       (opened : OwnsOpen client.worker client.last client.log.snaps attempt) where
     -- the commit goes on, or it has ended
     goes_own : (step : Stepped) → SameBegin attempt.state step.state → (place : TxnPlace) → step.call ≡ At place
-        → Own (go (record (step_lists client before step) { txn = Some (step_opens attempt before step) }) (InTxn place))
+        → Own
+        (go (record (step_lists client before step) { txn = Some (step_opens attempt before step) }) (InTxn place))
     goes_own step same place e = record {
       worker_is = own.worker_is;
       start_is = own.start_is;

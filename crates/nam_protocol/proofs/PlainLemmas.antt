@@ -9,8 +9,7 @@ use Rattle.nam_calls.specs.declared.horizon.CollectPlace.{CollectPlace}
 use Rattle.nam_calls.specs.declared.mover.MovePlace.{MovePlace}
 use Rattle.nam_calls.specs.Index.{claim_key_begin, find_begin}
 use Rattle.nam_calls.specs.Reading.{read_begin}
-use Rattle.nam_protocol.specs.declared.client.CallPlace.TheVariants.{Beginning, InTxn, Scanning, Seeking, Moving}
-use Rattle.nam_protocol.specs.declared.client.CallPlace.TheVariants.{Snapping, Collecting}
+use Rattle.nam_protocol.specs.declared.client.CallPlace.TheVariants.{InTxn, Scanning, Seeking, Moving, Collecting}
 use Rattle.nam_protocol.specs.declared.client.ClientState.{ClientState}
 use Rattle.nam_protocol.specs.declared.client.Open.{Open}
 use Rattle.nam_protocol.specs.declared.scan.ScanPlace.{ScanPlace}
@@ -22,13 +21,12 @@ use Rattle.nam_protocol.specs.Client.{abandon_open, ask_scan, call_after, client
 use Rattle.nam_protocol.specs.Operations.{answer_of, own_value}
 use Rattle.nam_protocol.specs.Plain.{IsAside, IsOperation, KeepsOpen, Plain, SameBegin}
 use Rattle.nam_protocol.specs.Telling.{go, stepped}
-use Rattle.nam_protocol.specs.Txn.{Stepped, ask_op, with_op}
-use Rattle.nam_protocol.specs.Txn.{at, answered, claimed}
+use Rattle.nam_protocol.specs.Txn.{Stepped, ask_op, with_op, at, answered, claimed}
 use Rattle.nam_protocol.specs.TxnCalls.{txn_after}
-use Rattle.nam_protocol.proofs.GoesClient.{on_answer_goes, step_lists, step_opens}
-use Rattle.nam_protocol.proofs.GoesClient.{seek_goes, move_goes, collect_goes, scan_goes}
-use Rattle.nam_protocol.proofs.GoesTxn.{IsSilent, silent_answer}
-use Rattle.nam_protocol.proofs.GoesTxn.{ask_goes, claiming_goes, finding_goes, knowing, reading_goes}
+use Rattle.nam_protocol.proofs.GoesClient.{on_answer_goes, step_lists, step_opens, seek_goes, move_goes, collect_goes}
+use Rattle.nam_protocol.proofs.GoesClient.{scan_goes}
+use Rattle.nam_protocol.proofs.GoesTxn.{IsSilent, silent_answer, ask_goes, claiming_goes, finding_goes, knowing}
+use Rattle.nam_protocol.proofs.GoesTxn.{reading_goes}
 use Rattle.nam_protocol.specs.declared.client.Answer.TheVariants as client_answer
 use Rattle.nam_protocol.specs.declared.txn.TxnAnswer.TheVariants as txn_answer
 use Rattle.nam_protocol.specs.Telling as telling
@@ -120,6 +118,20 @@ module _ (client : ClientState) (attempt : Open) (before : ℕ) where
 
 -- 2. Scans, tidyings, collections
 
+-- only the call and the log's events are new
+kept : (client after : ClientState) → after.worker ≡ client.worker → after.start ≡ client.start
+    → after.last ≡ client.last → after.cut ≡ client.cut → after.log.snaps ≡ client.log.snaps
+    → after.txn ≡ client.txn → IsAside after.call → Plain client after
+kept client after worker start last cut snaps txn aside = record {
+  worker = worker;
+  start = start;
+  last = last;
+  cut = cut;
+  snaps = snaps;
+  opened = subst (KeepsOpen client.txn) (sym txn) (same_open client.txn);
+  aside = aside;
+}
+
 module _ (shape : Shape) where
   pub scan_plain : (client : ClientState) (table low high : ℕ) (at : ScanPlace) (opened : Option Open) (found : ℕ)
       → let c = record client { call = Some (At (Scanning table low high at)); txn = opened } in
@@ -127,13 +139,19 @@ module _ (shape : Shape) where
   scan_plain client table low high at None found =
       record { worker = refl; start = refl; last = refl; cut = refl; snaps = refl; opened = tt; aside = tt }
   scan_plain client table low high at (Some attempt) found =
-      let same = same_begin attempt.state in
       let c = record client { call = Some (At (Scanning table low high at)); txn = Some attempt } in
       scan_goes (Plain c) shape c attempt table low high _ _
-      (λ next e. record { worker = refl; start = refl; last = refl; cut = refl; snaps = refl; opened = same; aside = tt })
-      (λ key e. record { worker = refl; start = refl; last = refl; cut = refl; snaps = refl; opened = same; aside = tt })
-      (λ rows e. record { worker = refl; start = refl; last = refl; cut = refl; snaps = refl; opened = same; aside = tt })
-      (λ rows. record { worker = refl; start = refl; last = refl; cut = refl; snaps = refl; opened = same; aside = tt })
+      (λ next e. kept c _ refl refl refl refl refl refl tt) (λ key e. kept c _ refl refl refl refl refl refl tt)
+      (λ rows e. kept c _ refl refl refl refl refl refl tt)
+      (λ rows. record {
+        worker = refl;
+        start = refl;
+        last = refl;
+        cut = refl;
+        snaps = refl;
+        opened = same_begin attempt.state;
+        aside = tt;
+      })
       (λ outcome end e. record {
         worker = refl;
         start = refl;
@@ -145,48 +163,35 @@ module _ (shape : Shape) where
       })
 
   module _ (client : ClientState) where
-    -- only the call and the log's events are new
-    kept : (after : ClientState) → after.worker ≡ client.worker → after.start ≡ client.start → after.last ≡ client.last
-        → after.cut ≡ client.cut → after.log.snaps ≡ client.log.snaps → after.txn ≡ client.txn → IsAside after.call
-        → Plain client after
-    kept after worker start last cut snaps txn aside = record {
-      worker = worker;
-      start = start;
-      last = last;
-      cut = cut;
-      snaps = snaps;
-      opened = subst (KeepsOpen client.txn) (sym txn) (same_open client.txn);
-      aside = aside;
-    }
-
-    pub seek_plain : (table key passed found : ℕ) → Plain client (call_after shape client (Seeking table key passed) found)
+    pub seek_plain : (table key passed found : ℕ)
+        → Plain client (call_after shape client (Seeking table key passed) found)
     seek_plain table key passed found =
-        seek_goes (Plain client) shape client table key _ (λ next e. kept _ refl refl refl refl refl refl tt)
-        (λ position e. kept _ refl refl refl refl refl refl tt) (λ e. kept _ refl refl refl refl refl refl tt)
+        seek_goes (Plain client) shape client table key _ (λ next e. kept client _ refl refl refl refl refl refl tt)
+        (λ position e. kept client _ refl refl refl refl refl refl tt) (λ e. kept client _ refl refl refl refl refl refl tt)
 
     pub move_plain : (table key position : ℕ) (at : MovePlace) (found : ℕ)
         → Plain client (call_after shape client (Moving table key position at) found)
     move_plain table key position at found =
         move_goes (Plain client) shape client table key position _ _
-        (λ next e. kept _ refl refl refl refl refl refl tt) (λ stamp e. kept _ refl refl refl refl refl refl tt)
-        (λ stamp e. kept _ refl refl refl refl refl refl tt) (λ e. kept _ refl refl refl refl refl refl tt)
-        (λ full e. kept _ refl refl refl refl refl refl tt)
+        (λ next e. kept client _ refl refl refl refl refl refl tt) (λ stamp e. kept client _ refl refl refl refl refl refl tt)
+        (λ stamp e. kept client _ refl refl refl refl refl refl tt) (λ e. kept client _ refl refl refl refl refl refl tt)
+        (λ full e. kept client _ refl refl refl refl refl refl tt)
 
     pub collect_plain : (bucket prefix : ℕ) (seen : List ℕ) (at : CollectPlace) (found : ℕ)
         → Plain client (call_after shape client (Collecting bucket prefix seen at) found)
     collect_plain bucket prefix seen at found =
         collect_goes (Plain client) shape client bucket prefix seen _
-        (λ next e. kept _ refl refl refl refl refl refl tt) (λ known e. kept _ refl refl refl refl refl refl tt)
+        (λ next e. kept client _ refl refl refl refl refl refl tt) (λ known e. kept client _ refl refl refl refl refl refl tt)
 
     pub tidy_plain : (table key : ℕ) → Plain client (go client (Seeking table key find_begin))
-    tidy_plain table key = kept _ refl refl refl refl refl refl tt
+    tidy_plain table key = kept client _ refl refl refl refl refl refl tt
 
     -- a transaction that is given up between two calls
     pub abandon_plain : IsAside client.call → Plain client (client_abandon client)
     abandon_plain aside = abandon_of client.txn
       where
         abandon_of : (opened : Option Open) → Plain client (abandon_open client opened)
-        abandon_of None = kept client refl refl refl refl refl refl aside
+        abandon_of None = kept client client refl refl refl refl refl refl aside
         abandon_of (Some attempt) =
             record { worker = refl; start = refl; last = refl; cut = refl; snaps = refl; opened = tt; aside = aside }
 

@@ -24,15 +24,12 @@ use Rattle.nam_protocol.specs.declared.txn.TxnCall.{TxnCall}
 use Rattle.nam_protocol.specs.declared.txn.TxnCall.TheVariants.{Get, Put, Add, Del, Need, Guard, Commit}
 use Rattle.nam_protocol.specs.declared.txn.TxnPlace.{TxnPlace}
 use Rattle.nam_protocol.specs.declared.txn.TxnPlace.TheVariants.{Finding, Reading, Claiming, Committing}
-use Rattle.nam_protocol.specs.declared.txn.TxnState.{TxnState}
 use Rattle.nam_protocol.specs.Client.{ask_scan, ask_txn, client_after, client_ask, counted, take_scan, take_txn}
 use Rattle.nam_protocol.specs.ClientFits.{CallFits, CallPlaceFits, ClientFits, NowFits, OpenPlaceFits}
-use Rattle.nam_protocol.specs.Plain.{KeepsOpen, Plain}
-use Rattle.nam_protocol.specs.Plain.{SameBegin}
+use Rattle.nam_protocol.specs.Plain.{KeepsOpen, Plain, SameBegin}
 use Rattle.nam_protocol.specs.Reader.{Reader, ReadsAnew, reader_at, reader_of}
-use Rattle.nam_protocol.specs.Sorts.{AskOf, StepOf, word_taken}
-use Rattle.nam_protocol.specs.Sorts.{AsksPlain, AsksBegin, AsksCollect, AsksCommit}
-use Rattle.nam_protocol.specs.Sorts.{Finds, Reads, Moves, Collects, Begins, Snaps, Commits}
+use Rattle.nam_protocol.specs.Sorts.{AskOf, StepOf, word_taken, AsksPlain, AsksBegin, AsksCollect, AsksCommit, Finds}
+use Rattle.nam_protocol.specs.Sorts.{Reads, Moves, Collects, Begins, Snaps, Commits}
 use Rattle.nam_protocol.specs.Telling.{go, stepped}
 use Rattle.nam_protocol.specs.Txn.{ask_op}
 use Rattle.nam_protocol.proofs.GoesClient.{seek_goes}
@@ -157,27 +154,33 @@ module _ (shape : Shape) where
   ask_txn_sort client call None some = absurd (cc)
   ask_txn_sort client (Get t k) (Some attempt) some =
       let c = record client { txn = Some attempt } in
-      AsksPlain c (call.Txn (Get t k)) (asked_plain client attempt (counted attempt (Get t k)) (op.Get t k) refl)
+      AsksPlain c (call.Txn (Get t k))
+      (asked_plain client attempt (counted attempt (Get t k)) (op.Get t k) refl)
       (ask_reads shape c (counted attempt (Get t k)) 0 (op.Get t k))
   ask_txn_sort client (Put t k v) (Some attempt) some =
       let c = record client { txn = Some attempt } in
-      AsksPlain c (call.Txn (Put t k v)) (asked_plain client attempt (counted attempt (Put t k v)) (op.Put t k v) refl)
+      AsksPlain c (call.Txn (Put t k v))
+      (asked_plain client attempt (counted attempt (Put t k v)) (op.Put t k v) refl)
       (ask_reads shape c (counted attempt (Put t k v)) 0 (op.Put t k v))
   ask_txn_sort client (Add t k f up by) (Some attempt) some =
       let c = record client { txn = Some attempt } in
-      AsksPlain c (call.Txn (Add t k f up by)) (asked_plain client attempt (counted attempt (Add t k f up by)) (op.Add t k f up by) refl)
+      AsksPlain c (call.Txn (Add t k f up by))
+      (asked_plain client attempt (counted attempt (Add t k f up by)) (op.Add t k f up by) refl)
       (ask_reads shape c (counted attempt (Add t k f up by)) 0 (op.Add t k f up by))
   ask_txn_sort client (Del t k) (Some attempt) some =
       let c = record client { txn = Some attempt } in
-      AsksPlain c (call.Txn (Del t k)) (asked_plain client attempt (counted attempt (Del t k)) (op.Del t k) refl)
+      AsksPlain c (call.Txn (Del t k))
+      (asked_plain client attempt (counted attempt (Del t k)) (op.Del t k) refl)
       (ask_reads shape c (counted attempt (Del t k)) 0 (op.Del t k))
   ask_txn_sort client (Need t k f least) (Some attempt) some =
       let c = record client { txn = Some attempt } in
-      AsksPlain c (call.Txn (Need t k f least)) (asked_plain client attempt (counted attempt (Need t k f least)) (op.Need t k f least) refl)
+      AsksPlain c (call.Txn (Need t k f least))
+      (asked_plain client attempt (counted attempt (Need t k f least)) (op.Need t k f least) refl)
       (ask_reads shape c (counted attempt (Need t k f least)) 0 (op.Need t k f least))
   ask_txn_sort client (Guard t k) (Some attempt) some =
       let c = record client { txn = Some attempt } in
-      AsksPlain c (call.Txn (Guard t k)) (asked_plain client attempt (counted attempt (Guard t k)) (op.Guard t k) refl)
+      AsksPlain c (call.Txn (Guard t k))
+      (asked_plain client attempt (counted attempt (Guard t k)) (op.Guard t k) refl)
       (ask_reads shape c (counted attempt (Guard t k)) 0 (op.Guard t k))
   ask_txn_sort client Commit (Some attempt) some = AsksCommit client attempt
 

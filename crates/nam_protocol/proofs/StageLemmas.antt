@@ -1,7 +1,6 @@
 -- Each step of a client, and each call that it is asked, keeps what the place of its commit says.
 use Rattle.std.specs.Prelude.{is_some}
-use Rattle.std.proofs.Common.{List, None, Option, Some, ap, length, refl, ℕ, ◌+◌, ◌≡◌}
-use Rattle.std.proofs.Common.{[]}
+use Rattle.std.proofs.Common.{List, None, Option, Some, ap, length, refl, ℕ, ◌+◌, ◌≡◌, []}
 use Rattle.nam_verbs.specs.declared.now.Now.{Now}
 use Rattle.nam_verbs.specs.declared.now.Now.TheVariants.{At, Over}
 use Rattle.nam_verbs.proofs.TestLemmas.{by_equal}
@@ -33,16 +32,15 @@ use Rattle.nam_protocol.specs.Commit.{ask_commit, commit_after, on_install, on_l
 use Rattle.nam_protocol.specs.CutClient.{client_cut}
 use Rattle.nam_protocol.specs.Own.{MayAsk, Rests, StageAt, StageClient, StageIn, StageNow}
 use Rattle.nam_protocol.specs.Plain.{IsAside, Plain}
-use Rattle.nam_protocol.specs.Sorts.{AskOf, StepOf, committing_at}
-use Rattle.nam_protocol.specs.Sorts.{AsksPlain, AsksBegin, AsksCollect, AsksCommit}
-use Rattle.nam_protocol.specs.Sorts.{Finds, Reads, Moves, Collects, Begins, Snaps, Commits}
-use Rattle.nam_protocol.specs.Telling.{go, stepped}
-use Rattle.nam_protocol.specs.Telling.{new_client}
+use Rattle.nam_protocol.specs.Sorts.{AskOf, StepOf, committing_at, AsksPlain, AsksBegin, AsksCollect, AsksCommit, Finds}
+use Rattle.nam_protocol.specs.Sorts.{Reads, Moves, Collects, Begins, Snaps, Commits}
+use Rattle.nam_protocol.specs.Telling.{go, stepped, new_client}
 use Rattle.nam_protocol.specs.Txn.{Stepped}
 use Rattle.nam_protocol.proofs.GoesClient.{begin_goes, snap_goes}
-use Rattle.nam_protocol.proofs.GoesCommit.{ask_commit_goes, next_free_goes, on_copy_goes, on_install_goes}
-use Rattle.nam_protocol.proofs.GoesCommit.{on_return_goes, on_slot_goes, on_words_goes}
+use Rattle.nam_protocol.proofs.GoesCommit.{ask_commit_goes, next_free_goes, on_copy_goes, on_return_goes, on_slot_goes}
+use Rattle.nam_protocol.proofs.GoesCommit.{on_words_goes}
 use Rattle.nam_protocol.proofs.SortsLemmas.{ask_sort, word_sort}
+use Rattle.nam_protocol.proofs.SteppedLemmas.{abandoned_view}
 use Rattle.nam_protocol.specs.Commit.{go as go_to}
 
 stage_aside : (call : Option (Now CallPlace Answer)) (opened : Option Open) → IsAside call → StageIn call opened
@@ -164,18 +162,8 @@ module _ (shape : Shape) where
       → StageClient (client_ask shape client asked)
   stage_asked client asked may = stage_ask client _ (ask_sort shape client asked may.fits)
 
--- a client without an open transaction commits nothing
 pub stage_abandoned : (client : ClientState) → Rests client.call → StageClient (client_abandon client)
-stage_abandoned client rests = abandoned client.txn
-  where
-    rested : (call : Option (Now CallPlace Answer)) (opened : Option Open) → Rests call → StageIn call opened
-    rested None opened is = tt
-    rested (Some (Over answer)) opened is = tt
-    rested (Some (At place)) opened is = absurd is
-
-    abandoned : (opened : Option Open) → StageClient (abandon_open client opened)
-    abandoned None = rested client.call client.txn rests
-    abandoned (Some attempt) = rested client.call None rests
+stage_abandoned client rests = abandoned_view StageIn (λ opened. tt) (λ answer opened. tt) client rests
 
 pub stage_cut : (client : ClientState) → StageClient client → StageClient (client_cut client)
 stage_cut client stage = stage

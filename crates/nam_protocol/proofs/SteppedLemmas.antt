@@ -1,22 +1,22 @@
 -- A client whose transaction has stepped, seen by what its call has come to.
 use Rattle.std.proofs.Common.{List, Option, Some, [], ap, append-nil, arith, length, refl, ℕ, ◌+◌, ◌∙◌, ◌≡◌}
+use Rattle.std.proofs.Common.{None}
 use Rattle.std.proofs.Math.Seq.{drop-length}
 use Rattle.si_model.specs.declared.log.Lock.{Lock}
 use Rattle.nam_verbs.specs.declared.now.Now.{Now}
 use Rattle.nam_verbs.specs.declared.now.Now.TheVariants.{At, Over}
 use Rattle.nam_protocol.specs.declared.client.Answer.{Answer}
 use Rattle.nam_protocol.specs.declared.client.CallPlace.{CallPlace}
-use Rattle.nam_protocol.specs.declared.client.CallPlace.TheVariants.{Beginning, InTxn, Scanning, Seeking, Moving}
-use Rattle.nam_protocol.specs.declared.client.CallPlace.TheVariants.{Snapping, Collecting}
+use Rattle.nam_protocol.specs.declared.client.CallPlace.TheVariants.{InTxn}
 use Rattle.nam_protocol.specs.declared.client.ClientState.{ClientState}
 use Rattle.nam_protocol.specs.declared.client.Open.{Open}
 use Rattle.nam_protocol.specs.declared.txn.TxnAnswer.{TxnAnswer}
 use Rattle.nam_protocol.specs.declared.txn.TxnPlace.{TxnPlace}
-use Rattle.nam_protocol.specs.declared.txn.TxnPlace.TheVariants.{Finding, Reading, Claiming, Committing}
 use Rattle.nam_protocol.specs.declared.txn.TxnState.{TxnState}
+use Rattle.nam_protocol.specs.Client.{abandon_open, client_abandon}
 use Rattle.nam_protocol.specs.Log.{with_locks}
-use Rattle.nam_protocol.specs.Telling.{locks_from, new_locks}
-use Rattle.nam_protocol.specs.Telling.{stepped, on_call}
+use Rattle.nam_protocol.specs.Own.{Rests}
+use Rattle.nam_protocol.specs.Telling.{locks_from, new_locks, stepped, on_call}
 use Rattle.nam_protocol.specs.Txn.{Stepped, at}
 use Rattle.nam_protocol.specs.TxnCalls.{taken_at, taken_now}
 use Rattle.nam_protocol.proofs.GoesClient.{step_opens}
@@ -68,3 +68,20 @@ module _ (client : ClientState) (attempt : Open) where
       → stepped client attempt (length (taken_at attempt.state place)) (at attempt.state place)
       ≡ record client { txn = Some attempt; call = Some (At (InTxn place)) }
   quiet place = quiet_step (at attempt.state place) (taken_at attempt.state place) refl
+
+-- 3. A client at rest has given its transaction up
+
+pub abandoned_view : (View : Option (Now CallPlace Answer) → Option Open → Type 0)
+    → ((opened : Option Open) → View None opened) → ((answer : Answer) (opened : Option Open)
+    → View (Some (Over answer)) opened) → (client : ClientState) → Rests client.call
+    → let d = client_abandon client in View d.call d.txn
+abandoned_view View none over client rests = abandoned client.txn
+  where
+    rested : (call : Option (Now CallPlace Answer)) (opened : Option Open) → Rests call → View call opened
+    rested None opened is = none opened
+    rested (Some (Over answer)) opened is = over answer opened
+    rested (Some (At place)) opened is = absurd is
+
+    abandoned : (opened : Option Open) → let d = abandon_open client opened in View d.call d.txn
+    abandoned None = rested client.call client.txn rests
+    abandoned (Some attempt) = rested client.call None rests

@@ -11,8 +11,7 @@ use Rattle.nam_verbs.specs.declared.now.Now.TheVariants.{At}
 use Rattle.nam_catalog.specs.declared.form.Form.{Form}
 use Rattle.nam_catalog.specs.declared.shape.Shape.{Shape}
 use Rattle.nam_catalog.specs.Greatest.{greatest_number}
-use Rattle.nam_calls.specs.Holds.{AreWords, CollectHolds, HasWords, HoldsNow, LockHolds, MoveHolds, ReadHolds}
-use Rattle.nam_calls.specs.Holds.{IsWord}
+use Rattle.nam_calls.specs.Holds.{AreWords, CollectHolds, HasWords, HoldsNow, LockHolds, MoveHolds, ReadHolds, IsWord}
 use Rattle.nam_calls.specs.Holds.{SnapHolds}
 use Rattle.nam_calls.specs.Words.{key_word}
 use Rattle.nam_protocol.specs.declared.client.Answer.{Answer}

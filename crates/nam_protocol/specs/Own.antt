@@ -1,6 +1,5 @@
 -- What holds of a client by itself, whatever the words are.
-use Rattle.std.specs.Prelude.{IsNone, IsSome}
-use Rattle.std.specs.Prelude.{List, None, Option, Some, false, is_some, length, true, ℕ, ◌≡◌}
+use Rattle.std.specs.Prelude.{IsNone, IsSome, List, None, Option, Some, false, is_some, length, true, ℕ, ◌≡◌}
 use Rattle.si_model.specs.Lists.{Listed}
 use Rattle.nam_verbs.specs.declared.now.Now.{Now}
 use Rattle.nam_verbs.specs.declared.now.Now.TheVariants.{At}
@@ -11,15 +10,14 @@ use Rattle.nam_calls.specs.declared.record.InstallPlace.TheVariants.{InstallWord
 use Rattle.nam_protocol.specs.declared.client.Answer.{Answer}
 use Rattle.nam_protocol.specs.declared.client.Call.{Call}
 use Rattle.nam_protocol.specs.declared.client.CallPlace.{CallPlace}
-use Rattle.nam_protocol.specs.declared.client.CallPlace.TheVariants.{Beginning, InTxn, Scanning, Seeking, Moving}
-use Rattle.nam_protocol.specs.declared.client.CallPlace.TheVariants.{Snapping, Collecting}
+use Rattle.nam_protocol.specs.declared.client.CallPlace.TheVariants.{InTxn, Scanning}
 use Rattle.nam_protocol.specs.declared.client.ClientState.{ClientState}
 use Rattle.nam_protocol.specs.declared.client.Open.{Open}
 use Rattle.nam_protocol.specs.declared.txn.CommitPlace.{CommitPlace}
 use Rattle.nam_protocol.specs.declared.txn.CommitPlace.TheVariants.{Installing, Locking}
 use Rattle.nam_protocol.specs.declared.txn.TxnAnswer.{TxnAnswer}
 use Rattle.nam_protocol.specs.declared.txn.TxnPlace.{TxnPlace}
-use Rattle.nam_protocol.specs.declared.txn.TxnPlace.TheVariants.{Finding, Reading, Claiming, Committing}
+use Rattle.nam_protocol.specs.declared.txn.TxnPlace.TheVariants.{Committing}
 use Rattle.nam_protocol.specs.declared.txn.TxnState.{TxnState}
 use Rattle.nam_protocol.specs.ClientFits.{CallFits}
 use Rattle.nam_protocol.specs.Commit.{record_place, value_at}

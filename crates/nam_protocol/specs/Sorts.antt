@@ -15,7 +15,7 @@ use Rattle.nam_protocol.specs.declared.client.ClientState.{ClientState}
 use Rattle.nam_protocol.specs.declared.client.Open.{Open}
 use Rattle.nam_protocol.specs.declared.scan.ScanPlace.TheVariants.{ScanKey}
 use Rattle.nam_protocol.specs.declared.txn.CommitPlace.{CommitPlace}
-use Rattle.nam_protocol.specs.declared.txn.TxnPlace.TheVariants.{Finding, Reading, Claiming, Committing}
+use Rattle.nam_protocol.specs.declared.txn.TxnPlace.TheVariants.{Finding, Claiming, Committing}
 use Rattle.nam_protocol.specs.Client.{call_after, client_ask}
 use Rattle.nam_protocol.specs.Commit.{ask_commit, commit_after, locks_taken}
 use Rattle.nam_protocol.specs.Plain.{Plain}
@@ -48,7 +48,8 @@ module _ (shape : Shape) (found : ℕ) where
         → StepOf (go client place) (word_taken client place)
     Reads : (client : ClientState) (place : CallPlace) (reader : Reader)
         → reader_at shape client.txn place ≡ Some reader → Plain (go client place) (word_taken client place)
-        → ReadsOn reader (reader_of shape (word_taken client place)) (read_after reader.sight reader.seen reader.at found)
+        → ReadsOn reader (reader_of shape (word_taken client place))
+        (read_after reader.sight reader.seen reader.at found)
         → StepOf (go client place) (word_taken client place)
     Moves : (client : ClientState) (table key position : ℕ) (at : MovePlace)
         → Plain (go client (Moving table key position at)) (word_taken client (Moving table key position at))

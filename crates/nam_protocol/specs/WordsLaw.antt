@@ -8,8 +8,7 @@ use Rattle.nam_catalog.specs.declared.shape.Shape.{Shape}
 use Rattle.nam_catalog.specs.Fits.{FitsLimits}
 use Rattle.nam_catalog.specs.Greatest.{greatest_number}
 use Rattle.nam_layout.specs.declared.field.Field.{Field}
-use Rattle.nam_calls.specs.Holds.{IsWord}
-use Rattle.nam_calls.specs.Holds.{WritesWord}
+use Rattle.nam_calls.specs.Holds.{IsWord, WritesWord}
 use Rattle.nam_protocol.specs.declared.client.Call.{Call}
 use Rattle.nam_protocol.specs.declared.client.ClientState.{ClientState}
 use Rattle.nam_protocol.specs.declared.session.Job.{Job}
@@ -17,13 +16,10 @@ use Rattle.nam_protocol.specs.declared.session.SessionState.{SessionState}
 use Rattle.nam_protocol.specs.Client.{client_abandon, client_after, client_ask, client_verb}
 use Rattle.nam_protocol.specs.ClientFits.{ClientFits}
 use Rattle.nam_protocol.specs.CutClient.{client_cut}
-use Rattle.nam_protocol.specs.HoldsWords.{CallHolds, HoldsWords, JobHolds, SessionHolds, WorldHolds}
-use Rattle.nam_protocol.specs.HoldsWords.{RowHolds}
+use Rattle.nam_protocol.specs.HoldsWords.{CallHolds, HoldsWords, JobHolds, SessionHolds, WorldHolds, RowHolds}
 use Rattle.nam_protocol.specs.Session.{new_session, session_after, session_cut}
 use Rattle.nam_protocol.specs.Telling.{new_client}
-use Rattle.nam_protocol.specs.World.{Step, Cut}
-use Rattle.nam_protocol.specs.World.{Turn, World, after_turn, session_of}
-use Rattle.nam_protocol.specs.World.{new_world}
+use Rattle.nam_protocol.specs.World.{Step, Cut, Turn, World, after_turn, session_of, new_world}
 
 -- 1. A client
 

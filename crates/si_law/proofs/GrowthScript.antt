@@ -9,7 +9,8 @@ use Rattle.si_model.specs.declared.log.Attempt.{Attempt}
 use Rattle.si_model.specs.declared.log.Log.{Log}
 use Rattle.si_model.specs.Lists.{Listed, concat_of}
 use Rattle.si_model.specs.Rows.{rows_of}
-use Rattle.si_model.specs.Tells.{Tell, CountsFit, ops_in, tells_of, OwnsItems, empty_log, with_tell, ListsTells, last_number}
+use Rattle.si_model.specs.Tells.{Tell, CountsFit, ops_in, tells_of, OwnsItems, empty_log, with_tell, ListsTells}
+use Rattle.si_model.specs.Tells.{last_number}
 use Rattle.si_model.specs.Commits.{Published, published_from, published_by}
 use Rattle.si_model.specs.View.{View, by_snapshots}
 use Rattle.si_model.specs.Setting.{Setting, Asked, by_script}
@@ -62,7 +63,9 @@ module _ (s : Setting) (asked : Asked) (v w : View) (old : List (List Tell))
       → FollowSoFar s v k (before ++ was ∷ after) (walks ++ walk ∷ rest)
       → FollowSoFar s w k (before ++ now ∷ after) (walks ++ next ∷ rest)
   follow_end k [] was now after [] walk next rest same own among sound h =
-      (own, follow_after (suc k) after rest (λ t l. among t (listed_append_right was (concat_of after) t l)) sound.1 h.1)
+      let behind : (t : Tell) → Listed t (concat_of after) → Listed t (concat_of old) =
+      λ t l. among t (listed_append_right was (concat_of after) t l) in
+      (own, follow_after (suc k) after rest behind sound.1 h.1)
   follow_end k [] was now after (x ∷ walks) walk next rest same own among sound h = absurd (omega (arith, same))
   follow_end k (b ∷ before) was now after [] walk next rest same own among sound h = absurd (omega (arith, same))
   follow_end k (b ∷ before) was now after (x ∷ walks) walk next rest same own among sound h = (

@@ -105,7 +105,8 @@ read_walk = record { parts = attempted reading ∷ []; at_hand = []; owed = next
 
 owes_read_script : OwesForScript script [] [] [] (reading ∷ []) [] read_log read_walk
 owes_read_script =
-    owes_script_event script [] empty_log [] reading [] read_walk start.counts.0 (owns reading refl refl refl refl refl) refl
+    owes_script_event script [] empty_log [] reading [] read_walk start.counts.0
+    (owns reading refl refl refl refl refl) refl
     (attempt_follows script (view_by script ([] ∷ [])) 1 [] (first_walk script 1) start.follow.0 reading
     (next_owed [] (2 ∷ []) going) refl refl (λ tidy. tt))
 
@@ -164,8 +165,8 @@ owes_write_script =
 
 written_so_far : AreConsistentSoFar script (written_log ∷ []) (written_walk ∷ [])
 written_so_far =
-    script_commit_growth script [] read_log written_log [] [] read_walk written_walk [] (reading ∷ []) [] writing [] refl
-    refl read_so_far tt (omega arith, omega arith) owes_write owes_write_script
+    script_commit_growth script [] read_log written_log [] [] read_walk written_walk [] (reading ∷ []) [] writing []
+    refl refl read_so_far tt (omega arith, omega arith) owes_write owes_write_script
 
 -- ---- nothing is to be moved
 

@@ -60,8 +60,8 @@ pub fn script_start_law()
 /// [`quiet_growth_law`] or [`commit_growth_law`] says, the worker owes
 /// - that the counts of the new log fit its flat lists;
 /// - that the front and the new end follow the policy so far: they are attempts, tidyings and stops each of which may
-///   stand where it does, and at the end, it may be, the first events of a tidying that isn't over; and where tidying is
-///   on and a ring is full of the worker's own commit, its tidying after that commit failed, in the view before;
+///   stand where it does, and at the end, it may be, the first events of a tidying that isn't over; and where tidying
+///   is on and a ring is full of the worker's own commit, its tidying after that commit failed, in the view before;
 /// - of a commit, that its transaction is one of the script.
 pub fn script_growth_law()
     ensures quiet { ScriptQuietGrowth }

@@ -1,5 +1,5 @@
--- What a log tells over the calls: an attempt has the operations that were asked for in it, also without a snapshot; and
--- how far a worker has come in the policy.
+-- What a log tells over the calls: an attempt has the operations that were asked for in it, also without a snapshot;
+-- and how far a worker has come in the policy.
 use Rattle.std.proofs.Common.{◌≡◌, true, false, [], ◌∷◌, refl, Some, None}
 use Rattle.si_model.specs.declared.op.Op.TheVariants.{Add, Get}
 use Rattle.si_model.specs.declared.log.Log.{Log}

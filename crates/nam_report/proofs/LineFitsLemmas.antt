@@ -79,14 +79,18 @@ module _ (workers : ℕ) (tables : List Table) (named : AreNamed workers tables)
   fits_event (NoRoom b) fits small = fits_u32 b small
   fits_event (Moved b t k stamp how) fits small = (
     fits_u32 b small.0,
-    (named.table t fits,
-    (fits_u64 k small.1, (fits_u32 stamp.thread small.2.0, (fits_u64 stamp.number small.2.1, tt)))),
+    (
+      named.table t fits,
+      (fits_u64 k small.1, (fits_u32 stamp.thread small.2.0, (fits_u64 stamp.number small.2.1, tt))),
+    ),
   )
   fits_event (Collected b p entries cut) fits small =
       let few = named.few in (
         fits_u32 b small.0,
-        (fits_u64 p small.1,
-        ((fits_words entries small.2, omega (arith, fits, few.0), omega (arith, fits, few.1)), tt)),
+        (
+          fits_u64 p small.1,
+          ((fits_words entries small.2, omega (arith, fits, few.0), omega (arith, fits, few.1)), tt),
+        ),
       )
   fits_event (CollectAgain b j first second) fits small =
       (fits_u32 b small.0, (fits_u32 j small.1, (fits_u64 first small.2, fits_u64 second small.3)))
@@ -102,9 +106,10 @@ module _ (workers : ℕ) (tables : List Table) (named : AreNamed workers tables)
 
 pub fits_entry : (q : ℕ) (c : CommitLine) → IsU64 q → EntryNumbersFit c
     → entry_kind.rest.Fits (q, (c.worker, (c.number, (c.prefix, c.txn))))
-fits_entry q c place small =
-    (fits_u64 q place,
-    (fits_u32 _ small.worker, (fits_u64 _ small.number, (fits_u64 _ small.prefix, fits_u32 _ small.txn))))
+fits_entry q c place small = (
+  fits_u64 q place,
+  (fits_u32 _ small.worker, (fits_u64 _ small.number, (fits_u64 _ small.prefix, fits_u32 _ small.txn))),
+)
 
 pub fits_worker : (j n : ℕ) → IsU64 j → IsU64 n → worker_kind.rest.Fits (j, n)
 fits_worker j n few count = (fits_u64 j few, fits_u64 n count)

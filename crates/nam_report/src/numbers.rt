@@ -8,7 +8,9 @@ ghost use Rattle.nam_report.specs.Numbers.{IsU64, WordsFit, ItemNumbersFit, Stam
 ghost use Rattle.nam_report.specs.Numbers.{OutcomeNumbersFit, AttemptNumbersFit, EventNumbersFit, LogNumbersFit};
 ghost use Rattle.nam_report.specs.Numbers.{EntryNumbersFit, RowNumbersFit, NumbersFit};
 
-use si_model::{Attempt, AuditRow, CommitLine, Event, Item, Lock, Log, Outcome, Report, Stamp, Value};
+use si_model::{
+    Attempt, AuditRow, CommitLine, Event, Item, Lock, Log, Outcome, Report, Stamp, Value,
+};
 
 fn word_fits(_word: u64)
     ensures { IsU64 _word }
@@ -96,7 +98,10 @@ fn event_fits(event: &Event)
             let _bucket = *bucket;
         }
         Event::Moved {
-            bucket, key, stamp, ..
+            bucket,
+            key,
+            stamp,
+            ..
         } => {
             let _numbers = (*bucket, *key);
             stamp_fits(*stamp);
@@ -157,7 +162,10 @@ fn logs_fit(logs: &[Log])
 fn entry_fits(entry: &CommitLine)
     ensures { EntryNumbersFit entry.now }
 {
-    let _numbers = (entry.worker, entry.number, entry.prefix, entry.txn);
+    let _worker = entry.worker;
+    let _number = entry.number;
+    let _prefix = entry.prefix;
+    let _txn = entry.txn;
     items_fit(entry.writes.as_slice());
 }
 

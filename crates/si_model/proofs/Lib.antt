@@ -31,6 +31,7 @@ mod ReadsForwardExample
 mod PlaceSearch
 mod AgainTwiceExample
 mod OldBesideExample
+mod OldBelowHorizonExample
 mod FullAfterMoveExample
 mod TidyingFailedExample
 mod StoppedHolderExample

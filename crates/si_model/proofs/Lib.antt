@@ -36,6 +36,7 @@ mod ReadsForwardExample
 mod PlaceSearch
 mod AgainTwiceExample
 mod OldBesideExample
+mod OldBelowHorizonExample
 mod FullAfterMoveExample
 mod TidyingFailedExample
 mod StoppedHolderExample

@@ -1,4 +1,4 @@
--- A small report that is a run: a reader is too old for one key, while the version that it might read of another stands.
+-- A small report that is a run: a reader is too old for one key, and not for another.
 use Rattle.std.proofs.Common.{true, [], ◌∷◌, refl, arith, Some, inl, inr}
 use Rattle.std.proofs.lemmas.Bool.Decides.{nat_tests}
 use Rattle.si_model.specs.declared.op.Op.{Op}

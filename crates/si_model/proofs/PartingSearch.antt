@@ -47,8 +47,8 @@ module _ (policy : Policy) (test : List Part → Part → Bool) (next : List Par
   by_tidying done owed [] ts = false
   by_tidying done owed (key ∷ keys) ts = by_split (λ us vs. by_part done owed (tidied key us) vs) [] ts
 
--- may the events be parted so that each part may follow those before and passes the test after them, and nothing is owed
--- at the end; also where that takes n parts or more
+-- may the events be parted so that each part may follow those before and passes the test after them, and nothing is
+-- owed at the end; also where that takes n parts or more
 abbrev pub may_part : ℕ → Policy → (List Part → Part → Bool) → List Part → Owed → List Tell → Bool
 may_part zero policy test done owed ts = true
 may_part (suc n) policy test done owed ts =

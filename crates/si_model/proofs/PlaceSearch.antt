@@ -1,4 +1,5 @@
--- The operation that an attempt stopped at is looked for among all, so that an attempt that has none is seen by computing.
+-- The operation that an attempt stopped at is looked for among all, so that an attempt without one is seen by
+-- computing.
 use Rattle.std.proofs.Common.{◌≡◌, ℕ, zero, suc, Bool, true, false, List, [], ◌∷◌, ◌++◌, refl, ap, sym, subst}
 use Rattle.std.proofs.Common.{Option, Some, None, take, length, arith, append-nil}
 use Rattle.std.specs.Prelude.{◌==◌, ◌&&◌, ◌||◌, not}
@@ -39,7 +40,8 @@ placed : (test : List Op → Op → Bool) (before : List Op) (k : ℕ) (op : Op)
 placed test before zero op [] (rest, same) h = absurd cc
 placed test before zero op (o ∷ ops) (rest, same) h =
     let here : o ≡ op = cc in
-    left _ _ (subst (λ x. test before x ≡ true) (sym here) (subst (λ front. test front op ≡ true) (append-nil before) h))
+    let first : test before op ≡ true = subst (λ front. test front op ≡ true) (append-nil before) h in
+    left _ _ (subst (λ x. test before x ≡ true) (sym here) first)
 placed test before (suc k) op [] (rest, same) h = absurd cc
 placed test before (suc k) op (o ∷ ops) stands h =
     right _ _ (placed test (before ++ o ∷ []) k op ops stands

@@ -48,11 +48,15 @@ number_locked_before_locked run = omega (arith, ap (λ (s : Stamp). s.number) ru
 -- a key is locked in place of the guard's
 guard_not_locked : IsRun skew.setting (in_log 1 (lock_at 2 (lock 0 2 0 0)) skew.report) → ⊥
 guard_not_locked run =
-    let all = done_as (LocksAll (key_at 0 0 ∷ key_at 0 2 ∷ [])) run.workers.0.answers.0.0.2 run.workers.0.answers.0.0.3.1 in
+    let commit = run.workers.0.answers.0.0 in
+    let reads = item 0 0 60 ∷ item 0 1 60 ∷ item 0 1 60 ∷ item 0 0 60 ∷ [] in
+    let all = done_as {reads = reads} {ws = item 0 0 0 ∷ []} {gs = key_at 0 1 ∷ []}
+    (LocksAll (key_at 0 0 ∷ key_at 0 2 ∷ [])) commit.2 commit.3.1 in
     false≢true (sym (ap (λ (ks : List Key). has_key ks (key_at 0 2)) all))
 
 -- nothing is needed that wasn't found
-declined_though_done : IsRun again.setting (in_log 1 (event_at 2 (tried 1 2 (Some 1) 1 0 (DeclinedAt 1))) again.report) → ⊥
+declined_though_done : IsRun again.setting (in_log 1 (event_at 2 (tried 1 2 (Some 1) 1 0 (DeclinedAt 1)))
+    again.report) → ⊥
 declined_though_done run = absurd (let same = run.workers.0.answers.1.0.0.0 in cc)
 
 abbrev op_of : Evaluated → ℕ
@@ -60,8 +64,8 @@ op_of (Done reads writes guards) = 0
 op_of (Declined op reads) = op
 
 -- the first operation declined, not the second
-declined_elsewhere : IsRun declined.setting (in_log 1 (event_at 1 (tried 1 1 (Some 0) 1 0 (DeclinedAt 2))) declined.report)
-    → ⊥
+declined_elsewhere : IsRun declined.setting (in_log 1 (event_at 1 (tried 1 1 (Some 0) 1 0 (DeclinedAt 2)))
+    declined.report) → ⊥
 declined_elsewhere run = omega (arith, ap op_of run.workers.0.answers.0.0.0)
 
 -- numbers are spent before the locks
@@ -141,7 +145,9 @@ full_of_unwritten : IsRun failed.setting (in_log 1 (event_at 6 (tried 2 1 (Some 
     failed.report) → ⊥
 full_of_unwritten run =
     let met = run.workers.0.answers.1.1.1.1.1.0.0 in
-    false≢true (done_as (λ ws gs. IsTrue (writes_key ws (key_at 0 2))) met.2 met.3.0)
+    let written = done_as {reads = []} {ws = item 0 0 2 ∷ item 0 1 2 ∷ []} {gs = []}
+    (λ ws gs. IsTrue (writes_key ws (key_at 0 2))) met.2 met.3.0 in
+    false≢true written
 
 -- room is lacking in the table of the key
 space_of_other_table : IsRun space.setting (in_log 1 (event_at 1 (tried 1 1 (Some 0) 1 0 (NoSpace 1))) space.report) → ⊥
@@ -152,8 +158,8 @@ space_with_lock : IsRun space.setting (in_log 1 (λ l. with_locks (lock 0 0 0 0 
 space_with_lock run = absurd (let none = run.workers.0.answers.0.0.5 in cc)
 
 -- the read before isn't listed, and one too many is
-space_without_read : IsRun space.setting (in_log 1 (λ l. log (tried 1 1 (Some 0) 0 0 (NoSpace 0) ∷ []) [] []) space.report)
-    → ⊥
+space_without_read : IsRun space.setting (in_log 1 (λ l. log (tried 1 1 (Some 0) 0 0 (NoSpace 0) ∷ []) [] [])
+    space.report) → ⊥
 space_without_read run = absurd (let none = run.workers.0.answers.0.0.4.1 in cc)
 
 old_with_read : IsRun (old.setting (Get 0 1)) (in_log 2 (λ l. with_reads (item 0 1 6 ∷ [])

@@ -16,6 +16,7 @@ use Rattle.si_model.proofs.TransferExample as transfer
 use Rattle.si_model.proofs.WorkedVariantsExample as variants
 use Rattle.si_model.proofs.StoppedHolderExample as holder
 use Rattle.si_model.proofs.FullAfterMoveExample as beside
+use Rattle.si_model.proofs.OldBelowHorizonExample as below
 use Rattle.si_model.proofs.NumbersAreSpentExample as spent
 use Rattle.si_model.proofs.GuardForbidsSkewExample as skew
 use Rattle.si_model.proofs.TidyingFailedExample as failed
@@ -51,8 +52,8 @@ number_after_stopped run = elim run.workers.1.0.causes.0.2 [
 ]
 
 -- the worker itself has moved the version
-full_of_moved : IsRun beside.setting (in_log 1 (event_at 3 (tried 3 1 (Some 2) 0 1 (Full (lock 0 0 0 0)))) beside.report)
-    → ⊥
+full_of_moved : IsRun beside.setting (in_log 1 (event_at 3 (tried 3 1 (Some 2) 0 1 (Full (lock 0 0 0 0))))
+    beside.report) → ⊥
 full_of_moved run = false≢true (sym run.workers.0.causes.1.1.0.2)
 
 -- numbers follow up to the greatest
@@ -70,10 +71,10 @@ lock_of_other_key run = false≢true run.workers.1.0.causes.0.0
 lock_of_other_version : IsRun holder.setting (holder.report (Locked (lock 0 0 0 1))) → ⊥
 lock_of_other_version run = false≢true run.workers.1.0.causes.0.0
 
--- the newer version is the worker's own, is one of a key that was guarded alone, or one of a key that the stopped worker
+-- the newer version is the worker's own, one of a key that was guarded alone, or one of a key that the stopped worker
 -- hadn't locked
-newer_of_itself : IsRun first.setting (in_log 2 (event_at 1 (tried 2 1 (Some 0) 1 0 (Newer (lock 0 0 2 1)))) first.report)
-    → ⊥
+newer_of_itself : IsRun first.setting (in_log 2 (event_at 1 (tried 2 1 (Some 0) 1 0 (Newer (lock 0 0 2 1))))
+    first.report) → ⊥
 newer_of_itself run = run.workers.1.0.causes.0.0 refl
 
 newer_of_guarded : IsRun skew.setting (in_log 2 (λ l. with_locks []
@@ -100,6 +101,10 @@ again_by_itself run = run.workers.1.0.causes.0.0 refl
 -- the prefix has another entry for the worker
 old_entry_changed : IsRun old.setting (in_log 2 (event_at 1 (tried 3 1 (Some 0) 0 0 (TooOld 1 1 2))) old.report) → ⊥
 old_entry_changed run = omega (arith, run.workers.1.0.causes.0.1)
+
+-- the horizon isn't above the prefix's entry
+horizon_not_above : IsRun below.setting (in_log 2 (event_at 3 (tried 4 1 (Some 2) 0 0 (TooOld 1 1 1))) below.report) → ⊥
+horizon_not_above run = omega (arith, run.workers.1.0.causes.1.1.0.2)
 
 -- ---- tidying
 

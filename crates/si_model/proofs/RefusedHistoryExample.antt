@@ -3,6 +3,7 @@ use Rattle.std.proofs.Common.{◌≡◌, ◌≤◌, [], ◌∷◌, ◌++◌, ref
 use Rattle.std.specs.Prelude.{IsTrue, slice_index_or}
 use Rattle.std.proofs.lemmas.Bool.{false≢true}
 use Rattle.si_model.specs.declared.log.Outcome.TheVariants.{Commit, ReadOnly, Again, Spent, TooOld, Cut}
+use Rattle.si_model.specs.Rows.{key_at}
 use Rattle.si_model.specs.History.{keys_of, none_writes}
 use Rattle.si_model.specs.Run.{IsRun}
 use Rattle.si_model.proofs.ExampleWords.{item, lock, tried, entry, log, audited}
@@ -57,8 +58,11 @@ guard_overwritten : IsRun skew.setting (record (in_log 2 (λ l. with_locks (lock
       audit = audited 0 0 0 ∷ audited 0 1 0 ∷ [];
     }) → ⊥
 guard_overwritten run =
-    false≢true (done_as (λ ws gs. IsTrue (none_writes (keys_of ws gs) (entry 1 1 0 1 (item 0 0 0 ∷ []) ∷ [])))
-    run.legal.1.0.evaluates run.legal.1.0.first_wins)
+    let reads = item 0 0 60 ∷ item 0 1 60 ∷ item 0 0 60 ∷ item 0 1 60 ∷ [] in
+    let none = done_as {reads = reads} {ws = item 0 1 0 ∷ []} {gs = key_at 0 0 ∷ []}
+    (λ ws gs. IsTrue (none_writes (keys_of ws gs) (entry 1 1 0 1 (item 0 0 0 ∷ []) ∷ [])))
+    run.legal.1.0.evaluates run.legal.1.0.first_wins in
+    false≢true none
 
 -- a reader's transaction stands as an entry
 entry_without_writes : IsRun again.setting (record (in_log 1 (event_at 2 (tried 1 2 (Some 1) 1 0 (Commit 1)))
@@ -87,8 +91,8 @@ entry_of_no_transaction run = none run.legal.0.job.0
     none h = omega (arith, h)
 
 -- the second worker was stopped before it took a snapshot
-entry_unlisted : IsRun first.setting (in_log 2 (λ l. with_locks [] (event_at 2 (tried 2 2 None 0 0 Cut) l)) first.report)
-    → ⊥
+entry_unlisted : IsRun first.setting (in_log 2 (λ l. with_locks [] (event_at 2 (tried 2 2 None 0 0 Cut) l))
+    first.report) → ⊥
 entry_unlisted run = omega (arith, run.listed.1.0)
 
 -- one worker more than the script has

@@ -27,7 +27,8 @@ transactions_exchanged run = false≢true (follows_may 9 run.workers.0.follows)
 
 -- the third transaction is left out
 transaction_missing : IsRun declined.setting (in_log 1 (λ l. with_reads (item 0 0 5 ∷ item 0 0 5 ∷ [])
-    (with_events (tried 1 1 (Some 0) 1 0 (Declined 1) ∷ tried 2 1 (Some 0) 1 0 (Declined 1) ∷ []) l)) declined.report) → ⊥
+    (with_events (tried 1 1 (Some 0) 1 0 (Declined 1) ∷ tried 2 1 (Some 0) 1 0 (Declined 1) ∷ []) l))
+    declined.report) → ⊥
 transaction_missing run = false≢true (follows_may 9 run.workers.0.follows)
 
 -- there are two tries, and a third
@@ -41,15 +42,16 @@ try_after_read run = false≢true (follows_may 9 run.workers.0.follows)
 
 -- an attempt after the stop
 attempt_after_cut : IsRun holder.setting (in_log 1 (λ l. with_locks (lock 0 0 0 0 ∷ lock 0 0 0 0 ∷ [])
-    (with_events (tried 1 1 (Some 0) 0 1 Cut ∷ tried 1 2 (Some 0) 0 1 Cut ∷ []) l)) (holder.report (Locked (lock 0 0 0 0))))
+    (with_events (tried 1 1 (Some 0) 0 1 Cut ∷ tried 1 2 (Some 0) 0 1 Cut ∷ []) l))
+    (holder.report (Locked (lock 0 0 0 0))))
     → ⊥
 attempt_after_cut run = false≢true (follows_may 9 run.workers.0.follows)
 
 -- ---- tidying
 
 -- a key is tidied though tidying is off
-tidied_while_off : IsRun transfer.setting (in_log 1 (with_events (tried 1 1 (Some 0) 3 2 (Commit 1) ∷ moved 0 0 0 0 0 ∷ []))
-    transfer.report) → ⊥
+tidied_while_off : IsRun transfer.setting (in_log 1 (with_events (tried 1 1 (Some 0) 3 2 (Commit 1)
+    ∷ moved 0 0 0 0 0 ∷ [])) transfer.report) → ⊥
 tidied_while_off run = false≢true (follows_may 9 run.workers.0.follows)
 
 -- the second key is tidied before the first

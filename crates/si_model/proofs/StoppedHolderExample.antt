@@ -37,7 +37,8 @@ told met = tells_in_report setting (report met)
 abbrev view : View
 view = by_history (rows_of setting.rows) 2 0 []
 
-run_of : (met : Outcome) → IsWorkerRun setting view (told met) 2 (slice_index_or (told met) 1 []) → IsRun setting (report met)
+run_of : (met : Outcome) → IsWorkerRun setting view (told met) 2 (slice_index_or (told met) 1 [])
+    → IsRun setting (report met)
 run_of met second = record {
   one_log_each = refl;
   legal = tt;

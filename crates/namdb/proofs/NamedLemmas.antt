@@ -27,7 +27,7 @@ use Rattle.nam_script.specs.declared.script.ScriptTxn.{ScriptTxn}
 use Rattle.nam_script.specs.ScriptSetting.{setting_of}
 use Rattle.si_model.specs.Rows.{has_key}
 use Rattle.si_model.specs.Evaluation.{op_key}
-use Rattle.namdb.specs.NamedRows.{txns_name, named_keys}
+use Rattle.namdb.specs.NamedRows.{named_keys}
 use Rattle.namdb.specs.Few.{found_most, reads_most, ops_count, HasFew}
 use Rattle.namdb.specs.Serial.{ops_of}
 use Rattle.namdb.proofs.EvaluateLemmas.{AreAmong, has_key-append, has_left, has_right, has_first}
@@ -240,18 +240,6 @@ rows_named-loaded (r ∷ rs) key some =
 -- no others hold loaded rows
 pub loaded_among : (s : Setting) → AreAmong (named_keys s) (rows_of s.rows)
 loaded_among s key some = has_left (map row_key s.rows) (job_keys s.jobs) key (rows_named-loaded s.rows key some)
-
-txns_jobs : (txns : List ScriptTxn) (key : Key) → txns_name txns key ≡ has_key (job_keys (map (λ x. x.ops) txns)) key
-txns_jobs [] key = refl
-txns_jobs (x ∷ xs) key = ap (λ b. has_key (map op_key x.ops) key || b) (txns_jobs xs key)
-    ∙ sym (has_key-append (map op_key x.ops) (job_keys (map (λ y. y.ops) xs)) key)
-
-pub script_named : (script : Script) (key : Key)
-    → (has_key (map row_key script.rows) key || txns_name script.txns key)
-    ≡ has_key (named_keys (setting_of script)) key
-script_named script key =
-    ap (λ b. has_key (map row_key script.rows) key || b) (txns_jobs script.txns key)
-    ∙ sym (has_key-append (map row_key script.rows) (job_keys (map (λ x. x.ops) script.txns)) key)
 
 length-job_keys : (txns : List ScriptTxn) → length (job_keys (map (λ x. x.ops) txns)) ≡ ops_count txns
 length-job_keys [] = refl

@@ -38,7 +38,6 @@ use Rattle.namdb.proofs.SerialFitsLemmas.{wide-state}
 use Rattle.si_model.specs.Rows.{has_key}
 use Rattle.namdb.specs.NamedRows.{named_keys}
 use Rattle.namdb.specs.Few.{reads_most}
-use Rattle.namdb.proofs.EvaluateLemmas.{contains_key}
 use Rattle.namdb.proofs.NamedLemmas.{NameAmong, reads_few, own_named}
 
 -- equal evaluations and outcomes give the same
@@ -151,12 +150,6 @@ own_here j owner x e = rw (eq-eqb owner j e) refl
 
 pub own_elsewhere : (j owner x : ℕ) → (owner ≡ j → ⊥) → own_txn j owner x ≡ []
 own_elsewhere j owner x e = rw (ne_eqb owner j e) refl
-
--- no other keys hold rows than those of the plan
-pub plan_among : (s : Setting) (plan : Plan) (store : Store) → IsPlan s plan → IsStore s store → (key : Key)
-    → is_some (rows_held store.rows key) ≡ true → has_key plan.keys.keys key ≡ true
-plan_among s plan store planned is key some =
-    sym (contains_key plan.keys.keys key) ∙ planned.keys key ∙ is.named key (sym (ap is_some (is.rows key)) ∙ some)
 
 module _ (s : Setting) (plan : Plan) (store : Store) (planned : IsPlan s plan) (is : IsStore s store) (j x : ℕ)
     (ops : List Op) (own : ops ≡ ops_of s x) where

@@ -13,8 +13,6 @@ use Rattle.si_model.specs.State.{state_at}
 use Rattle.si_model.specs.History.{count_of, entries_at, newest_writer, stamp_at}
 use Rattle.si_model.specs.Setting.{Setting}
 use Rattle.std.specs.List.{AllByRecursion}
-use Rattle.std.specs.BTreeSet.{contains}
-use Rattle.si_model.specs.Held.{key_cmp}
 use Rattle.nam_report.specs.Fits.{EntryFits}
 use Rattle.namdb.specs.declared.attempt.Plan.{Plan}
 use Rattle.namdb.specs.declared.store.Store.{Store}
@@ -34,12 +32,11 @@ pub record IsStore (s : Setting) (store : Store) : Type 0 where
   pub named : (key : Key) → is_some (state_at (rows_of s.rows) store.history key) ≡ true
       → has_key (named_keys s) key ≡ true
 
--- the plan is that of the setting, and has the keys that its rows and operations name
+-- the plan is that of the setting
 pub record IsPlan (s : Setting) (plan : Plan) : Type 0 where
   pub workers : plan.workers ≡ s.workers
   pub greatest : plan.greatest ≡ s.greatest
   pub widths : plan.widths.items ≡ s.widths
-  pub keys : (key : Key) → contains key_cmp plan.keys key ≡ has_key (named_keys s) key
 
 -- An attempt of worker j at transaction x, with the evaluation e, ended by o on the snapshot seen: its event is listed,
 -- and where it committed its entry is appended and published, its write set put over the rows, and its stamp noted.

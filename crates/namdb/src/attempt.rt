@@ -1,12 +1,10 @@
 //! One attempt of the serial run.
 
-ghost use Rattle.std.specs.Prelude.{◌≡◌, ◌+◌, ◌-◌, ◌^◌, ◌<◌, ◌≤◌, [], ◌∷◌, true, is_some, length};
+ghost use Rattle.std.specs.Prelude.{◌≡◌, ◌+◌, ◌-◌, ◌^◌, ◌<◌, ◌≤◌, [], ◌∷◌, length};
 ghost use Rattle.std.specs.Prelude.{slice_index, OnOk};
 ghost use Rattle.std.specs.List.{AllByRecursion};
 ghost use Rattle.si_model.specs.Committed.{rows_held};
-ghost use Rattle.si_model.specs.declared.row.Key.{Key};
 ghost use Rattle.si_model.specs.Evaluation.{evaluation_of, reads_of, OpFits, AreWide};
-ghost use Rattle.si_model.specs.Rows.{has_key};
 ghost use Rattle.namdb.specs.Serial.{outcome_of, attempt_with, log_with};
 ghost use Rattle.namdb.specs.Store.{Attempts, AttemptsBy};
 
@@ -16,7 +14,6 @@ use lists::List;
 use nam_vector::take_snapshot;
 use si_model::{Attempt, Evaluated, Event, Items, Key, Lock, Log, Op, Outcome, Snapshot};
 use std::alloc::{AllocError, Global};
-use std::collections::BTreeSet;
 
 /// Whose attempt it is, at which transaction, and on how many entries of the history.
 #[derive(Clone, Copy)]
@@ -123,8 +120,6 @@ pub struct Plan {
     pub workers: u32,
     pub greatest: u64,
     pub widths: Vec<u32>,
-    /// The keys that the script names.
-    pub keys: BTreeSet<Key>,
 }
 
 /// A worker's one attempt at a transaction: a snapshot, the evaluation on the committed rows, and the commit.
@@ -142,8 +137,6 @@ pub fn attempt(
     requires number { slice_index store.old.vector (worker - 1) ≤ plan.now.greatest }
     requires fit { AllByRecursion (OpFits plan.now.widths.items) ops.now }
     requires wide { AreWide plan.now.widths.items (rows_held store.old.rows) }
-    requires keys { (key : Key) →
-        is_some (rows_held store.old.rows key) ≡ true → has_key plan.now.keys.keys key ≡ true }
     requires short { length ops.now < 2 ^ 32 }
     requires few { length (reads_of (evaluation_of plan.now.widths.items (rows_held store.old.rows) ops.now)) < 2 ^ 32 }
     ensures { OnOk result (AttemptsBy plan.now worker txn ops.now store.old store.new log.old log.new) }
@@ -156,7 +149,7 @@ pub fn attempt(
         last: *seen.at(worker as usize - 1),
         greatest: plan.greatest,
     };
-    match evaluate(alloc, plan.widths.as_slice(), &plan.keys, &store.rows, ops)? {
+    match evaluate(alloc, plan.widths.as_slice(), &store.rows, ops)? {
         Evaluated::Declined { op, reads } => {
             let none = List::new(alloc);
             let nothing = List::new(alloc);

@@ -13,7 +13,6 @@ ghost use Rattle.std.specs.declared.io.ErrorKind.TheVariants.{OutOfMemory};
 
 mod attempt;
 mod evaluate;
-mod keys;
 mod serial;
 mod stamps;
 mod status;

@@ -18,7 +18,6 @@ ghost use Rattle.namdb.specs.Serial.{own_txn, tells_after, history_after, log_of
 ghost use Rattle.namdb.specs.Serial.{audit_of};
 
 use crate::attempt::{Plan, attempt};
-use crate::keys::names_of;
 use crate::store::Store;
 use lists::List;
 use nam_catalog::{Table, greatest};
@@ -39,12 +38,10 @@ fn plan_of(alloc: Global, script: &Script) -> Result<Plan, AllocError>
     ensures { IfOk result (λ plan. IsPlan (setting_of script.now) plan) }
 {
     let widths = widths_of(alloc, script.shape.tables.as_slice())?;
-    let keys = names_of(alloc, script.rows.as_slice(), script.txns.as_slice())?;
     Ok(Plan {
         workers: script.shape.workers,
         greatest: greatest(script.shape.form),
         widths,
-        keys,
     })
 }
 

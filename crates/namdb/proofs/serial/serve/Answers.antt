@@ -15,7 +15,7 @@ use Rattle.namdb.proofs.StoreLemmas.{store_after}
 use Rattle.namdb.proofs.SerialFitsLemmas.{fit-jobs}
 use Rattle.namdb.specs.Few.{reads_most, ops_count}
 use Rattle.namdb.proofs.NamedLemmas.{length-named_keys}
-use Rattle.namdb.proofs.ServeLemmas.{plan_among, plan_reads, plan_evaluated, plan_outcome, log_after, vector_length}
+use Rattle.namdb.proofs.ServeLemmas.{plan_reads, plan_evaluated, plan_outcome, log_after, vector_length}
 use Rattle.namdb.proofs.ServeLemmas.{last_held, held_wide, same_both, all_index, index_map, index_or_map, own_here}
 use Rattle.namdb.proofs.serial.serve.Goals as goal
 
@@ -44,10 +44,6 @@ attempt-requires-clause-wide c =
     subst (λ ws. AreWide ws (rows_held c.args.store.now.rows)) (sym c.requires.plan.widths)
     (held_wide s c.args.store.now c.requires.store c.requires.in_range.rows
     (fit-jobs s.workers s.widths c.args.script.now.txns c.requires.in_range.txns))
-
-pub attempt-requires-clause-keys : goal.attempt-requires-clause-keys
-attempt-requires-clause-keys c =
-    plan_among (setting_of c.args.script.now) c.args.plan.now c.args.store.now c.requires.plan c.requires.store
 
 -- the transaction's operations and its worker, by its number
 own_ops : (script : Script) (place : ℕ) (txn : ScriptTxn) → place < length script.txns

@@ -38,7 +38,6 @@ use Rattle.nam_protocol.proofs.GoesClient.{on_answer_goes, step_lists, step_open
 use Rattle.nam_protocol.proofs.HoldsTxn.{txn_ask_holds, txn_holds}
 use Rattle.nam_protocol.specs.declared.client.Answer.TheVariants as client_answer
 use Rattle.nam_protocol.specs.declared.client.Call.TheVariants as call
-use Rattle.nam_protocol.specs.declared.txn.TxnCall.TheVariants as txn_call
 
 module _ (shape : Shape) where
   abbrev Holds : ClientState → Type 0

@@ -26,7 +26,7 @@ use Rattle.nam_protocol.specs.declared.txn.TxnAnswer.{TxnAnswer}
 use Rattle.nam_protocol.specs.declared.txn.TxnPlace.{TxnPlace}
 use Rattle.nam_protocol.specs.declared.txn.TxnPlace.TheVariants.{Finding, Reading, Claiming, Committing}
 use Rattle.nam_protocol.specs.declared.txn.TxnState.{TxnState}
-use Rattle.nam_protocol.specs.Client.{abandon_open, client_abandon, client_after, client_ask}
+use Rattle.nam_protocol.specs.Client.{client_abandon, client_after, client_ask}
 use Rattle.nam_protocol.specs.ClientFits.{ClientFits}
 use Rattle.nam_protocol.specs.Commit.{ask_commit, commit_after, on_install, on_lock, places, record_place, value_at}
 use Rattle.nam_protocol.specs.CutClient.{client_cut}

@@ -21,7 +21,13 @@ report = record {
   history = entry 2 1 0 3 (item 0 1 9 ∷ []) ∷ entry 1 1 1 1 (item 0 0 7 ∷ []) ∷ entry 1 2 2 2 (item 0 0 8 ∷ []) ∷ [];
   logs =
       log
-      (tried 1 1 (Some 1) 0 1 (Commit 1) ∷ NoRoom 0 ∷ collected 0 2 (1 ∷ 1 ∷ []) ∷ tried 2 1 (Some 2) 0 1 (Commit 2) ∷ [])
+      (
+      tried 1 1 (Some 1) 0 1 (Commit 1)
+      ∷ NoRoom 0
+      ∷ collected 0 2 (1 ∷ 1 ∷ [])
+      ∷ tried 2 1 (Some 2) 0 1 (Commit 2)
+      ∷ []
+      )
       [] (lock 0 0 0 0 ∷ lock 0 0 1 1 ∷ [])
       ∷ log (tried 3 1 (Some 0) 0 1 (Commit 1) ∷ moved 0 0 1 0 0 ∷ tried 4 1 (Some 1) 0 0 (TooOld 1 0 1) ∷ []) []
       (lock 0 1 0 0 ∷ [])

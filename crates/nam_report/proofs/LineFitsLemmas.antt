@@ -1,5 +1,5 @@
 -- Each line of a report that fits its script, and whose numbers fit, fits its spelling.
-use Rattle.std.proofs.Common.{◌≡◌, ℕ, ◌^◌, ◌<◌, List, [], ◌∷◌, length, Option, Some, None, arith}
+use Rattle.std.proofs.Common.{ℕ, List, [], ◌∷◌, Option, Some, None, arith}
 use Rattle.std.specs.List.{AllByRecursion}
 use Rattle.std.specs.Prelude.{IfSome}
 use Rattle.si_model.specs.declared.row.Item.{Item}
@@ -18,7 +18,7 @@ use Rattle.nam_text.specs.Spelling.{FitsIfSome}
 use Rattle.nam_report.specs.Fits.{HasWidth, ItemFits, LockFits, OutcomeFits, EventFits, AuditRowFits}
 use Rattle.nam_report.specs.Numbers.{IsU32, IsU64, WordsFit, ItemNumbersFit, LockNumbersFit, OutcomeNumbersFit}
 use Rattle.nam_report.specs.Numbers.{EventNumbersFit, EntryNumbersFit, RowNumbersFit}
-use Rattle.nam_report.specs.Spelling.{u32, u64, value, lock, spelt_outcome, spelt_event, item_kind, lock_kind, entry_kind}
+use Rattle.nam_report.specs.Spelling.{u32, u64, value, lock, spelt_outcome, spelt_event, item_kind, entry_kind}
 use Rattle.nam_report.specs.Spelling.{worker_kind, audit_row_kind}
 use Rattle.nam_report.proofs.NamedLemmas.{AreNamed}
 

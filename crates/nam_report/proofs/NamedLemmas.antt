@@ -1,12 +1,12 @@
 -- What the lines of a report take from its script: each table has a name of its own, and a width from 1 to 8.
-use Rattle.std.proofs.Common.{◌≡◌, ℕ, zero, suc, ◌<◌, ◌≤◌, true, List, [], ◌∷◌, length, map, Some, arith, refl, subst, sym}
+use Rattle.std.proofs.Common.{◌≡◌, ℕ, zero, suc, ◌<◌, ◌≤◌, true, List, [], ◌∷◌, length, arith}
 use Rattle.std.specs.Prelude.{slice_index}
 use Rattle.std.specs.List.{AllByRecursion}
 use Rattle.std.proofs.lemmas.List.{length-map}
 use Rattle.std.proofs.lemmas.List.Elements.{recursion_from_All}
 use Rattle.nam_catalog.specs.declared.shape.Table.{Table}
-use Rattle.nam_catalog.specs.Fits.{FitsTable, FitsLimits}
-use Rattle.nam_catalog.specs.Tables.{name_of, first_named, widths_of}
+use Rattle.nam_catalog.specs.Fits.{FitsTable}
+use Rattle.nam_catalog.specs.Tables.{name_of, widths_of}
 use Rattle.nam_catalog.proofs.FitsLemmas.{fits_limits}
 use Rattle.nam_text.specs.Token.{is_name}
 use Rattle.nam_script.specs.declared.script.Script.{Script}

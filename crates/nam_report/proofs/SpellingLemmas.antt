@@ -1,12 +1,12 @@
 -- Each kind of line of a report keeps both laws: what is written is read, and only what is written is read.
-use Rattle.std.proofs.Common.{◌≡◌, ℕ, suc, ◌+◌, ◌^◌, Bool, cond, true, false, List, [], ◌∷◌, ◌++◌, map, Option, Some}
+use Rattle.std.proofs.Common.{◌≡◌, ℕ, suc, ◌+◌, ◌^◌, Bool, cond, true, false, List, [], ◌∷◌, ◌++◌, Option, Some}
 use Rattle.std.proofs.Common.{None, refl, sym, ap, ◌∙◌, subst, inl, inr, arith, add-zero}
 use Rattle.std.specs.Prelude.{codes, bytes_eq, length, ◌==◌, nat_le}
 use Rattle.std.specs.List.{AllByRecursion, position_from}
 use Rattle.si_model.specs.declared.log.Event.{Event}
 use Rattle.si_model.specs.declared.log.Event.TheVariants.{Tried, NoRoom, Moved, Collected, CollectAgain, CollectCut}
 use Rattle.si_model.specs.declared.log.Event.TheVariants.{TidyCut, TailCut, Finished}
-use Rattle.std.proofs.lemmas.Option.{cond_some, same_Some}
+use Rattle.std.proofs.lemmas.Option.{same_Some}
 use Rattle.std.proofs.lemmas.Slice.Eq.{bytes_eq-Decides}
 use Rattle.si_model.specs.declared.log.Outcome.{Outcome}
 use Rattle.si_model.specs.declared.log.Outcome.TheVariants.{Commit, ReadOnly, Declined, NoSpace, Spent, Again, Locked}
@@ -33,7 +33,7 @@ use Rattle.nam_report.specs.Spelling.{too_old_kind, full_kind, cut_kind, left_ki
 use Rattle.nam_report.specs.Spelling.{outcome, attempt_kind, no_room_kind, move_kind, Collect, collect_done_kind}
 use Rattle.nam_report.specs.Spelling.{collect_again_kind, collect_cut_kind, spelt_collect, collect_of, collect_in}
 use Rattle.nam_report.specs.Spelling.{collect_kind, tidy_cut_kind, tail_cut_kind, medic_kind, spelt_event, event_of}
-use Rattle.nam_report.specs.Spelling.{item_kind, lock_kind, history_kind, entry_kind, worker_kind, audit_kind}
+use Rattle.nam_report.specs.Spelling.{item_kind, entry_kind, worker_kind}
 use Rattle.nam_report.specs.Spelling.{audit_row_kind}
 
 -- ---- parts of lines

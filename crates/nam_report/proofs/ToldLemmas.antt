@@ -1,13 +1,12 @@
 -- What the text of a report tells is what it shows of the report.
-use Rattle.std.proofs.Common.{◌≡◌, ℕ, zero, suc, ◌+◌, ◌^◌, ◌<◌, ◌≤◌, List, [], ◌∷◌, ◌++◌, length, map, take, drop, Option, Some}
-use Rattle.std.proofs.Common.{refl, sym, ap, ◌∙◌, subst, arith, append_assoc, append-nil, lit<}
+use Rattle.std.proofs.Common.{◌≡◌, ℕ, zero, suc, ◌+◌, ◌^◌, ◌<◌, List, [], ◌∷◌, ◌++◌, length, map, take, drop, Some}
+use Rattle.std.proofs.Common.{refl, sym, ap, ◌∙◌, arith, append_assoc, append-nil}
 use Rattle.std.specs.Prelude.{codes}
 use Rattle.std.specs.List.{AllByRecursion}
 use Rattle.std.specs.Fmt.{decimal}
 use Rattle.std.proofs.lemmas.List.{length-take-le, take-append-drop, length-drop, nil_from_length}
 use Rattle.si_model.specs.declared.row.Item.{Item}
 use Rattle.si_model.specs.declared.log.Lock.{Lock}
-use Rattle.si_model.specs.declared.log.Attempt.{Attempt}
 use Rattle.si_model.specs.declared.log.Event.{Event}
 use Rattle.si_model.specs.declared.log.Event.TheVariants.{Tried, NoRoom, Moved, Collected, CollectAgain, CollectCut}
 use Rattle.si_model.specs.declared.log.Event.TheVariants.{TidyCut, TailCut, Finished}
@@ -19,21 +18,21 @@ use Rattle.si_model.specs.Tells.{reads_in, locks_in, total}
 use Rattle.nam_catalog.specs.declared.shape.Table.{Table}
 use Rattle.nam_catalog.specs.Tables.{widths_of}
 use Rattle.nam_text.specs.Spelling.{IsPlain, IsSpelling}
-use Rattle.nam_text.specs.Kinds.{LineKind, fields, line_at, behind_spaces}
+use Rattle.nam_text.specs.Kinds.{LineKind, fields, line_at}
 use Rattle.nam_text.proofs.Again.{decimal_plain}
 use Rattle.nam_report.specs.Spelling.{event_of, spelt_event, item_kind, lock_kind, entry_kind, audit_row_kind, worker_kind}
-use Rattle.nam_report.specs.Text.{items_text, locks_text, item_line, lock_line, event_text, event_line, events_text}
-use Rattle.nam_report.specs.Text.{log_text, logs_text, entries_text, entry_text, audit_rows_text, audit_line, report_text}
-use Rattle.nam_report.specs.Text.{history_text, audit_text, commit_line}
-use Rattle.nam_report.specs.Fits.{ItemFits, LockFits, EventFits, ItemsFit, LogFits, EntryFits, AuditRowFits}
+use Rattle.nam_report.specs.Text.{items_text, locks_text, event_text, event_line, events_text}
+use Rattle.nam_report.specs.Text.{log_text, logs_text, entries_text, entry_text, audit_rows_text, report_text}
+use Rattle.nam_report.specs.Text.{history_text, audit_text}
+use Rattle.nam_report.specs.Fits.{ItemFits, LockFits, EventFits, LogFits, EntryFits, AuditRowFits}
 use Rattle.nam_report.specs.Numbers.{IsU64, ItemNumbersFit, LockNumbersFit, EventNumbersFit, LogNumbersFit}
 use Rattle.nam_report.specs.Numbers.{EntryNumbersFit, RowNumbersFit, NumbersFit}
-use Rattle.nam_report.specs.Shown.{shown_event, shown_log, shown_of}
+use Rattle.nam_report.specs.Shown.{shown_event, shown_log}
 use Rattle.nam_report.proofs.SpellingLemmas.{item_is, lock_is, entry_is, worker_is, audit_row_is, bare, event_again}
 use Rattle.nam_report.proofs.SpellingLemmas.{event_plain}
 use Rattle.nam_report.proofs.NamedLemmas.{AreNamed}
 use Rattle.nam_report.proofs.LineFitsLemmas.{fits_item, fits_lock, fits_event, fits_row, fits_entry, fits_worker}
-use Rattle.nam_report.proofs.Reader.{Told, nothing_told, with_read, with_lock, with_write, with_row, counted, with_event}
+use Rattle.nam_report.proofs.Reader.{Told, with_read, with_lock, with_write, with_row, counted, with_event}
 use Rattle.nam_report.proofs.Reader.{with_entry, with_worker, with_some, with_each, with_fields, told, line_of, line_told}
 
 -- ---- lists

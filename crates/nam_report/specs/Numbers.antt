@@ -1,5 +1,5 @@
 -- The ranges of a report's numbers: each fits the type of the field that holds it.
-use Rattle.std.specs.Prelude.{ℕ, ◌^◌, ◌<◌, List, length, Option, Some, None, IfSome}
+use Rattle.std.specs.Prelude.{ℕ, ◌^◌, ◌<◌, List, length, IfSome}
 use Rattle.std.specs.List.{AllByRecursion}
 use Rattle.si_model.specs.declared.row.Item.{Item}
 use Rattle.si_model.specs.declared.log.Lock.{Lock}

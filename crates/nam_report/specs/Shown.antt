@@ -1,6 +1,5 @@
 -- What the text of a report shows of it.
 use Rattle.std.specs.Prelude.{◌≡◌, [], map}
-use Rattle.si_model.specs.declared.log.Attempt.{Attempt}
 use Rattle.si_model.specs.declared.log.Event.{Event}
 use Rattle.si_model.specs.declared.log.Event.TheVariants.{Tried}
 use Rattle.si_model.specs.declared.log.Log.{Log}

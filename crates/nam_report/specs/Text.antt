@@ -1,5 +1,5 @@
 -- The one text of a report.
-use Rattle.std.specs.Prelude.{ℕ, ◌+◌, List, [], ◌∷◌, ◌++◌, codes, Bool, true, false, Option, Some, None, length, take}
+use Rattle.std.specs.Prelude.{ℕ, ◌+◌, List, [], ◌∷◌, ◌++◌, codes, Bool, length, take}
 use Rattle.std.specs.Prelude.{drop}
 use Rattle.std.specs.Fmt.{decimal}
 use Rattle.si_model.specs.declared.row.Item.{Item}
@@ -9,8 +9,6 @@ use Rattle.si_model.specs.declared.log.Attempt.{Attempt}
 use Rattle.si_model.specs.declared.log.Outcome.{Outcome}
 use Rattle.si_model.specs.declared.log.MoveEnd.{MoveEnd}
 use Rattle.si_model.specs.declared.log.Event.{Event}
-use Rattle.si_model.specs.declared.log.Event.TheVariants.{Tried, NoRoom, Moved, Collected, CollectAgain, CollectCut}
-use Rattle.si_model.specs.declared.log.Event.TheVariants.{TidyCut, TailCut, Finished}
 use Rattle.si_model.specs.declared.log.Log.{Log}
 use Rattle.si_model.specs.declared.report.CommitLine.{CommitLine}
 use Rattle.si_model.specs.declared.report.AuditRow.{AuditRow}

@@ -12,9 +12,11 @@ use si_model::{
     Attempt, AuditRow, CommitLine, Event, Item, Lock, Log, Outcome, Report, Stamp, Value,
 };
 
-fn word_fits(_word: u64)
-    ensures { IsU64 _word }
-{}
+fn word_fits(word: u64)
+    ensures { IsU64 word }
+{
+    let _word = word;
+}
 
 fn words_fit(words: &[u64])
     ensures { WordsFit words.now }

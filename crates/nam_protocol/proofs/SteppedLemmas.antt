@@ -22,8 +22,8 @@ use Rattle.nam_protocol.specs.TxnCalls.{taken_at, taken_now}
 use Rattle.nam_protocol.proofs.GoesClient.{step_opens}
 use Rattle.nam_protocol.specs.declared.client.Answer.TheVariants as client_answer
 
--- 1. A view that looks at the call and the transaction's state alone: of a place it says this, of an answered client
--- that
+-- 1. A view that looks at the call and the transaction's state alone: what it says of each place, and of an answered
+-- client
 
 module _ {A : Type 0} (view : Option (Now CallPlace Answer) → Option Open → A) (of_place : TxnState → TxnPlace → A)
     (at_rest : A) where
@@ -71,7 +71,8 @@ module _ (client : ClientState) (attempt : Open) where
 
 -- 3. A client at rest, and after it has given its transaction up
 
-module _ (View : Option (Now CallPlace Answer) → Option Open → Type 0) (none : (opened : Option Open) → View None opened)
+module _ (View : Option (Now CallPlace Answer) → Option Open → Type 0)
+    (none : (opened : Option Open) → View None opened)
     (over : (answer : Answer) (opened : Option Open) → View (Some (Over answer)) opened) where
   pub rested_view : (call : Option (Now CallPlace Answer)) (opened : Option Open) → Rests call → View call opened
   rested_view None opened rests = none opened

@@ -60,7 +60,7 @@ use Rattle.nam_protocol.specs.Left.{open_left, call_left, left_of, client_left}
 use Rattle.nam_protocol.specs.Bound.{txn_left, scan_bound}
 use Rattle.nam_protocol.specs.TxnFits.{Begins, StateFits, TxnPlaceFits, TxnFalls, TxnCallFits, ScanFits}
 use Rattle.nam_protocol.specs.TxnFits.{txn_call_bound}
-use Rattle.nam_protocol.specs.ClientFits.{OpenFits, OpenPlaceFits, CallPlaceFits, NowFits, ClientFits, CallFits}
+use Rattle.nam_protocol.specs.ClientFits.{OpenFits, OpenPlaceFits, CallPlaceFits, NowFits, ClientFits, CallStands}
 use Rattle.nam_protocol.specs.ClientFits.{call_bound, open_bound}
 use Rattle.nam_protocol.proofs.FallsTxn.{txn_falls}
 use Rattle.nam_protocol.proofs.FallsBegins.{txn_begins}
@@ -381,7 +381,7 @@ module _ (shape : Shape) (limits : FitsLimits shape) where
       let b = scan_begins shape limits table is in (w, f, (refl, is, b.0), unless_cut client.cut _ _ b.1)
 
   -- the call needs an open transaction, and one is open
-  pub client_begins : (client : ClientState) (call : Call) → ClientFits shape client → CallFits shape client.txn call
+  pub client_begins : (client : ClientState) (call : Call) → ClientFits shape client → CallStands shape client.txn call
       → ClientFits shape (client_ask shape client call)
       × (client_left shape (client_ask shape client call) ≤ call_bound shape client call)
   client_begins client (Begin txn nth) fits c =

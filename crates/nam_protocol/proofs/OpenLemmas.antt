@@ -17,7 +17,8 @@ use Rattle.nam_protocol.specs.declared.txn.TxnPlace.{TxnPlace}
 use Rattle.nam_protocol.specs.Client.{after_call, ask_scan, ask_txn, call_after, client_abandon}
 use Rattle.nam_protocol.specs.Client.{client_after, client_ask, counted, take_scan, take_txn}
 use Rattle.nam_protocol.specs.CutClient.{client_cut}
-use Rattle.nam_protocol.specs.Own.{IsOpenAt, IsOpenFor, IsOpenNow, MayAsk, OpenClient, Rests}
+use Rattle.nam_protocol.specs.ClientFits.{CallFits}
+use Rattle.nam_protocol.specs.Own.{IsOpenAt, IsOpenNow, MayAsk, OpenClient, Rests}
 use Rattle.nam_protocol.specs.Telling.{go, stepped, new_client}
 use Rattle.nam_protocol.specs.Txn.{Stepped}
 use Rattle.nam_protocol.proofs.GoesClient.{begin_goes, seek_goes, move_goes, snap_goes, collect_goes, scan_goes}
@@ -83,17 +84,17 @@ module _ (shape : Shape) where
   ask_scan_open client table low high None some = absurd (cc)
   ask_scan_open client table low high (Some attempt) some = refl
 
-  ask_open : (client : ClientState) (asked : Call) → IsOpenFor client.txn asked
+  ask_open : (client : ClientState) (asked : Call) → CallFits shape client.txn asked
       → OpenClient (client_ask shape client asked)
-  ask_open client (call.Begin txn nth) is = is
-  ask_open client (call.Txn asked) is = ask_txn_open client asked client.txn is
-  ask_open client (call.Scan table low high) is = ask_scan_open client table low high client.txn is
-  ask_open client (call.Tidy table key) is = is
-  ask_open client (call.Collect bucket) is = is
+  ask_open client (call.Begin txn nth) fits = fits
+  ask_open client (call.Txn asked) fits = ask_txn_open client asked client.txn fits.0
+  ask_open client (call.Scan table low high) fits = ask_scan_open client table low high client.txn fits.0
+  ask_open client (call.Tidy table key) fits = fits.0
+  ask_open client (call.Collect bucket) fits = fits.0
 
   pub open_asked : (client : ClientState) (asked : Call) → MayAsk shape client asked
       → OpenClient (client_ask shape client asked)
-  open_asked client asked may = ask_open client asked may.opens
+  open_asked client asked may = ask_open client asked may.fits
 
 -- 3. The transaction is given up, and the client stopped
 

@@ -5,6 +5,7 @@ use Rattle.si_model.proofs.ListLemmas.{listed_append_left, listed_append_right}
 use Rattle.nam_verbs.specs.declared.now.Now.{Now}
 use Rattle.nam_verbs.specs.declared.now.Now.TheVariants.{At}
 use Rattle.nam_catalog.specs.declared.shape.Shape.{Shape}
+use Rattle.nam_catalog.specs.Fits.{FitsLimits}
 use Rattle.nam_vector.specs.declared.snap.SnapEnd.{SnapEnd}
 use Rattle.nam_vector.specs.declared.snap.SnapPlace.{SnapPlace}
 use Rattle.nam_protocol.specs.declared.client.Call.{Call}
@@ -17,20 +18,25 @@ use Rattle.nam_protocol.specs.declared.txn.TxnAnswer.{TxnAnswer}
 use Rattle.nam_protocol.specs.declared.txn.TxnPlace.{TxnPlace}
 use Rattle.nam_protocol.specs.declared.txn.TxnState.{TxnState}
 use Rattle.nam_protocol.specs.Client.{abandon_open, client_abandon, client_after, client_ask, on_begin, on_snap}
+use Rattle.nam_protocol.specs.ClientFits.{CallFits, CallStands, NowFits}
 use Rattle.nam_protocol.specs.ClientFits.{ClientFits}
 use Rattle.nam_protocol.specs.Commit.{ask_commit, commit_after}
 use Rattle.nam_protocol.specs.CutClient.{client_cut}
 use Rattle.nam_protocol.specs.Own.{MayAsk, OwnOk, OwnOpen, OwnsOpen}
+use Rattle.nam_protocol.specs.Own.{Rests}
 use Rattle.nam_protocol.specs.Plain.{KeepsOpen, Plain, SameBegin}
 use Rattle.nam_protocol.specs.Sorts.{AskOf, StepOf, committing_at, AsksPlain, AsksBegin, AsksCollect, AsksCommit, Finds}
 use Rattle.nam_protocol.specs.Sorts.{Reads, Moves, Collects, Begins, Snaps, Commits}
 use Rattle.nam_protocol.specs.Telling.{go, answered, stepped, on_answer, items_of, with_read, new_client}
 use Rattle.nam_protocol.specs.Txn.{Stepped}
+use Rattle.nam_protocol.proofs.FallsClient.{client_begins}
 use Rattle.nam_protocol.proofs.GoesClient.{begin_goes, snap_goes, on_answer_goes, step_lists, step_opens, stepped_goes}
 use Rattle.nam_protocol.proofs.GoesCommit.{ask_commit_goes, commit_goes}
 use Rattle.nam_protocol.proofs.PlainLemmas.{same_begin}
 use Rattle.nam_protocol.proofs.SortsLemmas.{ask_sort, word_sort}
+use Rattle.nam_protocol.proofs.SteppedLemmas.{rested_view}
 use Rattle.nam_protocol.specs.declared.client.Answer.TheVariants as client_answer
+use Rattle.nam_protocol.specs.declared.client.Call.TheVariants as call
 
 -- 1. Plain steps
 
@@ -197,3 +203,31 @@ module _ (shape : Shape) (worker : ℕ) where
 
   pub own_new : Own (new_client worker shape.start)
   own_new = record { worker_is = refl; start_is = refl; opened = tt }
+
+-- 5. It fits
+
+module _ (shape : Shape) where
+  stands : (opened : Option Open) (asked : Call) → CallFits shape opened asked → CallStands shape opened asked
+  stands opened (call.Begin txn nth) fits = tt
+  stands opened (call.Txn asked) fits = fits
+  stands opened (call.Scan table low high) fits = fits
+  stands opened (call.Tidy table key) fits = fits.1
+  stands opened (call.Collect bucket) fits = fits.1
+
+  pub fits_asked : FitsLimits shape → (client : ClientState) (asked : Call) → MayAsk shape client asked
+      → ClientFits shape client → ClientFits shape (client_ask shape client asked)
+  fits_asked limits client asked may fits =
+      (client_begins shape limits client asked fits (stands client.txn asked may.fits)).0
+
+  pub fits_abandoned : (client : ClientState) → Rests client.call → ClientFits shape client
+      → ClientFits shape (client_abandon client)
+  fits_abandoned client rests fits = abandoned client.txn
+    where
+      abandoned : (opened : Option Open) → ClientFits shape (abandon_open client opened)
+      abandoned None = fits
+      abandoned (Some attempt) = (
+        fits.0,
+        tt,
+        rested_view (λ call opened. NowFits shape opened call) (λ opened. tt) (λ answer opened. tt) client.call None
+            rests,
+      )

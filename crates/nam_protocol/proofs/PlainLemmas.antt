@@ -167,21 +167,25 @@ module _ (shape : Shape) where
         → Plain client (call_after shape client (Seeking table key passed) found)
     seek_plain table key passed found =
         seek_goes (Plain client) shape client table key _ (λ next e. kept client _ refl refl refl refl refl refl tt)
-        (λ position e. kept client _ refl refl refl refl refl refl tt) (λ e. kept client _ refl refl refl refl refl refl tt)
+        (λ position e. kept client _ refl refl refl refl refl refl tt)
+        (λ e. kept client _ refl refl refl refl refl refl tt)
 
     pub move_plain : (table key position : ℕ) (at : MovePlace) (found : ℕ)
         → Plain client (call_after shape client (Moving table key position at) found)
     move_plain table key position at found =
         move_goes (Plain client) shape client table key position _ _
-        (λ next e. kept client _ refl refl refl refl refl refl tt) (λ stamp e. kept client _ refl refl refl refl refl refl tt)
-        (λ stamp e. kept client _ refl refl refl refl refl refl tt) (λ e. kept client _ refl refl refl refl refl refl tt)
+        (λ next e. kept client _ refl refl refl refl refl refl tt)
+        (λ stamp e. kept client _ refl refl refl refl refl refl tt)
+        (λ stamp e. kept client _ refl refl refl refl refl refl tt)
+        (λ e. kept client _ refl refl refl refl refl refl tt)
         (λ full e. kept client _ refl refl refl refl refl refl tt)
 
     pub collect_plain : (bucket prefix : ℕ) (seen : List ℕ) (at : CollectPlace) (found : ℕ)
         → Plain client (call_after shape client (Collecting bucket prefix seen at) found)
     collect_plain bucket prefix seen at found =
         collect_goes (Plain client) shape client bucket prefix seen _
-        (λ next e. kept client _ refl refl refl refl refl refl tt) (λ known e. kept client _ refl refl refl refl refl refl tt)
+        (λ next e. kept client _ refl refl refl refl refl refl tt)
+        (λ known e. kept client _ refl refl refl refl refl refl tt)
 
     pub tidy_plain : (table key : ℕ) → Plain client (go client (Seeking table key find_begin))
     tidy_plain table key = kept client _ refl refl refl refl refl refl tt

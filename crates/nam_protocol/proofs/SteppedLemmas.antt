@@ -22,8 +22,8 @@ use Rattle.nam_protocol.specs.TxnCalls.{taken_at, taken_now}
 use Rattle.nam_protocol.proofs.GoesClient.{step_opens}
 use Rattle.nam_protocol.specs.declared.client.Answer.TheVariants as client_answer
 
--- 1. A view that looks at the call and the transaction's state alone: of a place it says this, of an answered client
--- that
+-- 1. A view that looks at the call and the transaction's state alone: what it says of each place, and of an answered
+-- client
 
 module _ {A : Type 0} (view : Option (Now CallPlace Answer) → Option Open → A) (of_place : TxnState → TxnPlace → A)
     (at_rest : A) where
@@ -69,19 +69,21 @@ module _ (client : ClientState) (attempt : Open) where
       ≡ record client { txn = Some attempt; call = Some (At (InTxn place)) }
   quiet place = quiet_step (at attempt.state place) (taken_at attempt.state place) refl
 
--- 3. A client at rest has given its transaction up
+-- 3. A client at rest, and after it has given its transaction up
 
-pub abandoned_view : (View : Option (Now CallPlace Answer) → Option Open → Type 0)
-    → ((opened : Option Open) → View None opened) → ((answer : Answer) (opened : Option Open)
-    → View (Some (Over answer)) opened) → (client : ClientState) → Rests client.call
-    → let d = client_abandon client in View d.call d.txn
-abandoned_view View none over client rests = abandoned client.txn
-  where
-    rested : (call : Option (Now CallPlace Answer)) (opened : Option Open) → Rests call → View call opened
-    rested None opened is = none opened
-    rested (Some (Over answer)) opened is = over answer opened
-    rested (Some (At place)) opened is = absurd is
+module _ (View : Option (Now CallPlace Answer) → Option Open → Type 0)
+    (none : (opened : Option Open) → View None opened)
+    (over : (answer : Answer) (opened : Option Open) → View (Some (Over answer)) opened) where
+  pub rested_view : (call : Option (Now CallPlace Answer)) (opened : Option Open) → Rests call → View call opened
+  rested_view None opened rests = none opened
+  rested_view (Some (Over answer)) opened rests = over answer opened
+  rested_view (Some (At place)) opened rests = absurd rests
 
-    abandoned : (opened : Option Open) → let d = abandon_open client opened in View d.call d.txn
-    abandoned None = rested client.call client.txn rests
-    abandoned (Some attempt) = rested client.call None rests
+  abandoned_at : (client : ClientState) (opened : Option Open) → Rests client.call
+      → let d = abandon_open client opened in View d.call d.txn
+  abandoned_at client None rests = rested_view client.call client.txn rests
+  abandoned_at client (Some attempt) rests = rested_view client.call None rests
+
+  pub abandoned_view : (client : ClientState) → Rests client.call
+      → let d = client_abandon client in View d.call d.txn
+  abandoned_view client rests = abandoned_at client client.txn rests

@@ -1,5 +1,5 @@
 -- What holds of a client and of the places of its calls, and how many verbs a call takes.
-use Rattle.std.specs.Prelude.{◌≡◌, ℕ, ◌*◌, ◌<◌, length, Option, Some, None, IsSome}
+use Rattle.std.specs.Prelude.{◌≡◌, ℕ, ◌*◌, ◌<◌, length, Option, Some, None, IsNone, IsSome}
 use Rattle.nam_verbs.specs.declared.now.Now.{Now}
 use Rattle.nam_verbs.specs.declared.now.Now.TheVariants.{At}
 use Rattle.nam_catalog.specs.declared.shape.Shape.{Shape}
@@ -54,13 +54,21 @@ module _ (shape : Shape) where
 
   -- 2. Calls
 
-  -- a call of a transaction, or a scan, is asked only where one is open
+  -- a call may be asked: a transaction is open exactly where the call is one of its, or a scan
   abbrev pub CallFits : Option Open → Call → Type 0
-  CallFits opened (Begin txn nth) = Unit {0}
+  CallFits opened (Begin txn nth) = IsNone opened
   CallFits opened (Txn call) = IsSome opened × TxnCallFits shape call
   CallFits opened (Scan table low high) = IsSome opened × IsTableOf shape table
-  CallFits opened (Tidy table key) = IsTableOf shape table
-  CallFits opened (Collect bucket) = bucket < shape.buckets
+  CallFits opened (Tidy table key) = IsNone opened × IsTableOf shape table
+  CallFits opened (Collect bucket) = IsNone opened × (bucket < shape.buckets)
+
+  -- less is enough for the verbs to come: one is open where the call is one of its
+  abbrev pub CallStands : Option Open → Call → Type 0
+  CallStands opened (Begin txn nth) = Unit {0}
+  CallStands opened (Txn call) = IsSome opened × TxnCallFits shape call
+  CallStands opened (Scan table low high) = IsSome opened × IsTableOf shape table
+  CallStands opened (Tidy table key) = IsTableOf shape table
+  CallStands opened (Collect bucket) = bucket < shape.buckets
 
   abbrev pub open_bound : Option Open → TxnCall → ℕ
   open_bound None call = 0

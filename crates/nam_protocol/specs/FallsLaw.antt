@@ -24,7 +24,7 @@ use Rattle.nam_protocol.specs.Bound.{txn_left, scan_bound}
 use Rattle.nam_protocol.specs.TxnFits.{StateFits, TxnPlaceFits, TxnFalls, TxnBegins, TxnCallFits, txn_call_bound}
 use Rattle.nam_protocol.specs.TxnFits.{ScanFits, ScanEnds, after_scan}
 use Rattle.nam_protocol.specs.Left.{client_left}
-use Rattle.nam_protocol.specs.ClientFits.{ClientFits, CallFits, call_bound}
+use Rattle.nam_protocol.specs.ClientFits.{ClientFits, CallStands, call_bound}
 
 -- 1. A transaction, its commit included
 
@@ -72,6 +72,6 @@ ClientLaw = (shape : Shape) → FitsLimits shape → (client : ClientState) (pla
 
 abbrev pub ClientBeginsLaw : Type 0
 ClientBeginsLaw = (shape : Shape) → FitsLimits shape → (client : ClientState) (call : Call) → ClientFits shape client
-    → CallFits shape client.txn call
+    → CallStands shape client.txn call
     → ClientFits shape (client_ask shape client call)
     × (client_left shape (client_ask shape client call) ≤ call_bound shape client call)

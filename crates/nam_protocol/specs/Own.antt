@@ -21,7 +21,6 @@ use Rattle.nam_protocol.specs.declared.txn.TxnPlace.TheVariants.{Committing}
 use Rattle.nam_protocol.specs.declared.txn.TxnState.{TxnState}
 use Rattle.nam_protocol.specs.ClientFits.{CallFits}
 use Rattle.nam_protocol.specs.Commit.{record_place, value_at}
-use Rattle.nam_protocol.specs.declared.client.Call.TheVariants as call
 
 -- 1. Its own: whose it is, and its open transaction
 
@@ -64,15 +63,7 @@ StageClient client = StageIn client.call client.txn
 
 -- 3. A transaction is open exactly for its calls
 
--- a call is asked where one is open, or where none is
-abbrev pub IsOpenFor : Option Open → Call → Type 0
-IsOpenFor opened (call.Begin txn nth) = IsNone opened
-IsOpenFor opened (call.Txn asked) = IsSome opened
-IsOpenFor opened (call.Scan table low high) = IsSome opened
-IsOpenFor opened (call.Tidy table key) = IsNone opened
-IsOpenFor opened (call.Collect bucket) = IsNone opened
-
--- so it stands where the call runs
+-- where a call runs
 abbrev pub IsOpenAt : Option Open → CallPlace → Type 0
 IsOpenAt opened (InTxn at) = IsSome opened
 IsOpenAt opened (Scanning table low high at) = IsSome opened
@@ -90,9 +81,8 @@ abbrev pub Rests : Option (Now CallPlace Answer) → Type 0
 Rests (Some (At place)) = ⊥
 Rests _ = Unit {0}
 
--- it may be asked: none of its calls runs, and a transaction is open exactly where the call is one of its
+-- it may be asked: none of its calls runs
 pub record MayAsk (shape : Shape) (client : ClientState) (asked : Call) : Type 0 where
   pub runs : client.cut ≡ false
   pub rests : Rests client.call
   pub fits : CallFits shape client.txn asked
-  pub opens : IsOpenFor client.txn asked

@@ -1,4 +1,5 @@
--- The sorts of a client's steps and of what it is asked: a group of invariants says what it has to say of each sort, and
+-- The sorts of a client's steps and of what it is asked: a group of invariants says what it has to say of each sort,
+-- and of no other call by itself.
 use Rattle.std.specs.Prelude.{List, None, Some, length, ℕ, ◌≡◌}
 use Rattle.nam_verbs.specs.declared.now.Now.TheVariants.{At}
 use Rattle.nam_catalog.specs.declared.shape.Shape.{Shape}
@@ -21,8 +22,6 @@ use Rattle.nam_protocol.specs.Commit.{ask_commit, commit_after, locks_taken}
 use Rattle.nam_protocol.specs.Plain.{Plain}
 use Rattle.nam_protocol.specs.Reader.{Reader, ReadsAnew, ReadsOn, reader_at, reader_of}
 use Rattle.nam_protocol.specs.Telling.{go, stepped}
-
--- of no other call by itself.
 
 -- a client at a place of its commit
 abbrev pub committing_at : ClientState → Open → CommitPlace → ClientState

@@ -61,19 +61,19 @@ abbrev pub AllPass : (List Part → Part → Bool) → List Part → List Part �
 AllPass test done [] = Unit {0}
 AllPass test done (p ∷ ps) = (test done p ≡ true) × AllPass test (done ++ p ∷ []) ps
 
-left : (a b : Bool) → a ≡ true → (a || b) ≡ true
-left a b h = rw h refl
+pub or_left : (a b : Bool) → a ≡ true → (a || b) ≡ true
+or_left a b h = rw h refl
 
-right : (a b : Bool) → b ≡ true → (a || b) ≡ true
-right true b h = refl
-right false b h = h
+pub or_right : (a b : Bool) → b ≡ true → (a || b) ≡ true
+or_right true b h = refl
+or_right false b h = h
 
 split_at : (passes : List Tell → List Tell → Bool) (front us ts : List Tell) → passes (front ++ us) ts ≡ true
     → by_split passes front (us ++ ts) ≡ true
 split_at passes front [] [] h = subst (λ us. passes us [] ≡ true) (append-nil front) h
-split_at passes front [] (t ∷ ts) h = left _ _ (subst (λ us. passes us (t ∷ ts) ≡ true) (append-nil front) h)
+split_at passes front [] (t ∷ ts) h = or_left _ _ (subst (λ us. passes us (t ∷ ts) ≡ true) (append-nil front) h)
 split_at passes front (u ∷ us) ts h =
-    right (passes front (u ∷ (us ++ ts))) _ (split_at passes (front ++ u ∷ []) us ts
+    or_right (passes front (u ∷ (us ++ ts))) _ (split_at passes (front ++ u ∷ []) us ts
     (subst (λ vs. passes vs ts ≡ true) (sym (append_assoc front (u ∷ []) us)) h))
 
 -- what some value passes another test passes that is weaker
@@ -111,19 +111,19 @@ pub parts_may : (n : ℕ) (policy : Policy) (test : List Part → Part → Bool)
     (ps : List Part) → settles policy owed ps ≡ true → AllPass test done ps
     → may_part n policy test done owed (flat_map tells_in ps) ≡ true
 parts_may zero policy test done owed ps s h = refl
-parts_may (suc n) policy test done owed [] s h = left (is_settled owed) _ s
+parts_may (suc n) policy test done owed [] s h = or_left (is_settled owed) _ s
 parts_may (suc n) policy test done owed (attempted t ∷ ps) s h =
-    left _ _ (left _ _ (part_stands policy test (may_part n policy test) done owed (attempted t) ps h.0
+    or_left _ _ (or_left _ _ (part_stands policy test (may_part n policy test) done owed (attempted t) ps h.0
     (λ a e. parts_may n policy test (done ++ attempted t ∷ []) a ps e h.1) s))
 parts_may (suc n) policy test done owed (tidied key us ∷ ps) s h =
     let k = going_key (goes_on owed.stage) owed owed.keys key us (λ a. settles policy a ps) s in
-    right _ _ (right _ _ (subst (λ keys. by_tidying policy test (may_part n policy test) done owed keys
+    or_right _ _ (or_right _ _ (subst (λ keys. by_tidying policy test (may_part n policy test) done owed keys
     (us ++ flat_map tells_in ps) ≡ true) (sym k.1)
     (split_at (λ vs ws. by_part policy test (may_part n policy test) done owed (tidied key vs) ws) [] us
     (flat_map tells_in ps) (part_stands policy test (may_part n policy test) done owed (tidied key us) ps h.0
     (λ a e. parts_may n policy test (done ++ tidied key us ∷ []) a ps e h.1) s))))
 parts_may (suc n) policy test done owed (stopped t ∷ ps) s h =
-    left _ _ (right _ _ (part_stands policy test (may_part n policy test) done owed (stopped t) ps h.0
+    or_left _ _ (or_right _ _ (part_stands policy test (may_part n policy test) done owed (stopped t) ps h.0
     (λ a e. parts_may n policy test (done ++ stopped t ∷ []) a ps e h.1) s))
 
 -- ---- what a log that follows the policy passes
@@ -161,7 +161,7 @@ full_part v j done p = true
 own_failed : (i j : ℕ) (failed : Bool) → (i ≡ j → failed ≡ true) → (not (i == j) || failed) ≡ true
 own_failed i j failed h =
     elim (cases_Bool (i == j)) [
-      | inl e ↦ let same : i ≡ j = grind (arith, nat_tests) in right _ _ (h same)
+      | inl e ↦ let same : i ≡ j = grind (arith, nat_tests) in or_right _ _ (h same)
       | inr e ↦ rw e refl
     ]
 

@@ -22,18 +22,12 @@ use Rattle.si_model.specs.Setting.{Setting, Asked, by_script, is_crowded}
 use Rattle.si_model.specs.Answers.{LacksRoom, reads_overtaken, AnswersWith, AnswersWithout, AnswersOn, AnswersIn}
 use Rattle.si_model.specs.Answers.{AnswersMatch}
 use Rattle.si_model.specs.Run.{IsWorkerRun}
+use Rattle.si_model.proofs.PartingSearch.{or_left, or_right}
 
 -- does an operation pass the test after those before it
 abbrev pub any_place : (List Op → Op → Bool) → List Op → List Op → Bool
 any_place test before [] = false
 any_place test before (op ∷ ops) = test before op || any_place test (before ++ op ∷ []) ops
-
-left : (a b : Bool) → a ≡ true → (a || b) ≡ true
-left a b h = rw h refl
-
-right : (a b : Bool) → b ≡ true → (a || b) ≡ true
-right true b h = refl
-right false b h = h
 
 placed : (test : List Op → Op → Bool) (before : List Op) (k : ℕ) (op : Op) (ops : List Op) → StandsAt k op ops
     → test (before ++ take k ops) op ≡ true → any_place test before ops ≡ true
@@ -41,10 +35,10 @@ placed test before zero op [] (rest, same) h = absurd cc
 placed test before zero op (o ∷ ops) (rest, same) h =
     let here : o ≡ op = cc in
     let first : test before op ≡ true = subst (λ front. test front op ≡ true) (append-nil before) h in
-    left _ _ (subst (λ x. test before x ≡ true) (sym here) first)
+    or_left _ _ (subst (λ x. test before x ≡ true) (sym here) first)
 placed test before (suc k) op [] (rest, same) h = absurd cc
 placed test before (suc k) op (o ∷ ops) stands h =
-    right _ _ (placed test (before ++ o ∷ []) k op ops stands
+    or_right _ _ (placed test (before ++ o ∷ []) k op ops stands
     (subst (λ front. test front op ≡ true) (sym (append_assoc before (o ∷ []) (take k ops))) h))
 
 -- is there a key, of the crowded table, and new after these operations

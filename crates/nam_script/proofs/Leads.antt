@@ -12,7 +12,7 @@ use Rattle.si_model.specs.Evaluation.{guarded, keys_from}
 use Rattle.si_model.proofs.WriteLemmas.{guarded_has, guarded_new}
 use Rattle.nam_script.specs.declared.refusal.Kind.{Kind}
 use Rattle.nam_script.specs.declared.refusal.Kind.TheVariants as kind
-use Rattle.nam_script.specs.declared.line.Line.{Line}
+use Rattle.nam_script.specs.Line.{Line}
 use Rattle.nam_script.specs.declared.script.Stint.{Stint}
 use Rattle.nam_script.specs.declared.draft.Draft.{Draft}
 use Rattle.nam_script.specs.Checks.{◌>>=◌, must, within, all_small, stint_within, all_stints, total_within, keys_with}

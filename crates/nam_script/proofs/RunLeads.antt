@@ -18,7 +18,7 @@ use Rattle.nam_catalog.specs.Fits.{FitsTable}
 use Rattle.nam_catalog.proofs.FitsLemmas.{fits_limits}
 use Rattle.nam_script.specs.declared.refusal.Kind.{Kind}
 use Rattle.nam_script.specs.declared.refusal.Kind.TheVariants as kind
-use Rattle.nam_script.specs.declared.line.Line.TheVariants as line
+use Rattle.nam_script.specs.Line as line
 use Rattle.nam_script.specs.declared.script.ScriptTxn.{ScriptTxn}
 use Rattle.nam_script.specs.declared.script.Stint.{Stint}
 use Rattle.nam_script.specs.declared.script.Turns.TheVariants as turns

@@ -18,7 +18,7 @@ use Rattle.nam_catalog.specs.Fits.{FitsTable, FitsLimits}
 use Rattle.nam_catalog.proofs.FitsLemmas.{fits_limits, has_no_fault}
 use Rattle.nam_text.specs.Spelling.{FitsWord}
 use Rattle.nam_script.specs.declared.refusal.Kind.TheVariants as kind
-use Rattle.nam_script.specs.declared.line.Line.TheVariants as line
+use Rattle.nam_script.specs.Line as line
 use Rattle.nam_script.specs.declared.script.Script.{Script}
 use Rattle.nam_script.specs.declared.draft.Draft.{Draft}
 use Rattle.nam_script.specs.declared.stage.Stage.{Stage}

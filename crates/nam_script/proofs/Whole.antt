@@ -5,8 +5,8 @@ use Rattle.std.specs.List.{AllByRecursion, flat_map}
 use Rattle.std.proofs.lemmas.List.{append-nil}
 use Rattle.nam_catalog.proofs.FitsLemmas.{fits_limits}
 use Rattle.nam_script.specs.declared.refusal.ParseEnd.{ParseEnd}
-use Rattle.nam_script.specs.declared.line.Line.{Line}
-use Rattle.nam_script.specs.declared.line.Line.TheVariants as line
+use Rattle.nam_script.specs.Line.{Line}
+use Rattle.nam_script.specs.Line as line
 use Rattle.nam_script.specs.declared.script.Stint.{Stint}
 use Rattle.nam_script.specs.declared.script.Turns.{Turns}
 use Rattle.nam_script.specs.declared.script.Turns.TheVariants as turns

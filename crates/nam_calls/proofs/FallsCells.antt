@@ -11,20 +11,20 @@ use Rattle.nam_layout.specs.declared.field.Cells.{Cells}
 use Rattle.nam_layout.specs.PlaceFits.{FitsPlace, FitsCells}
 use Rattle.nam_calls.specs.declared.ring.SearchEnd.{SearchEnd}
 use Rattle.nam_calls.specs.declared.ring.SearchEnd.TheVariants.{Found, NotThere}
-use Rattle.nam_calls.specs.declared.overflow.CellPlace.{CellPlace}
-use Rattle.nam_calls.specs.declared.overflow.CellPlace.TheVariants.{CellTag, CellOwner, CellBegin, CellEnding}
-use Rattle.nam_calls.specs.declared.overflow.CellPlace.TheVariants.{CellWords, CellAgain}
-use Rattle.nam_calls.specs.declared.overflow.ClaimPlace.{ClaimPlace}
-use Rattle.nam_calls.specs.declared.overflow.ClaimPlace.TheVariants.{ClaimLook, ClaimTake}
+use Rattle.nam_calls.specs.declared.overflow.CellPoint.{CellPoint}
+use Rattle.nam_calls.specs.declared.overflow.CellPoint.TheVariants.{CellTag, CellOwner, CellBegin, CellEnding}
+use Rattle.nam_calls.specs.declared.overflow.CellPoint.TheVariants.{CellWords, CellAgain}
+use Rattle.nam_calls.specs.declared.overflow.ClaimPoint.{ClaimPoint}
+use Rattle.nam_calls.specs.declared.overflow.ClaimPoint.TheVariants.{ClaimLook, ClaimTake}
 use Rattle.nam_calls.specs.declared.overflow.ClaimEnd.{ClaimEnd}
 use Rattle.nam_calls.specs.declared.overflow.ClaimEnd.TheVariants.{Claimed, NoRoom}
 use Rattle.nam_calls.specs.declared.overflow.Version.{Version}
-use Rattle.nam_calls.specs.declared.overflow.FillPlace.{FillPlace}
-use Rattle.nam_calls.specs.declared.overflow.FillPlace.TheVariants.{FillOwner, FillBegin, FillEnding, FillWord}
-use Rattle.nam_calls.specs.declared.mover.MovePlace.{MovePlace}
-use Rattle.nam_calls.specs.declared.mover.MovePlace.TheVariants.{MoveCount, MoveHead, MoveEnding, MoveClaim}
-use Rattle.nam_calls.specs.declared.mover.MovePlace.TheVariants.{MoveWords}
-use Rattle.nam_calls.specs.declared.mover.MovePlace.TheVariants.{MoveFill, MoveAgain, MoveFull, MoveFlag, MoveBack}
+use Rattle.nam_calls.specs.declared.overflow.FillPoint.{FillPoint}
+use Rattle.nam_calls.specs.declared.overflow.FillPoint.TheVariants.{FillOwner, FillBegin, FillEnding, FillWord}
+use Rattle.nam_calls.specs.declared.mover.MovePoint.{MovePoint}
+use Rattle.nam_calls.specs.declared.mover.MovePoint.TheVariants.{MoveCount, MoveHead, MoveEnding, MoveClaim}
+use Rattle.nam_calls.specs.declared.mover.MovePoint.TheVariants.{MoveWords}
+use Rattle.nam_calls.specs.declared.mover.MovePoint.TheVariants.{MoveFill, MoveAgain, MoveFull, MoveFlag, MoveBack}
 use Rattle.nam_calls.specs.declared.mover.MoveAnswer.{MoveAnswer}
 use Rattle.nam_calls.specs.Overflow.{cell_after, cell_left, cells_left, next_cell, claim_next, claim_after}
 use Rattle.nam_calls.specs.Overflow.{claim_left}
@@ -38,7 +38,7 @@ use Rattle.nam_calls.specs.declared.mover.MoveAnswer.TheVariants as answer
 -- 1. The search of a bucket
 
 module _ (cells : Cells) (place : Place) (fits : FitsPlace place) where
-  abbrev pub CellFalls : ℕ → Now CellPlace SearchEnd → Type 0
+  abbrev pub CellFalls : ℕ → Now CellPoint SearchEnd → Type 0
   CellFalls = Falls (CellFits cells place) (SearchEnds place) (cell_left cells place)
 
   next_cell_falls : (cell n : ℕ) → cell < cells.cells → cells_left cells place cell < n
@@ -47,7 +47,7 @@ module _ (cells : Cells) (place : Place) (fits : FitsPlace place) where
       or_last (CellFalls n) cells.cells cell (Over NotThere) (At (CellTag (cell + 1))) l (λ e. (tt, omega arith))
       (λ e. (e, rw (later_row cells.cells cell (place.width + 5) e) m))
 
-  pub cell_falls : (seen : List ℕ) (at : CellPlace) (found : ℕ) → CellFits cells place at
+  pub cell_falls : (seen : List ℕ) (at : CellPoint) (found : ℕ) → CellFits cells place at
       → CellFalls (cell_left cells place at) (cell_after cells place seen at found)
   cell_falls seen (CellTag cell) found l =
       either (CellFalls (cell_left cells place (CellTag cell))) _ (At (CellOwner cell found)) (next_cell cells cell)
@@ -80,7 +80,7 @@ module _ (cells : Cells) (place : Place) (fits : FitsPlace place) where
 -- 2. The claim of a cell and its filling
 
 module _ (cells : Cells) where
-  abbrev pub ClaimFalls : ℕ → Now ClaimPlace ClaimEnd → Type 0
+  abbrev pub ClaimFalls : ℕ → Now ClaimPoint ClaimEnd → Type 0
   ClaimFalls = Falls (ClaimFits cells) (ClaimEnds cells) (claim_left cells)
 
   claim_next_falls : (cell n : ℕ) → cell < cells.cells → (cells.cells - cell - 1) * 2 < n
@@ -89,7 +89,7 @@ module _ (cells : Cells) where
       or_last (ClaimFalls n) cells.cells cell (Over NoRoom) (At (ClaimLook (cell + 1))) l (λ e. (tt, omega arith))
       (λ e. (e, omega arith))
 
-  pub claim_falls : (at : ClaimPlace) (found : ℕ) → ClaimFits cells at
+  pub claim_falls : (at : ClaimPoint) (found : ℕ) → ClaimFits cells at
       → ClaimFalls (claim_left cells at) (claim_after cells at found)
   claim_falls (ClaimLook cell) found l =
       either (ClaimFalls (claim_left cells (ClaimLook cell))) _ (At (ClaimTake cell found)) (claim_next cells cell)
@@ -101,10 +101,10 @@ module _ (cells : Cells) where
       (claim_next_falls cell _ l (omega arith))
 
 module _ (width : ℕ) (least : 1 ≤ width) where
-  abbrev pub FillFalls : ℕ → Now FillPlace (Unit {0}) → Type 0
+  abbrev pub FillFalls : ℕ → Now FillPoint (Unit {0}) → Type 0
   FillFalls = Falls (FillFits width) Any (fill_left width)
 
-  pub fill_falls : (at : FillPlace) → FillFits width at → FillFalls (fill_left width at) (fill_after width at)
+  pub fill_falls : (at : FillPoint) → FillFits width at → FillFalls (fill_left width at) (fill_after width at)
   fill_falls FillOwner l = (tt, omega arith)
   fill_falls FillBegin l = (tt, omega arith)
   fill_falls FillEnding l = (omega arith, omega arith)
@@ -115,10 +115,10 @@ module _ (width : ℕ) (least : 1 ≤ width) where
 -- 3. A move
 
 module _ (place : Place) (cells : Cells) (fits : FitsPlace place) (room : FitsCells cells) where
-  abbrev pub MoveFalls : ℕ → Now MovePlace MoveAnswer → Type 0
+  abbrev pub MoveFalls : ℕ → Now MovePoint MoveAnswer → Type 0
   MoveFalls = Falls (MoveFits place cells) Any (move_left place cells)
 
-  on_claim_falls : (slot header ending n : ℕ) (now : Now ClaimPlace ClaimEnd) → slot < place.ring
+  on_claim_falls : (slot header ending n : ℕ) (now : Now ClaimPoint ClaimEnd) → slot < place.ring
       → ClaimFalls cells n now
       → MoveFalls (n + 2 * place.width + 6) (on_claim cells slot header ending now)
   on_claim_falls slot header ending n (At at) l h = ((l, h.0), omega arith)
@@ -126,14 +126,14 @@ module _ (place : Place) (cells : Cells) (fits : FitsPlace place) (room : FitsCe
       let w = fits.least_width in ((l, h.0, omega arith), omega arith)
   on_claim_falls slot header ending n (Over NoRoom) l h = (tt, omega arith)
 
-  on_fill_falls : (slot header cell tag n : ℕ) (version : Version) (now : Now FillPlace (Unit {0}))
+  on_fill_falls : (slot header cell tag n : ℕ) (version : Version) (now : Now FillPoint (Unit {0}))
       → slot < place.ring → cell < cells.cells
       → length version.value ≡ place.width → FillFalls place.width fits.least_width n now
       → MoveFalls (n + 3) (on_fill slot header cell tag version now)
   on_fill_falls slot header cell tag n version (At at) l m e h = ((l, m, e, h.0), omega arith)
   on_fill_falls slot header cell tag n version (Over done) l m e h = ((l, m), omega arith)
 
-  pub move_falls : (at : MovePlace) (found : ℕ) → MoveFits place cells at
+  pub move_falls : (at : MovePoint) (found : ℕ) → MoveFits place cells at
       → MoveFalls (move_left place cells at) (move_after place cells at found)
   move_falls MoveCount found l = (slot_within place fits found, omega arith)
   move_falls (MoveHead slot) found l =

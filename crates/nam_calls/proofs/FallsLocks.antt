@@ -9,8 +9,8 @@ use Rattle.nam_verbs.specs.Falls.{FallsTo, Falls, Any}
 use Rattle.nam_catalog.specs.declared.form.Form.{Form}
 use Rattle.nam_header.specs.Stamp.{is_locked, sees}
 use Rattle.nam_layout.specs.declared.field.Place.{Place}
-use Rattle.nam_calls.specs.declared.lock.LockPlace.{LockPlace}
-use Rattle.nam_calls.specs.declared.lock.LockPlace.TheVariants.{Peek, Seize, GiveBack}
+use Rattle.nam_calls.specs.declared.lock.LockPoint.{LockPoint}
+use Rattle.nam_calls.specs.declared.lock.LockPoint.TheVariants.{Peek, Seize, GiveBack}
 use Rattle.nam_calls.specs.declared.lock.LockEnd.{LockEnd}
 use Rattle.nam_calls.specs.declared.lock.LockEnd.TheVariants.{Held, Locked, Newer}
 use Rattle.nam_calls.specs.Lock.{nth_place, loss_of, give_back, lock_next, lock_after, lock_left, unlock_after}
@@ -19,7 +19,7 @@ use Rattle.nam_calls.specs.Fits.{LockFits, LockEnds, after_locks}
 use Rattle.nam_calls.proofs.FallsTests.{either, or_last}
 
 module _ (places : List Place) (rest : ℕ) (enough : length places ≤ rest) where
-  abbrev pub LockFalls : ℕ → Now LockPlace LockEnd → Type 0
+  abbrev pub LockFalls : ℕ → Now LockPoint LockEnd → Type 0
   LockFalls = FallsTo (LockFits (length places)) (LockEnds (length places)) (lock_left places rest) (after_locks rest)
 
   loss_falls : (form : Form) (nth found n : ℕ) → nth < length places → 0 < n
@@ -39,7 +39,7 @@ module _ (places : List Place) (rest : ℕ) (enough : length places ≤ rest) wh
       (λ e. loss_falls (nth_place places (length held)).form (length held) found n l (omega arith))
       (λ e. let f : given < length held = grind (arith, nat_tests) in ((l, f), r))
 
-  pub lock_falls : (seen : List ℕ) (at : LockPlace) (found : ℕ) → LockFits (length places) at
+  pub lock_falls : (seen : List ℕ) (at : LockPoint) (found : ℕ) → LockFits (length places) at
       → LockFalls (lock_left places rest at) (lock_after places seen at found)
   lock_falls seen (Peek held) found l =
       let n = lock_left places rest (Peek held) in

@@ -11,22 +11,22 @@ use Rattle.nam_layout.specs.declared.field.Place.{Place}
 use Rattle.nam_layout.specs.PlaceFits.{FitsPlace}
 use Rattle.nam_layout.specs.Place.{slot_of}
 use Rattle.nam_calls.specs.declared.index.FindEnd.{FindEnd}
-use Rattle.nam_calls.specs.declared.index.ClaimKeyPlace.{ClaimKeyPlace}
-use Rattle.nam_calls.specs.declared.index.ClaimKeyPlace.TheVariants.{KeyLook, KeyTake}
+use Rattle.nam_calls.specs.declared.index.ClaimKeyPoint.{ClaimKeyPoint}
+use Rattle.nam_calls.specs.declared.index.ClaimKeyPoint.TheVariants.{KeyLook, KeyTake}
 use Rattle.nam_calls.specs.declared.index.ClaimKeyEnd.{ClaimKeyEnd}
-use Rattle.nam_calls.specs.declared.record.CurrentPlace.{CurrentPlace}
-use Rattle.nam_calls.specs.declared.record.CurrentPlace.TheVariants.{CurrentHead, CurrentWords, CurrentAgain}
+use Rattle.nam_calls.specs.declared.record.CurrentPoint.{CurrentPoint}
+use Rattle.nam_calls.specs.declared.record.CurrentPoint.TheVariants.{CurrentHead, CurrentWords, CurrentAgain}
 use Rattle.nam_calls.specs.declared.record.CurrentEnd.{CurrentEnd}
-use Rattle.nam_calls.specs.declared.record.InstallPlace.{InstallPlace}
-use Rattle.nam_calls.specs.declared.record.InstallPlace.TheVariants.{InstallWord, InstallCount, InstallHead}
-use Rattle.nam_calls.specs.declared.ring.SlotPlace.{SlotPlace}
-use Rattle.nam_calls.specs.declared.ring.SlotPlace.TheVariants.{CheckCount, CheckHead}
+use Rattle.nam_calls.specs.declared.record.InstallPoint.{InstallPoint}
+use Rattle.nam_calls.specs.declared.record.InstallPoint.TheVariants.{InstallWord, InstallCount, InstallHead}
+use Rattle.nam_calls.specs.declared.ring.SlotPoint.{SlotPoint}
+use Rattle.nam_calls.specs.declared.ring.SlotPoint.TheVariants.{CheckCount, CheckHead}
 use Rattle.nam_calls.specs.declared.ring.SlotEnd.{SlotEnd}
 use Rattle.nam_calls.specs.declared.ring.SlotEnd.TheVariants.{Free, NotMoved}
-use Rattle.nam_calls.specs.declared.ring.CopyPlace.{CopyPlace}
-use Rattle.nam_calls.specs.declared.ring.CopyPlace.TheVariants.{CopyMark, CopyEnding, CopyWord, CopyHead}
-use Rattle.nam_calls.specs.declared.ring.RingPlace.{RingPlace}
-use Rattle.nam_calls.specs.declared.ring.RingPlace.TheVariants.{SlotHead, SlotEnding, SlotWords, SlotAgain}
+use Rattle.nam_calls.specs.declared.ring.CopyPoint.{CopyPoint}
+use Rattle.nam_calls.specs.declared.ring.CopyPoint.TheVariants.{CopyMark, CopyEnding, CopyWord, CopyHead}
+use Rattle.nam_calls.specs.declared.ring.RingPoint.{RingPoint}
+use Rattle.nam_calls.specs.declared.ring.RingPoint.TheVariants.{SlotHead, SlotEnding, SlotWords, SlotAgain}
 use Rattle.nam_calls.specs.declared.ring.SearchEnd.{SearchEnd}
 use Rattle.nam_calls.specs.declared.ring.SearchEnd.TheVariants.{Found, NotThere}
 use Rattle.nam_calls.specs.Words.{key_word}
@@ -52,7 +52,7 @@ module _ (path : Path) where
   abbrev pub FindFalls : ℕ → Now ℕ FindEnd → Type 0
   FindFalls = Falls (FindFits capacity) (FindEnds capacity) (find_left path)
 
-  abbrev pub ClaimKeyFalls : ℕ → Now ClaimKeyPlace ClaimKeyEnd → Type 0
+  abbrev pub ClaimKeyFalls : ℕ → Now ClaimKeyPoint ClaimKeyEnd → Type 0
   ClaimKeyFalls = Falls (ClaimKeyFits capacity) (ClaimKeyEnds capacity) (claim_key_left path)
 
   -- each position of a path is one of the table
@@ -78,7 +78,7 @@ module _ (path : Path) where
       (λ e. (tt, omega arith))
       (λ e. (e, omega arith))
 
-  pub claim_key_falls : (place : ClaimKeyPlace) (found : ℕ) → ClaimKeyFits capacity place
+  pub claim_key_falls : (place : ClaimKeyPoint) (found : ℕ) → ClaimKeyFits capacity place
       → ClaimKeyFalls (claim_key_left path place) (claim_key_after path place found)
   claim_key_falls (KeyLook passed) found l =
       let n = claim_key_left path (KeyLook passed) in
@@ -99,10 +99,10 @@ module _ (path : Path) where
 -- 2. A position's words
 
 module _ (place : Place) (fits : FitsPlace place) where
-  abbrev pub CurrentFalls : ℕ → Now CurrentPlace CurrentEnd → Type 0
+  abbrev pub CurrentFalls : ℕ → Now CurrentPoint CurrentEnd → Type 0
   CurrentFalls = Falls (CurrentFits place) (CurrentEnds place) (current_left place)
 
-  pub current_falls : (seen : List ℕ) (at : CurrentPlace) (found : ℕ) → CurrentFits place at
+  pub current_falls : (seen : List ℕ) (at : CurrentPoint) (found : ℕ) → CurrentFits place at
       → CurrentFalls (current_left place at) (current_after place seen at found)
   current_falls seen CurrentHead found l =
       let w = fits.least_width in
@@ -134,10 +134,10 @@ module _ (place : Place) (fits : FitsPlace place) where
       one_more (WordsFall (words_left place got)) place.width got found At Over l (λ e m. (m, omega arith))
       (λ e m. (m, omega arith))
 
-  abbrev pub InstallFalls : ℕ → Now InstallPlace (Unit {0}) → Type 0
+  abbrev pub InstallFalls : ℕ → Now InstallPoint (Unit {0}) → Type 0
   InstallFalls = Falls (InstallFits place) Any (install_left place)
 
-  pub install_falls : (at : InstallPlace) → InstallFits place at
+  pub install_falls : (at : InstallPoint) → InstallFits place at
       → InstallFalls (install_left place at) (install_after place at)
   install_falls (InstallWord nth) l =
       or_last (InstallFalls (install_left place (InstallWord nth))) place.width nth (At InstallCount)
@@ -146,22 +146,22 @@ module _ (place : Place) (fits : FitsPlace place) where
   install_falls InstallCount l = (tt, omega arith)
   install_falls InstallHead l = (tt, omega arith)
 
-  abbrev pub SlotFalls : ℕ → Now SlotPlace SlotEnd → Type 0
+  abbrev pub SlotFalls : ℕ → Now SlotPoint SlotEnd → Type 0
   SlotFalls = Falls Any (SlotEnds place) slot_left
 
   pub slot_within : (count : ℕ) → slot_of place count < place.ring
   slot_within count = let r = fits.least_ring in omega arith
 
-  pub slot_falls : (at : SlotPlace) (found : ℕ) → SlotFalls (slot_left at) (slot_after place at found)
+  pub slot_falls : (at : SlotPoint) (found : ℕ) → SlotFalls (slot_left at) (slot_after place at found)
   slot_falls CheckCount found = (tt, omega arith)
   slot_falls (CheckHead count) found =
       either (SlotFalls 1) _ (Over (Free count)) (Over (NotMoved (slot_of place count) found)) (tt, omega arith)
       (slot_within count, omega arith)
 
-  abbrev pub CopyFalls : ℕ → Now CopyPlace (Unit {0}) → Type 0
+  abbrev pub CopyFalls : ℕ → Now CopyPoint (Unit {0}) → Type 0
   CopyFalls = Falls (CopyFits place) Any (copy_left place)
 
-  pub copy_falls : (at : CopyPlace) → CopyFits place at → CopyFalls (copy_left place at) (copy_after place at)
+  pub copy_falls : (at : CopyPoint) → CopyFits place at → CopyFalls (copy_left place at) (copy_after place at)
   copy_falls CopyMark l = (tt, omega arith)
   copy_falls CopyEnding l = let w = fits.least_width in (omega arith, omega arith)
   copy_falls (CopyWord nth) l =
@@ -170,7 +170,7 @@ module _ (place : Place) (fits : FitsPlace place) where
       (λ e. (e, omega arith))
   copy_falls CopyHead l = (tt, omega arith)
 
-  abbrev pub RingFalls : ℕ → Now RingPlace SearchEnd → Type 0
+  abbrev pub RingFalls : ℕ → Now RingPoint SearchEnd → Type 0
   RingFalls = Falls (RingFits place) (SearchEnds place) (ring_left place)
 
   next_slot_falls : (slot n : ℕ) → slot < place.ring → slots_left place slot < n → RingFalls n (next_slot place slot)
@@ -178,7 +178,7 @@ module _ (place : Place) (fits : FitsPlace place) where
       or_last (RingFalls n) place.ring slot (Over NotThere) (At (SlotHead (slot + 1))) l (λ e. (tt, omega arith))
       (λ e. (e, rw (later_row place.ring slot (place.width + 3) e) m))
 
-  pub ring_falls : (seen : List ℕ) (at : RingPlace) (found : ℕ) → RingFits place at
+  pub ring_falls : (seen : List ℕ) (at : RingPoint) (found : ℕ) → RingFits place at
       → RingFalls (ring_left place at) (ring_after place seen at found)
   ring_falls seen (SlotHead slot) found l =
       either (RingFalls (ring_left place (SlotHead slot))) _ (next_slot place slot) (At (SlotEnding slot found))

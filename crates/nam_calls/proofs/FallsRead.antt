@@ -8,21 +8,21 @@ use Rattle.nam_verbs.proofs.TestLemmas.{by_test}
 use Rattle.nam_verbs.specs.Falls.{Falls}
 use Rattle.nam_layout.specs.declared.field.Cells.{Cells}
 use Rattle.nam_layout.specs.PlaceFits.{FitsCells}
-use Rattle.nam_calls.specs.declared.record.CurrentPlace.{CurrentPlace}
+use Rattle.nam_calls.specs.declared.record.CurrentPoint.{CurrentPoint}
 use Rattle.nam_calls.specs.declared.record.CurrentEnd.{CurrentEnd}
-use Rattle.nam_calls.specs.declared.ring.RingPlace.{RingPlace}
+use Rattle.nam_calls.specs.declared.ring.RingPoint.{RingPoint}
 use Rattle.nam_calls.specs.declared.ring.SearchEnd.{SearchEnd}
 use Rattle.nam_calls.specs.declared.ring.SearchEnd.TheVariants.{Found, NotThere}
-use Rattle.nam_calls.specs.declared.overflow.CellPlace.{CellPlace}
-use Rattle.nam_calls.specs.declared.horizon.CollectPlace.{CollectPlace}
-use Rattle.nam_calls.specs.declared.horizon.CollectPlace.TheVariants.{HorizonLook, HorizonRaise, CollectTag}
-use Rattle.nam_calls.specs.declared.horizon.CollectPlace.TheVariants.{CollectEnding, CollectFree}
+use Rattle.nam_calls.specs.declared.overflow.CellPoint.{CellPoint}
+use Rattle.nam_calls.specs.declared.horizon.CollectPoint.{CollectPoint}
+use Rattle.nam_calls.specs.declared.horizon.CollectPoint.TheVariants.{HorizonLook, HorizonRaise, CollectTag}
+use Rattle.nam_calls.specs.declared.horizon.CollectPoint.TheVariants.{CollectEnding, CollectFree}
 use Rattle.nam_calls.specs.declared.horizon.OldEnd.{OldEnd}
 use Rattle.nam_calls.specs.declared.horizon.OldEnd.TheVariants.{TooOld, NotPassed}
 use Rattle.nam_calls.specs.declared.reading.Sight.{Sight}
-use Rattle.nam_calls.specs.declared.reading.ReadPlace.{ReadPlace}
-use Rattle.nam_calls.specs.declared.reading.ReadPlace.TheVariants.{ReadCurrent, ReadUnsure, ReadRecheck, ReadRing}
-use Rattle.nam_calls.specs.declared.reading.ReadPlace.TheVariants.{ReadCells, ReadHorizon}
+use Rattle.nam_calls.specs.declared.reading.ReadPoint.{ReadPoint}
+use Rattle.nam_calls.specs.declared.reading.ReadPoint.TheVariants.{ReadCurrent, ReadUnsure, ReadRecheck, ReadRing}
+use Rattle.nam_calls.specs.declared.reading.ReadPoint.TheVariants.{ReadCells, ReadHorizon}
 use Rattle.nam_calls.specs.declared.reading.ReadingEnd.{ReadingEnd}
 use Rattle.nam_calls.specs.declared.reading.ReadingEnd.TheVariants.{Got}
 use Rattle.nam_calls.specs.Record.{current_begin}
@@ -39,7 +39,7 @@ use Rattle.nam_calls.specs.declared.record.CurrentEnd.TheVariants as current
 -- 1. A collection
 
 module _ (cells : Cells) (workers : ℕ) (room : FitsCells cells) where
-  abbrev pub CollectFalls : ℕ → Now CollectPlace (List ℕ) → Type 0
+  abbrev pub CollectFalls : ℕ → Now CollectPoint (List ℕ) → Type 0
   CollectFalls = Falls (CollectFits cells workers) (CollectEnds workers) (collect_left cells workers)
 
   entry_falls : (known : List ℕ) (entry n : ℕ) → length known < workers
@@ -58,7 +58,7 @@ module _ (cells : Cells) (workers : ℕ) (room : FitsCells cells) where
       or_last (CollectFalls n) cells.cells cell (Over known) (At (CollectTag known (cell + 1))) l
       (λ f. (e, omega arith)) (λ f. ((e, f), omega arith))
 
-  pub collect_falls : (seen : List ℕ) (at : CollectPlace) (found : ℕ) → CollectFits cells workers at
+  pub collect_falls : (seen : List ℕ) (at : CollectPoint) (found : ℕ) → CollectFits cells workers at
       → CollectFalls (collect_left cells workers at) (collect_after cells workers seen at found)
   collect_falls seen (HorizonLook known) found l =
       either (CollectFalls (collect_left cells workers (HorizonLook known))) _ (At (HorizonRaise known found))
@@ -96,10 +96,10 @@ module _ (workers : ℕ) where
 -- 3. A whole read
 
 module _ (sight : Sight) (fits : SightFits sight) where
-  abbrev pub ReadFalls : ℕ → Now ReadPlace ReadingEnd → Type 0
+  abbrev pub ReadFalls : ℕ → Now ReadPoint ReadingEnd → Type 0
   ReadFalls = Falls (ReadFits sight) (ReadEnds sight) (read_left sight)
 
-  on_current_falls : (n : ℕ) (now : Now CurrentPlace CurrentEnd) → CurrentFalls sight.place fits.place n now
+  on_current_falls : (n : ℕ) (now : Now CurrentPoint CurrentEnd) → CurrentFalls sight.place fits.place n now
       → ReadFalls (n + (ring_whole sight + (1 + old_versions_left sight))) (on_current now)
   on_current_falls n (At at) h = (h.0, omega arith)
   on_current_falls n (Over (current.Found value)) h = (h.0, omega arith)
@@ -110,14 +110,14 @@ module _ (sight : Sight) (fits : SightFits sight) where
       let r = all_rows sight.place.ring (sight.place.width + 3) fits.place.least_ring in
       (fits.place.least_ring, omega arith)
 
-  on_unsure_falls : (value : List ℕ) (header n : ℕ) (now : Now RingPlace SearchEnd) → length value ≡ sight.place.width
+  on_unsure_falls : (value : List ℕ) (header n : ℕ) (now : Now RingPoint SearchEnd) → length value ≡ sight.place.width
       → RingFalls sight.place fits.place n now
       → ReadFalls (n + (1 + old_versions_left sight)) (on_unsure value header now)
   on_unsure_falls value header n (At at) e h = ((e, h.0), omega arith)
   on_unsure_falls value header n (Over (Found old)) e h = (h.0, omega arith)
   on_unsure_falls value header n (Over NotThere) e h = (e, omega arith)
 
-  on_ring_falls : (n : ℕ) (now : Now RingPlace SearchEnd) → RingFalls sight.place fits.place n now
+  on_ring_falls : (n : ℕ) (now : Now RingPoint SearchEnd) → RingFalls sight.place fits.place n now
       → ReadFalls (n + (cells_whole sight + sight.workers)) (on_ring now)
   on_ring_falls n (At at) h = (h.0, omega arith)
   on_ring_falls n (Over (Found old)) h = (h.0, omega arith)
@@ -125,7 +125,7 @@ module _ (sight : Sight) (fits : SightFits sight) where
       let r = all_rows sight.cells.cells (sight.place.width + 5) fits.cells.least_cells in
       (fits.cells.least_cells, omega arith)
 
-  on_cells_falls : (n : ℕ) (now : Now CellPlace SearchEnd) → CellFalls sight.cells sight.place fits.place n now
+  on_cells_falls : (n : ℕ) (now : Now CellPoint SearchEnd) → CellFalls sight.cells sight.place fits.place n now
       → ReadFalls (n + sight.workers) (on_cells now)
   on_cells_falls n (At at) h = (h.0, omega arith)
   on_cells_falls n (Over (Found old)) h = (h.0, omega arith)
@@ -136,7 +136,7 @@ module _ (sight : Sight) (fits : SightFits sight) where
   on_horizon_falls n (Over (TooOld worker entry horizon)) h = h
   on_horizon_falls n (Over NotPassed) h = h
 
-  pub read_falls : (seen : List ℕ) (at : ReadPlace) (found : ℕ) → ReadFits sight at
+  pub read_falls : (seen : List ℕ) (at : ReadPoint) (found : ℕ) → ReadFits sight at
       → ReadFalls (read_left sight at) (read_after sight seen at found)
   read_falls seen (ReadCurrent at) found l = on_current_falls _ _ (current_falls sight.place fits.place seen at found l)
   read_falls seen (ReadUnsure value header at) found l =

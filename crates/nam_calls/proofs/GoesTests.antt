@@ -14,28 +14,28 @@ use Rattle.nam_header.specs.Tag.{has_next, is_free, is_full, written}
 use Rattle.nam_layout.specs.declared.field.Cells.{Cells}
 use Rattle.nam_layout.specs.declared.field.Place.{Place}
 use Rattle.nam_layout.specs.Place.{slot_of}
-use Rattle.nam_calls.specs.declared.horizon.CollectPlace.TheVariants.{CollectEnding, CollectFree, CollectTag}
-use Rattle.nam_calls.specs.declared.horizon.CollectPlace.TheVariants.{HorizonLook, HorizonRaise}
-use Rattle.nam_calls.specs.declared.horizon.CollectPlace.{CollectPlace}
+use Rattle.nam_calls.specs.declared.horizon.CollectPoint.TheVariants.{CollectEnding, CollectFree, CollectTag}
+use Rattle.nam_calls.specs.declared.horizon.CollectPoint.TheVariants.{HorizonLook, HorizonRaise}
+use Rattle.nam_calls.specs.declared.horizon.CollectPoint.{CollectPoint}
 use Rattle.nam_calls.specs.declared.lock.LockEnd.TheVariants.{Locked, Newer}
 use Rattle.nam_calls.specs.declared.lock.LockEnd.{LockEnd}
-use Rattle.nam_calls.specs.declared.lock.LockPlace.TheVariants.{GiveBack, Peek, Seize}
-use Rattle.nam_calls.specs.declared.lock.LockPlace.{LockPlace}
+use Rattle.nam_calls.specs.declared.lock.LockPoint.TheVariants.{GiveBack, Peek, Seize}
+use Rattle.nam_calls.specs.declared.lock.LockPoint.{LockPoint}
 use Rattle.nam_calls.specs.declared.overflow.ClaimEnd.TheVariants.{Claimed, NoRoom}
 use Rattle.nam_calls.specs.declared.overflow.ClaimEnd.{ClaimEnd}
-use Rattle.nam_calls.specs.declared.overflow.ClaimPlace.TheVariants.{ClaimLook, ClaimTake}
-use Rattle.nam_calls.specs.declared.overflow.ClaimPlace.{ClaimPlace}
+use Rattle.nam_calls.specs.declared.overflow.ClaimPoint.TheVariants.{ClaimLook, ClaimTake}
+use Rattle.nam_calls.specs.declared.overflow.ClaimPoint.{ClaimPoint}
 use Rattle.nam_calls.specs.declared.record.CurrentEnd.{CurrentEnd}
-use Rattle.nam_calls.specs.declared.record.CurrentPlace.TheVariants.{CurrentAgain, CurrentHead, CurrentWords}
-use Rattle.nam_calls.specs.declared.record.CurrentPlace.{CurrentPlace}
-use Rattle.nam_calls.specs.declared.ring.RingPlace.TheVariants.{SlotAgain, SlotEnding, SlotHead, SlotWords}
-use Rattle.nam_calls.specs.declared.ring.RingPlace.{RingPlace}
+use Rattle.nam_calls.specs.declared.record.CurrentPoint.TheVariants.{CurrentAgain, CurrentHead, CurrentWords}
+use Rattle.nam_calls.specs.declared.record.CurrentPoint.{CurrentPoint}
+use Rattle.nam_calls.specs.declared.ring.RingPoint.TheVariants.{SlotAgain, SlotEnding, SlotHead, SlotWords}
+use Rattle.nam_calls.specs.declared.ring.RingPoint.{RingPoint}
 use Rattle.nam_calls.specs.declared.ring.SearchEnd.TheVariants.{Found, NotThere}
 use Rattle.nam_calls.specs.declared.ring.SearchEnd.{SearchEnd}
 use Rattle.nam_calls.specs.declared.ring.SlotEnd.TheVariants.{Free, NotMoved}
 use Rattle.nam_calls.specs.declared.ring.SlotEnd.{SlotEnd}
-use Rattle.nam_calls.specs.declared.ring.SlotPlace.TheVariants.{CheckHead}
-use Rattle.nam_calls.specs.declared.ring.SlotPlace.{SlotPlace}
+use Rattle.nam_calls.specs.declared.ring.SlotPoint.TheVariants.{CheckHead}
+use Rattle.nam_calls.specs.declared.ring.SlotPoint.{SlotPoint}
 use Rattle.nam_calls.specs.Horizon.{collect_after, collect_next, entry_known}
 use Rattle.nam_calls.specs.Lock.{give_back, lock_after, loss_of, nth_place}
 use Rattle.nam_calls.specs.Overflow.{claim_after, claim_next}
@@ -46,7 +46,7 @@ use Rattle.nam_calls.specs.declared.record.CurrentEnd.TheVariants as current
 
 -- 1. Locks
 
-module _ (P : Now LockPlace LockEnd → Type 0) (places : List Place) where
+module _ (P : Now LockPoint LockEnd → Type 0) (places : List Place) where
   abbrev form_at : List ℕ → Form
   form_at held = (nth_place places (length held)).form
 
@@ -88,7 +88,7 @@ module _ (P : Now LockPlace LockEnd → Type 0) (places : List Place) where
 
 -- 2. The current version, and the slot that the next one needs
 
-module _ (P : Now CurrentPlace CurrentEnd → Type 0) (place : Place) (seen : List ℕ) where
+module _ (P : Now CurrentPoint CurrentEnd → Type 0) (place : Place) (seen : List ℕ) where
   pub current_head_goes : (found : ℕ)
       → (sees place.form seen found ≡ true → is_deleted place.form found ≡ true → P (Over (current.Found None)))
       → (sees place.form seen found ≡ true → is_deleted place.form found ≡ false → P (At (CurrentWords found [])))
@@ -116,7 +116,7 @@ module _ (P : Now CurrentPlace CurrentEnd → Type 0) (place : Place) (seen : Li
       by_test P (same_stamp place.form found header) _ _
       (λ e. by_test P (is_locked place.form header || is_locked place.form found) _ _ (unsure e) (sure e)) old
 
-pub slot_goes : (P : Now SlotPlace SlotEnd → Type 0) (place : Place) (count found : ℕ)
+pub slot_goes : (P : Now SlotPoint SlotEnd → Type 0) (place : Place) (count found : ℕ)
     → (is_moved place.form found ≡ true → P (Over (Free count)))
     → (is_moved place.form found ≡ false → P (Over (NotMoved (slot_of place count) found)))
     → P (slot_after place (CheckHead count) found)
@@ -124,7 +124,7 @@ slot_goes P place count found free full = by_test P (is_moved place.form found) 
 
 -- 3. The ring
 
-module _ (P : Now RingPlace SearchEnd → Type 0) (place : Place) (seen : List ℕ) where
+module _ (P : Now RingPoint SearchEnd → Type 0) (place : Place) (seen : List ℕ) where
   pub next_slot_goes : (slot : ℕ) → (slot + 1 ≡ place.ring → P (Over NotThere))
       → (slot + 1 ≢ place.ring → P (At (SlotHead (slot + 1)))) → P (next_slot place slot)
   next_slot_goes slot last next = by_equal P (slot + 1) place.ring _ _ last next
@@ -171,7 +171,7 @@ module _ (P : Now RingPlace SearchEnd → Type 0) (place : Place) (seen : List �
 
 -- 4. The claim of a cell
 
-module _ (P : Now ClaimPlace ClaimEnd → Type 0) (cells : Cells) where
+module _ (P : Now ClaimPoint ClaimEnd → Type 0) (cells : Cells) where
   pub claim_next_goes : (cell : ℕ) → (cell + 1 ≡ cells.cells → P (Over NoRoom))
       → (cell + 1 ≢ cells.cells → P (At (ClaimLook (cell + 1)))) → P (claim_next cells cell)
   claim_next_goes cell last next = by_equal P (cell + 1) cells.cells _ _ last next
@@ -188,7 +188,7 @@ module _ (P : Now ClaimPlace ClaimEnd → Type 0) (cells : Cells) where
 
 -- 5. A collection
 
-module _ (P : Now CollectPlace (List ℕ) → Type 0) (cells : Cells) (workers : ℕ) (seen : List ℕ) where
+module _ (P : Now CollectPoint (List ℕ) → Type 0) (cells : Cells) (workers : ℕ) (seen : List ℕ) where
   pub entry_goes : (known : List ℕ) → (length known ≢ workers → P (At (HorizonLook known)))
       → (length known ≡ workers → P (At (CollectTag known 0))) → P (entry_known workers known)
   entry_goes known more all = by_equal (λ at. P (At at)) (length known) workers _ _ all more

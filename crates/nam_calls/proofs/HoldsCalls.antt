@@ -11,44 +11,44 @@ use Rattle.nam_header.specs.Stamp.{is_within}
 use Rattle.nam_header.specs.Tag.{has_next, is_free, is_full, written}
 use Rattle.nam_layout.specs.declared.field.Cells.{Cells}
 use Rattle.nam_layout.specs.declared.field.Place.{Place}
-use Rattle.nam_vector.specs.declared.snap.SnapPlace.TheVariants.{First, Second}
-use Rattle.nam_vector.specs.declared.snap.SnapPlace.{SnapPlace}
+use Rattle.nam_vector.specs.declared.snap.SnapPoint.TheVariants.{First, Second}
+use Rattle.nam_vector.specs.declared.snap.SnapPoint.{SnapPoint}
 use Rattle.nam_vector.specs.Snap.{snap_after}
 use Rattle.nam_vector.specs.declared.snap.SnapEnd.TheVariants as snap_end
-use Rattle.nam_calls.specs.declared.horizon.CollectPlace.TheVariants.{CollectEnding, CollectFree, CollectTag}
-use Rattle.nam_calls.specs.declared.horizon.CollectPlace.TheVariants.{HorizonLook, HorizonRaise}
-use Rattle.nam_calls.specs.declared.horizon.CollectPlace.{CollectPlace}
+use Rattle.nam_calls.specs.declared.horizon.CollectPoint.TheVariants.{CollectEnding, CollectFree, CollectTag}
+use Rattle.nam_calls.specs.declared.horizon.CollectPoint.TheVariants.{HorizonLook, HorizonRaise}
+use Rattle.nam_calls.specs.declared.horizon.CollectPoint.{CollectPoint}
 use Rattle.nam_calls.specs.declared.horizon.OldEnd.TheVariants.{TooOld, NotPassed}
 use Rattle.nam_calls.specs.declared.horizon.OldEnd.{OldEnd}
 use Rattle.nam_calls.specs.declared.lock.LockEnd.TheVariants.{Locked, Newer}
 use Rattle.nam_calls.specs.declared.lock.LockEnd.{LockEnd}
-use Rattle.nam_calls.specs.declared.lock.LockPlace.TheVariants.{GiveBack, Peek, Seize}
-use Rattle.nam_calls.specs.declared.lock.LockPlace.{LockPlace}
+use Rattle.nam_calls.specs.declared.lock.LockPoint.TheVariants.{GiveBack, Peek, Seize}
+use Rattle.nam_calls.specs.declared.lock.LockPoint.{LockPoint}
 use Rattle.nam_calls.specs.declared.mover.MoveAnswer.{MoveAnswer}
-use Rattle.nam_calls.specs.declared.mover.MovePlace.TheVariants.{MoveAgain, MoveBack, MoveClaim, MoveCount, MoveEnding}
-use Rattle.nam_calls.specs.declared.mover.MovePlace.TheVariants.{MoveFill, MoveFlag, MoveFull, MoveHead, MoveWords}
-use Rattle.nam_calls.specs.declared.mover.MovePlace.{MovePlace}
-use Rattle.nam_calls.specs.declared.overflow.CellPlace.TheVariants.{CellAgain, CellBegin, CellEnding, CellOwner}
-use Rattle.nam_calls.specs.declared.overflow.CellPlace.TheVariants.{CellTag, CellWords}
-use Rattle.nam_calls.specs.declared.overflow.CellPlace.{CellPlace}
+use Rattle.nam_calls.specs.declared.mover.MovePoint.TheVariants.{MoveAgain, MoveBack, MoveClaim, MoveCount, MoveEnding}
+use Rattle.nam_calls.specs.declared.mover.MovePoint.TheVariants.{MoveFill, MoveFlag, MoveFull, MoveHead, MoveWords}
+use Rattle.nam_calls.specs.declared.mover.MovePoint.{MovePoint}
+use Rattle.nam_calls.specs.declared.overflow.CellPoint.TheVariants.{CellAgain, CellBegin, CellEnding, CellOwner}
+use Rattle.nam_calls.specs.declared.overflow.CellPoint.TheVariants.{CellTag, CellWords}
+use Rattle.nam_calls.specs.declared.overflow.CellPoint.{CellPoint}
 use Rattle.nam_calls.specs.declared.overflow.ClaimEnd.TheVariants.{Claimed, NoRoom}
 use Rattle.nam_calls.specs.declared.overflow.ClaimEnd.{ClaimEnd}
-use Rattle.nam_calls.specs.declared.overflow.ClaimPlace.TheVariants.{ClaimLook, ClaimTake}
-use Rattle.nam_calls.specs.declared.overflow.ClaimPlace.{ClaimPlace}
-use Rattle.nam_calls.specs.declared.overflow.FillPlace.TheVariants.{FillBegin, FillEnding, FillOwner, FillWord}
-use Rattle.nam_calls.specs.declared.overflow.FillPlace.{FillPlace}
+use Rattle.nam_calls.specs.declared.overflow.ClaimPoint.TheVariants.{ClaimLook, ClaimTake}
+use Rattle.nam_calls.specs.declared.overflow.ClaimPoint.{ClaimPoint}
+use Rattle.nam_calls.specs.declared.overflow.FillPoint.TheVariants.{FillBegin, FillEnding, FillOwner, FillWord}
+use Rattle.nam_calls.specs.declared.overflow.FillPoint.{FillPoint}
 use Rattle.nam_calls.specs.declared.overflow.Version.{Version}
-use Rattle.nam_calls.specs.declared.reading.ReadPlace.TheVariants.{ReadCells, ReadCurrent, ReadHorizon, ReadRecheck}
-use Rattle.nam_calls.specs.declared.reading.ReadPlace.TheVariants.{ReadRing, ReadUnsure}
-use Rattle.nam_calls.specs.declared.reading.ReadPlace.{ReadPlace}
+use Rattle.nam_calls.specs.declared.reading.ReadPoint.TheVariants.{ReadCells, ReadCurrent, ReadHorizon, ReadRecheck}
+use Rattle.nam_calls.specs.declared.reading.ReadPoint.TheVariants.{ReadRing, ReadUnsure}
+use Rattle.nam_calls.specs.declared.reading.ReadPoint.{ReadPoint}
 use Rattle.nam_calls.specs.declared.reading.ReadingEnd.TheVariants.{Got}
 use Rattle.nam_calls.specs.declared.reading.ReadingEnd.{ReadingEnd}
 use Rattle.nam_calls.specs.declared.reading.Sight.{Sight}
 use Rattle.nam_calls.specs.declared.record.CurrentEnd.{CurrentEnd}
-use Rattle.nam_calls.specs.declared.record.CurrentPlace.TheVariants.{CurrentAgain, CurrentHead, CurrentWords}
-use Rattle.nam_calls.specs.declared.record.CurrentPlace.{CurrentPlace}
-use Rattle.nam_calls.specs.declared.ring.RingPlace.TheVariants.{SlotAgain, SlotEnding, SlotHead, SlotWords}
-use Rattle.nam_calls.specs.declared.ring.RingPlace.{RingPlace}
+use Rattle.nam_calls.specs.declared.record.CurrentPoint.TheVariants.{CurrentAgain, CurrentHead, CurrentWords}
+use Rattle.nam_calls.specs.declared.record.CurrentPoint.{CurrentPoint}
+use Rattle.nam_calls.specs.declared.ring.RingPoint.TheVariants.{SlotAgain, SlotEnding, SlotHead, SlotWords}
+use Rattle.nam_calls.specs.declared.ring.RingPoint.{RingPoint}
 use Rattle.nam_calls.specs.declared.ring.SearchEnd.TheVariants.{Found, NotThere}
 use Rattle.nam_calls.specs.declared.ring.SearchEnd.{SearchEnd}
 use Rattle.nam_calls.specs.Holds.{AreWords, CellHolds, ClaimEndHolds, ClaimHolds, CollectHolds, CurrentEndHolds}
@@ -71,7 +71,7 @@ use Rattle.nam_calls.specs.declared.record.CurrentEnd.TheVariants as current
 
 -- 1. A snapshot
 
-pub snap_holds : (workers : ℕ) (at : SnapPlace) (found : ℕ) → SnapHolds at → IsWord found
+pub snap_holds : (workers : ℕ) (at : SnapPoint) (found : ℕ) → SnapHolds at → IsWord found
     → HoldsNow SnapHolds SnapEndHolds (snap_after workers at found)
 snap_holds workers (First got) found h is =
     let all = words_push got found h is in
@@ -87,10 +87,10 @@ snap_holds workers (Second seen at) found h is =
 -- 2. A read
 
 module _ (place : Place) (seen : List ℕ) where
-  abbrev Current : Now CurrentPlace CurrentEnd → Type 0
+  abbrev Current : Now CurrentPoint CurrentEnd → Type 0
   Current = HoldsNow CurrentHolds CurrentEndHolds
 
-  current_holds : (at : CurrentPlace) (found : ℕ) → CurrentHolds at → IsWord found
+  current_holds : (at : CurrentPoint) (found : ℕ) → CurrentHolds at → IsWord found
       → Current (current_after place seen at found)
   current_holds CurrentHead found h is =
       either Current (sees place.form seen found)
@@ -106,7 +106,7 @@ module _ (place : Place) (seen : List ℕ) where
       (if locked then Over (current.Unsure value header) else Over (current.Found (Some value))) (Over current.GoOld)
       (either Current locked (Over (current.Unsure value header)) (Over (current.Found (Some value))) h h) tt
 
-  abbrev Ring : Now RingPlace SearchEnd → Type 0
+  abbrev Ring : Now RingPoint SearchEnd → Type 0
   Ring = HoldsNow RingHolds SearchHolds
 
   next_slot_holds : (slot : ℕ) → Ring (next_slot place slot)
@@ -115,7 +115,7 @@ module _ (place : Place) (seen : List ℕ) where
   value_or_none : (deleted : Bool) (value : List ℕ) → AreWords value → HasWords (if deleted then None else Some value)
   value_or_none deleted value all = either HasWords deleted None (Some value) tt all
 
-  ring_holds : (at : RingPlace) (found : ℕ) → RingHolds at → IsWord found → Ring (ring_after place seen at found)
+  ring_holds : (at : RingPoint) (found : ℕ) → RingHolds at → IsWord found → Ring (ring_after place seen at found)
   ring_holds (SlotHead slot) found h is =
       either Ring ((found == mark) || not (sees place.form seen found)) (next_slot place slot)
       (At (SlotEnding slot found)) (next_slot_holds slot) tt
@@ -131,13 +131,13 @@ module _ (place : Place) (seen : List ℕ) where
       (value_or_none (is_deleted place.form header) value h) (next_slot_holds slot)
 
   module _ (cells : Cells) where
-    abbrev Search : Now CellPlace SearchEnd → Type 0
+    abbrev Search : Now CellPoint SearchEnd → Type 0
     Search = HoldsNow CellHolds SearchHolds
 
     next_cell_holds : (cell : ℕ) → Search (next_cell cells cell)
     next_cell_holds cell = either Search (cell + 1 == cells.cells) (Over NotThere) (At (CellTag (cell + 1))) tt tt
 
-    cell_holds : (at : CellPlace) (found : ℕ) → CellHolds at → IsWord found
+    cell_holds : (at : CellPoint) (found : ℕ) → CellHolds at → IsWord found
         → Search (cell_after cells place seen at found)
     cell_holds (CellTag cell) found h is =
         either Search (is_full found) (At (CellOwner cell found)) (next_cell cells cell) tt (next_cell_holds cell)
@@ -157,28 +157,28 @@ module _ (place : Place) (seen : List ℕ) where
         either Search (found == tag) (Over (Found (if is_deleted place.form header then None else Some value)))
         (next_cell cells cell) (value_or_none (is_deleted place.form header) value h) (next_cell_holds cell)
 
-abbrev Reads : Now ReadPlace ReadingEnd → Type 0
+abbrev Reads : Now ReadPoint ReadingEnd → Type 0
 Reads = HoldsNow ReadHolds ReadingHolds
 
-on_current_holds : (now : Now CurrentPlace CurrentEnd) → HoldsNow CurrentHolds CurrentEndHolds now
+on_current_holds : (now : Now CurrentPoint CurrentEnd) → HoldsNow CurrentHolds CurrentEndHolds now
     → Reads (on_current now)
 on_current_holds (At at) h = h
 on_current_holds (Over (current.Found value)) h = h
 on_current_holds (Over (current.Unsure value header)) h = (h, tt)
 on_current_holds (Over current.GoOld) h = tt
 
-on_unsure_holds : (value : List ℕ) (header : ℕ) (now : Now RingPlace SearchEnd) → AreWords value
+on_unsure_holds : (value : List ℕ) (header : ℕ) (now : Now RingPoint SearchEnd) → AreWords value
     → HoldsNow RingHolds SearchHolds now → Reads (on_unsure value header now)
 on_unsure_holds value header (At at) v h = (v, h)
 on_unsure_holds value header (Over (Found old)) v h = h
 on_unsure_holds value header (Over NotThere) v h = v
 
-on_ring_holds : (now : Now RingPlace SearchEnd) → HoldsNow RingHolds SearchHolds now → Reads (on_ring now)
+on_ring_holds : (now : Now RingPoint SearchEnd) → HoldsNow RingHolds SearchHolds now → Reads (on_ring now)
 on_ring_holds (At at) h = h
 on_ring_holds (Over (Found old)) h = h
 on_ring_holds (Over NotThere) h = tt
 
-on_cells_holds : (now : Now CellPlace SearchEnd) → HoldsNow CellHolds SearchHolds now → Reads (on_cells now)
+on_cells_holds : (now : Now CellPoint SearchEnd) → HoldsNow CellHolds SearchHolds now → Reads (on_cells now)
 on_cells_holds (At at) h = h
 on_cells_holds (Over (Found old)) h = h
 on_cells_holds (Over NotThere) h = tt
@@ -188,7 +188,7 @@ on_horizon_holds (At worker) = tt
 on_horizon_holds (Over (TooOld worker entry horizon)) = tt
 on_horizon_holds (Over NotPassed) = tt
 
-pub read_holds : (sight : Sight) (seen : List ℕ) (at : ReadPlace) (found : ℕ) → ReadHolds at → IsWord found
+pub read_holds : (sight : Sight) (seen : List ℕ) (at : ReadPoint) (found : ℕ) → ReadHolds at → IsWord found
     → Reads (read_after sight seen at found)
 read_holds sight seen (ReadCurrent at) found h is = on_current_holds _ (current_holds sight.place seen at found h is)
 read_holds sight seen (ReadUnsure value header at) found h is =
@@ -210,7 +210,7 @@ value_holds place got found h is =
 -- 3. Locks
 
 module _ (places : List Place) where
-  abbrev Locks : Now LockPlace LockEnd → Type 0
+  abbrev Locks : Now LockPoint LockEnd → Type 0
   Locks = HoldsNow LockHolds LockEndHolds
 
   loss_holds : (form : Form) (nth found : ℕ) → LockEndHolds (loss_of form nth found)
@@ -222,7 +222,7 @@ module _ (places : List Place) where
       (Over (loss_of (nth_place places (length held)).form (length held) found)) (At (GiveBack held given found))
       (loss_holds (nth_place places (length held)).form (length held) found) h
 
-  pub lock_holds : (seen : List ℕ) (at : LockPlace) (found : ℕ) → LockHolds at → IsWord found
+  pub lock_holds : (seen : List ℕ) (at : LockPoint) (found : ℕ) → LockHolds at → IsWord found
       → Locks (lock_after places seen at found)
   lock_holds seen (Peek held) found h is =
       let form = (nth_place places (length held)).form in
@@ -239,7 +239,7 @@ module _ (places : List Place) where
       (give_back_holds held 0 found h.0)
   lock_holds seen (GiveBack held given word) found h is = give_back_holds held (given + 1) word h
 
-  pub lock_word : (worker : ℕ) (at : LockPlace) → worker ≤ MOST_WORKERS → LockHolds at
+  pub lock_word : (worker : ℕ) (at : LockPoint) → worker ≤ MOST_WORKERS → LockHolds at
       → WritesWord (lock_verb worker places at)
   lock_word worker (Peek held) l h = tt
   lock_word worker (Seize held header) l h =
@@ -249,34 +249,34 @@ module _ (places : List Place) where
 -- 4. A move
 
 module _ (place : Place) (cells : Cells) where
-  abbrev Moves : Now MovePlace MoveAnswer → Type 0
+  abbrev Moves : Now MovePoint MoveAnswer → Type 0
   Moves = HoldsNow MoveHolds Any
 
-  abbrev Claims : Now ClaimPlace ClaimEnd → Type 0
+  abbrev Claims : Now ClaimPoint ClaimEnd → Type 0
   Claims = HoldsNow ClaimHolds ClaimEndHolds
 
   claim_next_holds : (cell : ℕ) → Claims (claim_next cells cell)
   claim_next_holds cell = either Claims (cell + 1 == cells.cells) (Over NoRoom) (At (ClaimLook (cell + 1))) tt tt
 
-  claim_holds : (at : ClaimPlace) (found : ℕ) → ClaimHolds at → IsWord found → Claims (claim_after cells at found)
+  claim_holds : (at : ClaimPoint) (found : ℕ) → ClaimHolds at → IsWord found → Claims (claim_after cells at found)
   claim_holds (ClaimLook cell) found h is =
       either Claims (is_free found) (At (ClaimTake cell found)) (claim_next cells cell) is (claim_next_holds cell)
   claim_holds (ClaimTake cell tag) found h is =
       either Claims (found == tag) (Over (Claimed cell (written tag))) (claim_next cells cell) (written_word tag h)
       (claim_next_holds cell)
 
-  on_claim_holds : (slot header ending : ℕ) (now : Now ClaimPlace ClaimEnd) → IsWord header → IsWord ending
+  on_claim_holds : (slot header ending : ℕ) (now : Now ClaimPoint ClaimEnd) → IsWord header → IsWord ending
       → Claims now → Moves (on_claim cells slot header ending now)
   on_claim_holds slot header ending (At at) h e c = (h, e, c)
   on_claim_holds slot header ending (Over (Claimed cell tag)) h e c = (h, e, c, tt)
   on_claim_holds slot header ending (Over NoRoom) h e c = tt
 
-  on_fill_holds : (slot header cell tag : ℕ) (version : Version) (now : Now FillPlace (Unit {0})) → IsWord header
+  on_fill_holds : (slot header cell tag : ℕ) (version : Version) (now : Now FillPoint (Unit {0})) → IsWord header
       → IsWord tag → VersionHolds version → Moves (on_fill slot header cell tag version now)
   on_fill_holds slot header cell tag version (At at) h t v = (h, t, v)
   on_fill_holds slot header cell tag version (Over done) h t v = (h, t)
 
-  pub move_holds : (at : MovePlace) (found : ℕ) → MoveHolds at → IsWord found → Moves (move_after place cells at found)
+  pub move_holds : (at : MovePoint) (found : ℕ) → MoveHolds at → IsWord found → Moves (move_after place cells at found)
   move_holds MoveCount found h is = tt
   move_holds (MoveHead slot) found h is =
       either Moves (is_moved place.form found) (Over move_end.Nothing) (At (MoveEnding slot found)) tt is
@@ -297,18 +297,18 @@ module _ (place : Place) (cells : Cells) where
   move_holds (MoveFlag slot header) found h is = tt
   move_holds (MoveBack header cell tag) found h is = tt
 
-  claim_word : (at : ClaimPlace) → ClaimHolds at → WritesWord (claim_verb cells at)
+  claim_word : (at : ClaimPoint) → ClaimHolds at → WritesWord (claim_verb cells at)
   claim_word (ClaimLook cell) h = tt
   claim_word (ClaimTake cell tag) h = written_word tag h
 
-  fill_word : (cell owner : ℕ) (version : Version) (at : FillPlace) → IsWord owner → VersionHolds version
+  fill_word : (cell owner : ℕ) (version : Version) (at : FillPoint) → IsWord owner → VersionHolds version
       → WritesWord (fill_verb cells cell owner version at)
   fill_word cell owner version FillOwner o v = o
   fill_word cell owner version FillBegin o v = v.0
   fill_word cell owner version FillEnding o v = v.1
   fill_word cell owner version (FillWord nth) o v = words_at version.value nth v.2
 
-  pub move_word : (at : MovePlace) → IsWord place.row → MoveHolds at → WritesWord (move_verb place cells at)
+  pub move_word : (at : MovePoint) → IsWord place.row → MoveHolds at → WritesWord (move_verb place cells at)
   move_word MoveCount r h = tt
   move_word (MoveHead slot) r h = tt
   move_word (MoveEnding slot header) r h = tt
@@ -323,7 +323,7 @@ module _ (place : Place) (cells : Cells) where
 -- 5. A collection
 
 module _ (cells : Cells) (seen : List ℕ) where
-  abbrev Collects : Now CollectPlace (List ℕ) → Type 0
+  abbrev Collects : Now CollectPoint (List ℕ) → Type 0
   Collects = HoldsNow CollectHolds Any
 
   known_holds : (workers : ℕ) (known : List ℕ) → Collects (entry_known workers known)
@@ -333,7 +333,7 @@ module _ (cells : Cells) (seen : List ℕ) where
   collect_next_holds known cell =
       either Collects (cell + 1 == cells.cells) (Over known) (At (CollectTag known (cell + 1))) tt tt
 
-  pub collect_holds : (workers : ℕ) (at : CollectPlace) (found : ℕ) → CollectHolds at → IsWord found
+  pub collect_holds : (workers : ℕ) (at : CollectPoint) (found : ℕ) → CollectHolds at → IsWord found
       → Collects (collect_after cells workers seen at found)
   collect_holds workers (HorizonLook known) found h is =
       either Collects (nat_lt found (slice_index seen (length known))) (At (HorizonRaise known found))
@@ -347,7 +347,7 @@ module _ (cells : Cells) (seen : List ℕ) where
       (collect_next cells known cell) h (collect_next_holds known cell)
   collect_holds workers (CollectFree known cell tag) found h is = collect_next_holds known cell
 
-  pub collect_word : (at : CollectPlace) → AreWords seen → CollectHolds at → WritesWord (collect_verb cells seen at)
+  pub collect_word : (at : CollectPoint) → AreWords seen → CollectHolds at → WritesWord (collect_verb cells seen at)
   collect_word (HorizonLook known) s h = tt
   collect_word (HorizonRaise known found) s h = words_at seen (length known) s
   collect_word (CollectTag known cell) s h = tt

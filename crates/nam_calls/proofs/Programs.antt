@@ -71,7 +71,7 @@ module _ {S A : Type 0} (stands : S → Now (VerbAt Field) A) (after : S → ℕ
 
   -- 3. Words
 
-  -- places for the words got so far, and after the last
+  -- points for the words got so far, and after the last
   module _ (at : ℕ → Field) (width : ℕ) (more done : List ℕ → S) (rest : List ℕ → Prog A)
       (stands_more : (got : List ℕ) → stands (more got) ≡ At (ReadAt (at (length got))))
       (after_more : (got : List ℕ) (word : ℕ) → after (more got) word ≡ until width (got ++ word ∷ []) more done)

@@ -4,8 +4,8 @@ use Rattle.std.specs.Prelude.{if◌then◌else◌, ◌==◌}
 use Rattle.nam_verbs.specs.declared.now.Now.{Now}
 use Rattle.nam_verbs.specs.declared.now.Now.TheVariants.{At, Over}
 use Rattle.nam_calls.specs.declared.index.FindEnd.{FindEnd}
-use Rattle.nam_calls.specs.declared.index.ClaimKeyPlace.{ClaimKeyPlace}
-use Rattle.nam_calls.specs.declared.index.ClaimKeyPlace.TheVariants.{KeyLook}
+use Rattle.nam_calls.specs.declared.index.ClaimKeyPoint.{ClaimKeyPoint}
+use Rattle.nam_calls.specs.declared.index.ClaimKeyPoint.TheVariants.{KeyLook}
 use Rattle.nam_calls.specs.declared.index.ClaimKeyEnd.{ClaimKeyEnd}
 use Rattle.nam_calls.specs.Words.{key_word}
 use Rattle.nam_calls.specs.Index.{find_verb, find_after, claim_key_verb, claim_key_after, claim_key_next}
@@ -52,7 +52,7 @@ module _ (path : Path) where
 
   -- 2. FindOrClaim
 
-  abbrev IsClaim : Now ClaimKeyPlace ClaimKeyEnd → Prog ClaimKeyEnd → Type 0
+  abbrev IsClaim : Now ClaimKeyPoint ClaimKeyEnd → Prog ClaimKeyEnd → Type 0
   IsClaim = IsProgram (standing (claim_key_verb path)) (taking (claim_key_after path))
 
   position_is : (rest passed : ℕ) → IsClaim (claim_key_next path passed) (claim_from path rest (passed + 1))

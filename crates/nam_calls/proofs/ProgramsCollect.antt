@@ -9,13 +9,13 @@ use Rattle.nam_verbs.proofs.TestLemmas.{if_in}
 use Rattle.nam_header.specs.Stamp.{stamp_in, is_within}
 use Rattle.nam_header.specs.Tag.{is_full, has_next}
 use Rattle.nam_layout.specs.declared.field.Cells.{Cells}
-use Rattle.nam_vector.specs.declared.snap.SnapPlace.{SnapPlace}
-use Rattle.nam_vector.specs.declared.snap.SnapPlace.TheVariants.{First, Second}
+use Rattle.nam_vector.specs.declared.snap.SnapPoint.{SnapPoint}
+use Rattle.nam_vector.specs.declared.snap.SnapPoint.TheVariants.{First, Second}
 use Rattle.nam_vector.specs.declared.snap.SnapEnd.{SnapEnd}
 use Rattle.nam_vector.specs.declared.snap.SnapEnd.TheVariants.{Done}
 use Rattle.nam_vector.specs.Snap.{snap_begin, snap_verb, snap_after, nth_entry}
-use Rattle.nam_calls.specs.declared.horizon.CollectPlace.{CollectPlace}
-use Rattle.nam_calls.specs.declared.horizon.CollectPlace.TheVariants.{HorizonLook, CollectTag}
+use Rattle.nam_calls.specs.declared.horizon.CollectPoint.{CollectPoint}
+use Rattle.nam_calls.specs.declared.horizon.CollectPoint.TheVariants.{HorizonLook, CollectTag}
 use Rattle.nam_calls.specs.Horizon.{collect_begin, collect_verb, collect_after, collect_next, entry_known}
 use Rattle.nam_calls.specs.Program.{Prog, ◌>>=◌, IsProgram, standing, taking}
 use Rattle.nam_calls.specs.ProgramCollect.{second_pass, snap_program, raised, raise_entries, free_cells}
@@ -26,7 +26,7 @@ use Rattle.nam_calls.proofs.Programs.{the_program}
 -- 1. The snapshot
 
 module _ (workers : ℕ) (some : 0 < workers) where
-  abbrev IsSnap : Now SnapPlace SnapEnd → Prog SnapEnd → Type 0
+  abbrev IsSnap : Now SnapPoint SnapEnd → Prog SnapEnd → Type 0
   IsSnap = IsProgram (standing snap_verb) (taking (snap_after workers))
 
   entry_is : (seen : List ℕ) (rest entry : ℕ)
@@ -59,7 +59,7 @@ module _ (workers : ℕ) (some : 0 < workers) where
 -- 2. The collection
 
 module _ (cells : Cells) (workers : ℕ) (seen : List ℕ) (some : 0 < workers) (room : 0 < cells.cells) where
-  abbrev IsCollect : Now CollectPlace (List ℕ) → Prog (List ℕ) → Type 0
+  abbrev IsCollect : Now CollectPoint (List ℕ) → Prog (List ℕ) → Type 0
   IsCollect = IsProgram (standing (collect_verb cells seen)) (taking (collect_after cells workers seen))
 
   cell_is : (known : List ℕ) (rest cell : ℕ)

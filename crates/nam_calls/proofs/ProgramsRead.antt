@@ -11,20 +11,20 @@ use Rattle.nam_header.specs.Tag.{is_full}
 use Rattle.nam_layout.specs.declared.field.Place.{Place}
 use Rattle.nam_layout.specs.declared.field.Cells.{Cells}
 use Rattle.nam_layout.specs.declared.field.Field.TheVariants as field
-use Rattle.nam_calls.specs.declared.record.CurrentPlace.{CurrentPlace}
-use Rattle.nam_calls.specs.declared.record.CurrentPlace.TheVariants.{CurrentWords, CurrentAgain}
+use Rattle.nam_calls.specs.declared.record.CurrentPoint.{CurrentPoint}
+use Rattle.nam_calls.specs.declared.record.CurrentPoint.TheVariants.{CurrentWords, CurrentAgain}
 use Rattle.nam_calls.specs.declared.record.CurrentEnd.{CurrentEnd}
-use Rattle.nam_calls.specs.declared.ring.RingPlace.{RingPlace}
-use Rattle.nam_calls.specs.declared.ring.RingPlace.TheVariants.{SlotHead, SlotWords, SlotAgain}
+use Rattle.nam_calls.specs.declared.ring.RingPoint.{RingPoint}
+use Rattle.nam_calls.specs.declared.ring.RingPoint.TheVariants.{SlotHead, SlotWords, SlotAgain}
 use Rattle.nam_calls.specs.declared.ring.SearchEnd.{SearchEnd}
 use Rattle.nam_calls.specs.declared.ring.SearchEnd.TheVariants.{Found, NotThere}
-use Rattle.nam_calls.specs.declared.overflow.CellPlace.{CellPlace}
-use Rattle.nam_calls.specs.declared.overflow.CellPlace.TheVariants.{CellTag, CellWords, CellAgain}
+use Rattle.nam_calls.specs.declared.overflow.CellPoint.{CellPoint}
+use Rattle.nam_calls.specs.declared.overflow.CellPoint.TheVariants.{CellTag, CellWords, CellAgain}
 use Rattle.nam_calls.specs.declared.horizon.OldEnd.{OldEnd}
 use Rattle.nam_calls.specs.declared.horizon.OldEnd.TheVariants.{TooOld, NotPassed}
 use Rattle.nam_calls.specs.declared.reading.Sight.{Sight}
-use Rattle.nam_calls.specs.declared.reading.ReadPlace.{ReadPlace}
-use Rattle.nam_calls.specs.declared.reading.ReadPlace.TheVariants.{ReadCurrent, ReadUnsure, ReadRing}
+use Rattle.nam_calls.specs.declared.reading.ReadPoint.{ReadPoint}
+use Rattle.nam_calls.specs.declared.reading.ReadPoint.TheVariants.{ReadCurrent, ReadUnsure, ReadRing}
 use Rattle.nam_calls.specs.declared.reading.ReadingEnd.{ReadingEnd}
 use Rattle.nam_calls.specs.Ring.{ring_begin, ring_verb, ring_after, next_slot}
 use Rattle.nam_calls.specs.Overflow.{cell_begin, cell_verb, cell_after, next_cell}
@@ -41,7 +41,7 @@ use Rattle.nam_calls.specs.declared.reading.ReadingEnd.TheVariants as read_end
 module _ (place : Place) (seen : List ℕ) (wide : 0 < place.width) where
   -- 1. The search of the ring
 
-  abbrev IsRing : Now RingPlace SearchEnd → Prog SearchEnd → Type 0
+  abbrev IsRing : Now RingPoint SearchEnd → Prog SearchEnd → Type 0
   IsRing = IsProgram (standing (ring_verb place)) (taking (ring_after place seen))
 
   -- a slot, where the next ones are known
@@ -75,7 +75,7 @@ module _ (place : Place) (seen : List ℕ) (wide : 0 < place.width) where
   -- 2. The search of the cells
 
   module _ (cells : Cells) where
-    abbrev IsCells : Now CellPlace SearchEnd → Prog SearchEnd → Type 0
+    abbrev IsCells : Now CellPoint SearchEnd → Prog SearchEnd → Type 0
     IsCells = IsProgram (standing (cell_verb cells)) (taking (cell_after cells place seen))
 
     cell_is : (rest cell : ℕ) → IsCells (next_cell cells cell) (search_cells place seen cells rest (cell + 1))
@@ -137,7 +137,7 @@ module _ (workers : ℕ) (seen : List ℕ) where
 -- 4. The whole read
 
 module _ (sight : Sight) (seen : List ℕ) (has : SightHasAll sight) where
-  abbrev IsRead : Now ReadPlace ReadingEnd → Prog ReadingEnd → Type 0
+  abbrev IsRead : Now ReadPoint ReadingEnd → Prog ReadingEnd → Type 0
   IsRead = IsProgram (standing (read_verb sight)) (taking (read_after sight seen))
 
   horizon_is : (end : OldEnd) → IsRead (on_horizon (Over end)) (Ret (reading_end end))
@@ -196,7 +196,7 @@ module _ (sight : Sight) (seen : List ℕ) (has : SightHasAll sight) where
       (search_ring sight.place seen sight.place.ring 0)
       (ring_of sight.place seen has.words sight.place.ring refl has.slots)
 
-  abbrev IsCurrent : Now CurrentPlace CurrentEnd → Prog ReadingEnd → Type 0
+  abbrev IsCurrent : Now CurrentPoint CurrentEnd → Prog ReadingEnd → Type 0
   IsCurrent now = IsRead (on_current now)
 
   pub read_is : IsRead (At read_begin) (read_program sight seen)

@@ -10,14 +10,14 @@ use Rattle.nam_layout.specs.declared.field.Place.{Place}
 use Rattle.nam_layout.specs.declared.field.Cells.{Cells}
 use Rattle.nam_layout.specs.Place.{slot_of}
 use Rattle.nam_layout.specs.declared.field.Field.TheVariants as field
-use Rattle.nam_calls.specs.declared.overflow.ClaimPlace.{ClaimPlace}
-use Rattle.nam_calls.specs.declared.overflow.ClaimPlace.TheVariants.{ClaimLook}
+use Rattle.nam_calls.specs.declared.overflow.ClaimPoint.{ClaimPoint}
+use Rattle.nam_calls.specs.declared.overflow.ClaimPoint.TheVariants.{ClaimLook}
 use Rattle.nam_calls.specs.declared.overflow.ClaimEnd.{ClaimEnd}
 use Rattle.nam_calls.specs.declared.overflow.ClaimEnd.TheVariants.{Claimed, NoRoom}
-use Rattle.nam_calls.specs.declared.overflow.FillPlace.TheVariants.{FillWord}
+use Rattle.nam_calls.specs.declared.overflow.FillPoint.TheVariants.{FillWord}
 use Rattle.nam_calls.specs.declared.overflow.Version.{Version}
-use Rattle.nam_calls.specs.declared.mover.MovePlace.{MovePlace}
-use Rattle.nam_calls.specs.declared.mover.MovePlace.TheVariants.{MoveWords, MoveFill, MoveAgain}
+use Rattle.nam_calls.specs.declared.mover.MovePoint.{MovePoint}
+use Rattle.nam_calls.specs.declared.mover.MovePoint.TheVariants.{MoveWords, MoveFill, MoveAgain}
 use Rattle.nam_calls.specs.declared.mover.MoveAnswer.{MoveAnswer}
 use Rattle.nam_calls.specs.Overflow.{claim_begin, claim_verb, claim_after, claim_next, fill_begin}
 use Rattle.nam_calls.specs.Mover.{move_begin, move_verb, move_after, on_claim, on_fill}
@@ -29,7 +29,7 @@ use Rattle.nam_calls.proofs.Programs.{the_program}
 -- 1. The claim of a cell
 
 module _ (cells : Cells) where
-  abbrev IsClaim : Now ClaimPlace ClaimEnd → Prog ClaimEnd → Type 0
+  abbrev IsClaim : Now ClaimPoint ClaimEnd → Prog ClaimEnd → Type 0
   IsClaim = IsProgram (standing (claim_verb cells)) (taking (claim_after cells))
 
   cell_is : (rest cell : ℕ) → IsClaim (claim_next cells cell) (claim_cell cells rest (cell + 1))
@@ -57,7 +57,7 @@ module _ (cells : Cells) where
 -- 2. The move
 
 module _ (place : Place) (cells : Cells) (wide : 0 < place.width) (some : 0 < cells.cells) where
-  abbrev IsMove : Now MovePlace MoveAnswer → Prog MoveAnswer → Type 0
+  abbrev IsMove : Now MovePoint MoveAnswer → Prog MoveAnswer → Type 0
   IsMove = IsProgram (standing (move_verb place cells)) (taking (move_after place cells))
 
   abbrev version_of : ℕ → ℕ → List ℕ → Version

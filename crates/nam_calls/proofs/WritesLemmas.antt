@@ -1,45 +1,45 @@
--- Which field the verb of a place may change, and that a read changes none.
+-- Which field the verb of a point may change, and that a read changes none.
 use Rattle.std.proofs.Common.{List, None, Option, refl, ℕ, ◌≡◌, sym}
 use Rattle.si_model.specs.declared.log.Stamp.{Stamp}
 use Rattle.nam_verbs.specs.VerbAt.{ExchangeAt, ReadAt, VerbAt, WriteAt, left_at, target}
 use Rattle.nam_layout.specs.declared.field.Cells.{Cells}
 use Rattle.nam_layout.specs.declared.field.Place.{Place}
-use Rattle.nam_vector.specs.declared.snap.SnapPlace.TheVariants.{First, Second}
-use Rattle.nam_vector.specs.declared.snap.SnapPlace.{SnapPlace}
+use Rattle.nam_vector.specs.declared.snap.SnapPoint.TheVariants.{First, Second}
+use Rattle.nam_vector.specs.declared.snap.SnapPoint.{SnapPoint}
 use Rattle.nam_vector.specs.Snap.{snap_verb}
-use Rattle.nam_calls.specs.declared.horizon.CollectPlace.TheVariants.{CollectEnding, CollectFree, CollectTag}
-use Rattle.nam_calls.specs.declared.horizon.CollectPlace.TheVariants.{HorizonLook, HorizonRaise}
-use Rattle.nam_calls.specs.declared.horizon.CollectPlace.{CollectPlace}
-use Rattle.nam_calls.specs.declared.index.ClaimKeyPlace.TheVariants.{KeyLook, KeyTake}
-use Rattle.nam_calls.specs.declared.index.ClaimKeyPlace.{ClaimKeyPlace}
+use Rattle.nam_calls.specs.declared.horizon.CollectPoint.TheVariants.{CollectEnding, CollectFree, CollectTag}
+use Rattle.nam_calls.specs.declared.horizon.CollectPoint.TheVariants.{HorizonLook, HorizonRaise}
+use Rattle.nam_calls.specs.declared.horizon.CollectPoint.{CollectPoint}
+use Rattle.nam_calls.specs.declared.index.ClaimKeyPoint.TheVariants.{KeyLook, KeyTake}
+use Rattle.nam_calls.specs.declared.index.ClaimKeyPoint.{ClaimKeyPoint}
 use Rattle.nam_calls.specs.declared.index.Path.{Path}
-use Rattle.nam_calls.specs.declared.lock.LockPlace.TheVariants.{GiveBack, Peek, Seize}
-use Rattle.nam_calls.specs.declared.lock.LockPlace.{LockPlace}
-use Rattle.nam_calls.specs.declared.mover.MovePlace.TheVariants.{MoveAgain, MoveBack, MoveClaim, MoveCount, MoveEnding}
-use Rattle.nam_calls.specs.declared.mover.MovePlace.TheVariants.{MoveFill, MoveFlag, MoveFull, MoveHead, MoveWords}
-use Rattle.nam_calls.specs.declared.mover.MovePlace.{MovePlace}
-use Rattle.nam_calls.specs.declared.overflow.CellPlace.TheVariants.{CellAgain, CellBegin, CellEnding, CellOwner}
-use Rattle.nam_calls.specs.declared.overflow.CellPlace.TheVariants.{CellTag, CellWords}
-use Rattle.nam_calls.specs.declared.overflow.CellPlace.{CellPlace}
-use Rattle.nam_calls.specs.declared.overflow.ClaimPlace.TheVariants.{ClaimLook, ClaimTake}
-use Rattle.nam_calls.specs.declared.overflow.ClaimPlace.{ClaimPlace}
-use Rattle.nam_calls.specs.declared.overflow.FillPlace.TheVariants.{FillBegin, FillEnding, FillOwner, FillWord}
-use Rattle.nam_calls.specs.declared.overflow.FillPlace.{FillPlace}
+use Rattle.nam_calls.specs.declared.lock.LockPoint.TheVariants.{GiveBack, Peek, Seize}
+use Rattle.nam_calls.specs.declared.lock.LockPoint.{LockPoint}
+use Rattle.nam_calls.specs.declared.mover.MovePoint.TheVariants.{MoveAgain, MoveBack, MoveClaim, MoveCount, MoveEnding}
+use Rattle.nam_calls.specs.declared.mover.MovePoint.TheVariants.{MoveFill, MoveFlag, MoveFull, MoveHead, MoveWords}
+use Rattle.nam_calls.specs.declared.mover.MovePoint.{MovePoint}
+use Rattle.nam_calls.specs.declared.overflow.CellPoint.TheVariants.{CellAgain, CellBegin, CellEnding, CellOwner}
+use Rattle.nam_calls.specs.declared.overflow.CellPoint.TheVariants.{CellTag, CellWords}
+use Rattle.nam_calls.specs.declared.overflow.CellPoint.{CellPoint}
+use Rattle.nam_calls.specs.declared.overflow.ClaimPoint.TheVariants.{ClaimLook, ClaimTake}
+use Rattle.nam_calls.specs.declared.overflow.ClaimPoint.{ClaimPoint}
+use Rattle.nam_calls.specs.declared.overflow.FillPoint.TheVariants.{FillBegin, FillEnding, FillOwner, FillWord}
+use Rattle.nam_calls.specs.declared.overflow.FillPoint.{FillPoint}
 use Rattle.nam_calls.specs.declared.overflow.Version.{Version}
-use Rattle.nam_calls.specs.declared.reading.ReadPlace.TheVariants.{ReadCells, ReadCurrent, ReadHorizon, ReadRecheck}
-use Rattle.nam_calls.specs.declared.reading.ReadPlace.TheVariants.{ReadRing, ReadUnsure}
-use Rattle.nam_calls.specs.declared.reading.ReadPlace.{ReadPlace}
+use Rattle.nam_calls.specs.declared.reading.ReadPoint.TheVariants.{ReadCells, ReadCurrent, ReadHorizon, ReadRecheck}
+use Rattle.nam_calls.specs.declared.reading.ReadPoint.TheVariants.{ReadRing, ReadUnsure}
+use Rattle.nam_calls.specs.declared.reading.ReadPoint.{ReadPoint}
 use Rattle.nam_calls.specs.declared.reading.Sight.{Sight}
-use Rattle.nam_calls.specs.declared.record.CurrentPlace.TheVariants.{CurrentAgain, CurrentHead, CurrentWords}
-use Rattle.nam_calls.specs.declared.record.CurrentPlace.{CurrentPlace}
-use Rattle.nam_calls.specs.declared.record.InstallPlace.TheVariants.{InstallCount, InstallHead, InstallWord}
-use Rattle.nam_calls.specs.declared.record.InstallPlace.{InstallPlace}
-use Rattle.nam_calls.specs.declared.ring.CopyPlace.TheVariants.{CopyEnding, CopyHead, CopyMark, CopyWord}
-use Rattle.nam_calls.specs.declared.ring.CopyPlace.{CopyPlace}
-use Rattle.nam_calls.specs.declared.ring.RingPlace.TheVariants.{SlotAgain, SlotEnding, SlotHead, SlotWords}
-use Rattle.nam_calls.specs.declared.ring.RingPlace.{RingPlace}
-use Rattle.nam_calls.specs.declared.ring.SlotPlace.TheVariants.{CheckCount, CheckHead}
-use Rattle.nam_calls.specs.declared.ring.SlotPlace.{SlotPlace}
+use Rattle.nam_calls.specs.declared.record.CurrentPoint.TheVariants.{CurrentAgain, CurrentHead, CurrentWords}
+use Rattle.nam_calls.specs.declared.record.CurrentPoint.{CurrentPoint}
+use Rattle.nam_calls.specs.declared.record.InstallPoint.TheVariants.{InstallCount, InstallHead, InstallWord}
+use Rattle.nam_calls.specs.declared.record.InstallPoint.{InstallPoint}
+use Rattle.nam_calls.specs.declared.ring.CopyPoint.TheVariants.{CopyEnding, CopyHead, CopyMark, CopyWord}
+use Rattle.nam_calls.specs.declared.ring.CopyPoint.{CopyPoint}
+use Rattle.nam_calls.specs.declared.ring.RingPoint.TheVariants.{SlotAgain, SlotEnding, SlotHead, SlotWords}
+use Rattle.nam_calls.specs.declared.ring.RingPoint.{RingPoint}
+use Rattle.nam_calls.specs.declared.ring.SlotPoint.TheVariants.{CheckCount, CheckHead}
+use Rattle.nam_calls.specs.declared.ring.SlotPoint.{SlotPoint}
 use Rattle.nam_calls.specs.Holds.{WritesWord}
 use Rattle.nam_calls.specs.Horizon.{collect_verb}
 use Rattle.nam_calls.specs.Index.{claim_key_verb}
@@ -69,22 +69,22 @@ leaves_all words (ExchangeAt at expect word) e = absurd (none-some at (sym e))
 
 -- 2. Calls that only read
 
-pub snap_reads : (at : SnapPlace) → written_by (snap_verb at) ≡ None
+pub snap_reads : (at : SnapPoint) → written_by (snap_verb at) ≡ None
 snap_reads (First got) = refl
 snap_reads (Second seen at) = refl
 
-ring_reads : (place : Place) (at : RingPlace) → written_by (ring_verb place at) ≡ None
+ring_reads : (place : Place) (at : RingPoint) → written_by (ring_verb place at) ≡ None
 ring_reads place (SlotHead slot) = refl
 ring_reads place (SlotEnding slot header) = refl
 ring_reads place (SlotWords slot header got) = refl
 ring_reads place (SlotAgain slot header value) = refl
 
-current_reads : (place : Place) (at : CurrentPlace) → written_by (current_verb place at) ≡ None
+current_reads : (place : Place) (at : CurrentPoint) → written_by (current_verb place at) ≡ None
 current_reads place CurrentHead = refl
 current_reads place (CurrentWords header got) = refl
 current_reads place (CurrentAgain header value) = refl
 
-cell_reads : (cells : Cells) (at : CellPlace) → written_by (cell_verb cells at) ≡ None
+cell_reads : (cells : Cells) (at : CellPoint) → written_by (cell_verb cells at) ≡ None
 cell_reads cells (CellTag cell) = refl
 cell_reads cells (CellOwner cell tag) = refl
 cell_reads cells (CellBegin cell tag) = refl
@@ -92,7 +92,7 @@ cell_reads cells (CellEnding cell tag header) = refl
 cell_reads cells (CellWords cell tag header got) = refl
 cell_reads cells (CellAgain cell tag header value) = refl
 
-pub read_reads : (sight : Sight) (at : ReadPlace) → written_by (read_verb sight at) ≡ None
+pub read_reads : (sight : Sight) (at : ReadPoint) → written_by (read_verb sight at) ≡ None
 read_reads sight (ReadCurrent at) = current_reads sight.place at
 read_reads sight (ReadUnsure value header at) = ring_reads sight.place at
 read_reads sight (ReadRecheck value header) = refl
@@ -100,48 +100,48 @@ read_reads sight (ReadRing at) = ring_reads sight.place at
 read_reads sight (ReadCells at) = cell_reads sight.cells at
 read_reads sight (ReadHorizon worker) = refl
 
-pub slot_reads : (place : Place) (at : SlotPlace) → written_by (slot_verb place at) ≡ None
+pub slot_reads : (place : Place) (at : SlotPoint) → written_by (slot_verb place at) ≡ None
 slot_reads place CheckCount = refl
 slot_reads place (CheckHead count) = refl
 
 -- 3. Calls that write
 
-pub claim_key_written : (path : Path) (at : ClaimKeyPlace)
+pub claim_key_written : (path : Path) (at : ClaimKeyPoint)
     → written_by (claim_key_verb path at) ≡ claim_key_writes path at
 claim_key_written path (KeyLook passed) = refl
 claim_key_written path (KeyTake passed) = refl
 
-pub lock_written : (worker : ℕ) (places : List Place) (at : LockPlace)
+pub lock_written : (worker : ℕ) (places : List Place) (at : LockPoint)
     → written_by (lock_verb worker places at) ≡ lock_writes places at
 lock_written worker places (Peek held) = refl
 lock_written worker places (Seize held header) = refl
 lock_written worker places (GiveBack held given found) = refl
 
-pub copy_written : (place : Place) (count header : ℕ) (old : List ℕ) (ending : Stamp) (at : CopyPlace)
+pub copy_written : (place : Place) (count header : ℕ) (old : List ℕ) (ending : Stamp) (at : CopyPoint)
     → written_by (copy_verb place count header old ending at) ≡ copy_writes place count at
 copy_written place count header old ending CopyMark = refl
 copy_written place count header old ending CopyEnding = refl
 copy_written place count header old ending (CopyWord nth) = refl
 copy_written place count header old ending CopyHead = refl
 
-pub install_written : (place : Place) (value : Option (List ℕ)) (count header : ℕ) (at : InstallPlace)
+pub install_written : (place : Place) (value : Option (List ℕ)) (count header : ℕ) (at : InstallPoint)
     → written_by (install_verb place value count header at) ≡ install_writes place at
 install_written place value count header (InstallWord nth) = refl
 install_written place value count header InstallCount = refl
 install_written place value count header InstallHead = refl
 
-claim_written : (cells : Cells) (at : ClaimPlace) → written_by (claim_verb cells at) ≡ claim_writes cells at
+claim_written : (cells : Cells) (at : ClaimPoint) → written_by (claim_verb cells at) ≡ claim_writes cells at
 claim_written cells (ClaimLook cell) = refl
 claim_written cells (ClaimTake cell tag) = refl
 
-fill_written : (cells : Cells) (cell owner : ℕ) (version : Version) (at : FillPlace)
+fill_written : (cells : Cells) (cell owner : ℕ) (version : Version) (at : FillPoint)
     → written_by (fill_verb cells cell owner version at) ≡ fill_writes cells cell at
 fill_written cells cell owner version FillOwner = refl
 fill_written cells cell owner version FillBegin = refl
 fill_written cells cell owner version FillEnding = refl
 fill_written cells cell owner version (FillWord nth) = refl
 
-pub move_written : (place : Place) (cells : Cells) (at : MovePlace)
+pub move_written : (place : Place) (cells : Cells) (at : MovePoint)
     → written_by (move_verb place cells at) ≡ move_writes place cells at
 move_written place cells MoveCount = refl
 move_written place cells (MoveHead slot) = refl
@@ -155,7 +155,7 @@ move_written place cells (MoveFull slot header cell tag) = refl
 move_written place cells (MoveFlag slot header) = refl
 move_written place cells (MoveBack header cell tag) = refl
 
-pub collect_written : (cells : Cells) (seen : List ℕ) (at : CollectPlace)
+pub collect_written : (cells : Cells) (seen : List ℕ) (at : CollectPoint)
     → written_by (collect_verb cells seen at) ≡ collect_writes cells at
 collect_written cells seen (HorizonLook known) = refl
 collect_written cells seen (HorizonRaise known found) = refl

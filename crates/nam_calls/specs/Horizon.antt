@@ -10,18 +10,18 @@ use Rattle.nam_header.specs.Tag.{is_full, has_next, freed}
 use Rattle.nam_layout.specs.declared.field.Cells.{Cells}
 use Rattle.nam_layout.specs.declared.field.Field.{Field}
 use Rattle.nam_layout.specs.declared.field.Field.TheVariants as field
-use Rattle.nam_calls.specs.declared.horizon.CollectPlace.{CollectPlace}
-use Rattle.nam_calls.specs.declared.horizon.CollectPlace.TheVariants.{HorizonLook, HorizonRaise, CollectTag}
-use Rattle.nam_calls.specs.declared.horizon.CollectPlace.TheVariants.{CollectEnding, CollectFree}
+use Rattle.nam_calls.specs.declared.horizon.CollectPoint.{CollectPoint}
+use Rattle.nam_calls.specs.declared.horizon.CollectPoint.TheVariants.{HorizonLook, HorizonRaise, CollectTag}
+use Rattle.nam_calls.specs.declared.horizon.CollectPoint.TheVariants.{CollectEnding, CollectFree}
 use Rattle.nam_calls.specs.declared.horizon.OldEnd.{OldEnd}
 use Rattle.nam_calls.specs.declared.horizon.OldEnd.TheVariants.{TooOld, NotPassed}
 
 -- 1. Collect: the horizon entries are raised to the snapshot's, then the cells within the known horizon are freed
 
-abbrev pub collect_begin : CollectPlace
+abbrev pub collect_begin : CollectPoint
 collect_begin = HorizonLook []
 
-abbrev pub collect_verb : Cells → List ℕ → CollectPlace → VerbAt Field
+abbrev pub collect_verb : Cells → List ℕ → CollectPoint → VerbAt Field
 collect_verb cells seen (HorizonLook known) = ReadAt (field.Horizon (length known + 1))
 collect_verb cells seen (HorizonRaise known found) =
     ExchangeAt (field.Horizon (length known + 1)) found (slice_index seen (length known))
@@ -30,13 +30,13 @@ collect_verb cells seen (CollectEnding known cell tag) = ReadAt (field.End cells
 collect_verb cells seen (CollectFree known cell tag) = ExchangeAt (field.Tag cells.bucket cell) tag (freed tag)
 
 -- after the last entry the cells follow
-abbrev pub entry_known : ℕ → List ℕ → Now CollectPlace (List ℕ)
+abbrev pub entry_known : ℕ → List ℕ → Now CollectPoint (List ℕ)
 entry_known workers known = At (until workers known HorizonLook (λ all. CollectTag all 0))
 
-abbrev pub collect_next : Cells → List ℕ → ℕ → Now CollectPlace (List ℕ)
+abbrev pub collect_next : Cells → List ℕ → ℕ → Now CollectPoint (List ℕ)
 collect_next cells known cell = if cell + 1 == cells.cells then Over known else At (CollectTag known (cell + 1))
 
-abbrev pub collect_after : Cells → ℕ → List ℕ → CollectPlace → ℕ → Now CollectPlace (List ℕ)
+abbrev pub collect_after : Cells → ℕ → List ℕ → CollectPoint → ℕ → Now CollectPoint (List ℕ)
 collect_after cells workers seen (HorizonLook known) found =
     if nat_lt found (slice_index seen (length known)) then At (HorizonRaise known found)
     else entry_known workers (known ++ found ∷ [])
@@ -49,14 +49,14 @@ collect_after cells workers seen (CollectEnding known cell tag) found =
     else collect_next cells known cell
 collect_after cells workers seen (CollectFree known cell tag) found = collect_next cells known cell
 
-abbrev pub collect_left : Cells → ℕ → CollectPlace → ℕ
+abbrev pub collect_left : Cells → ℕ → CollectPoint → ℕ
 collect_left cells workers (HorizonLook known) = 2 * (workers - length known) + 3 * cells.cells
 collect_left cells workers (HorizonRaise known found) = 2 * (workers - length known) - 1 + 3 * cells.cells
 collect_left cells workers (CollectTag known cell) = 3 * (cells.cells - cell - 1) + 3
 collect_left cells workers (CollectEnding known cell tag) = 3 * (cells.cells - cell - 1) + 2
 collect_left cells workers (CollectFree known cell tag) = 3 * (cells.cells - cell - 1) + 1
 
--- 2. ShowOld: worker after worker, until one's horizon entry is above the snapshot's. The place is the worker
+-- 2. ShowOld: worker after worker, until one's horizon entry is above the snapshot's. The point is the worker
 
 abbrev pub old_begin : ℕ
 old_begin = 1

@@ -10,8 +10,8 @@ use Rattle.nam_layout.specs.declared.field.Place.{Place}
 use Rattle.nam_layout.specs.Place.{no_place}
 use Rattle.nam_layout.specs.declared.field.Field.{Field}
 use Rattle.nam_layout.specs.declared.field.Field.TheVariants as field
-use Rattle.nam_calls.specs.declared.lock.LockPlace.{LockPlace}
-use Rattle.nam_calls.specs.declared.lock.LockPlace.TheVariants.{Peek, Seize, GiveBack}
+use Rattle.nam_calls.specs.declared.lock.LockPoint.{LockPoint}
+use Rattle.nam_calls.specs.declared.lock.LockPoint.TheVariants.{Peek, Seize, GiveBack}
 use Rattle.nam_calls.specs.declared.lock.LockEnd.{LockEnd}
 use Rattle.nam_calls.specs.declared.lock.LockEnd.TheVariants.{Held, Locked, Newer}
 
@@ -24,11 +24,11 @@ header_field place = field.Header place.row
 
 -- 1. LockAll: record after record its header is read, and exchanged for the same with the lock
 
-abbrev pub lock_begin : LockPlace
+abbrev pub lock_begin : LockPoint
 lock_begin = Peek []
 
--- the verb of each place, where headers have these names
-abbrev pub lock_verb_by : {W : Type 0} → (Place → W) → ℕ → List Place → LockPlace → VerbAt W
+-- the verb of each point, where headers have these names
+abbrev pub lock_verb_by : {W : Type 0} → (Place → W) → ℕ → List Place → LockPoint → VerbAt W
 lock_verb_by name worker places (Peek held) = ReadAt (name (nth_place places (length held)))
 lock_verb_by name worker places (Seize held header) =
     let place = nth_place places (length held) in
@@ -36,22 +36,22 @@ lock_verb_by name worker places (Seize held header) =
 lock_verb_by name worker places (GiveBack held given found) =
     WriteAt (name (nth_place places given)) (slice_index held given)
 
-abbrev pub lock_verb : ℕ → List Place → LockPlace → VerbAt Field
+abbrev pub lock_verb : ℕ → List Place → LockPoint → VerbAt Field
 lock_verb = lock_verb_by header_field
 
 -- what the header found in the way of the next lock says
 abbrev pub loss_of : Form → ℕ → ℕ → LockEnd
 loss_of form nth found = if is_locked form found then Locked nth found else Newer nth found
 
-abbrev pub give_back : List Place → List ℕ → ℕ → ℕ → Now LockPlace LockEnd
+abbrev pub give_back : List Place → List ℕ → ℕ → ℕ → Now LockPoint LockEnd
 give_back places held given found =
     if given == length held then Over (loss_of (nth_place places (length held)).form (length held) found)
     else At (GiveBack held given found)
 
-abbrev pub lock_next : List Place → List ℕ → Now LockPlace LockEnd
+abbrev pub lock_next : List Place → List ℕ → Now LockPoint LockEnd
 lock_next places held = if length held == length places then Over (Held held) else At (Peek held)
 
-abbrev pub lock_after : List Place → List ℕ → LockPlace → ℕ → Now LockPlace LockEnd
+abbrev pub lock_after : List Place → List ℕ → LockPoint → ℕ → Now LockPoint LockEnd
 lock_after places seen (Peek held) found =
     let form = (nth_place places (length held)).form in
     if is_locked form found then give_back places held 0 found
@@ -62,18 +62,18 @@ lock_after places seen (Seize held header) found =
 lock_after places seen (GiveBack held given found) word = give_back places held (given + 1) found
 
 -- the headers of the records that it holds, and of those that it gives back
-abbrev pub taken : LockPlace → List ℕ
+abbrev pub taken : LockPoint → List ℕ
 taken (Peek held) = held
 taken (Seize held header) = held
 taken (GiveBack held given found) = held
 
 -- what follows the locks takes no more than rest, which is no less than the number of records
-abbrev pub lock_left : List Place → ℕ → LockPlace → ℕ
+abbrev pub lock_left : List Place → ℕ → LockPoint → ℕ
 lock_left places rest (Peek held) = 2 * (length places - length held) + rest
 lock_left places rest (Seize held header) = 2 * (length places - length held) - 1 + rest
 lock_left places rest (GiveBack held given found) = length held - given
 
--- 2. UnlockAll: the place is the number of headers written back
+-- 2. UnlockAll: the point is the number of headers written back
 
 abbrev pub unlock_begin : List Place → Now ℕ (Unit {0})
 unlock_begin places = if length places == 0 then Over tt else At 0

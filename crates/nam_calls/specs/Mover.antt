@@ -12,24 +12,24 @@ use Rattle.nam_layout.specs.declared.field.Cells.{Cells}
 use Rattle.nam_layout.specs.Place.{slot_of}
 use Rattle.nam_layout.specs.declared.field.Field.{Field}
 use Rattle.nam_layout.specs.declared.field.Field.TheVariants as field
-use Rattle.nam_calls.specs.declared.overflow.ClaimPlace.{ClaimPlace}
+use Rattle.nam_calls.specs.declared.overflow.ClaimPoint.{ClaimPoint}
 use Rattle.nam_calls.specs.declared.overflow.ClaimEnd.{ClaimEnd}
 use Rattle.nam_calls.specs.declared.overflow.ClaimEnd.TheVariants.{Claimed, NoRoom}
 use Rattle.nam_calls.specs.declared.overflow.Version.{Version}
-use Rattle.nam_calls.specs.declared.overflow.FillPlace.{FillPlace}
-use Rattle.nam_calls.specs.declared.mover.MovePlace.{MovePlace}
-use Rattle.nam_calls.specs.declared.mover.MovePlace.TheVariants.{MoveCount, MoveHead, MoveEnding, MoveClaim}
-use Rattle.nam_calls.specs.declared.mover.MovePlace.TheVariants.{MoveWords}
-use Rattle.nam_calls.specs.declared.mover.MovePlace.TheVariants.{MoveFill, MoveAgain, MoveFull, MoveFlag, MoveBack}
+use Rattle.nam_calls.specs.declared.overflow.FillPoint.{FillPoint}
+use Rattle.nam_calls.specs.declared.mover.MovePoint.{MovePoint}
+use Rattle.nam_calls.specs.declared.mover.MovePoint.TheVariants.{MoveCount, MoveHead, MoveEnding, MoveClaim}
+use Rattle.nam_calls.specs.declared.mover.MovePoint.TheVariants.{MoveWords}
+use Rattle.nam_calls.specs.declared.mover.MovePoint.TheVariants.{MoveFill, MoveAgain, MoveFull, MoveFlag, MoveBack}
 use Rattle.nam_calls.specs.declared.mover.MoveAnswer.{MoveAnswer}
 use Rattle.nam_calls.specs.Overflow.{claim_begin, claim_verb, claim_after, claim_left, fill_begin, fill_verb}
 use Rattle.nam_calls.specs.Overflow.{fill_after, fill_left}
 use Rattle.nam_calls.specs.declared.mover.MoveAnswer.TheVariants as answer
 
-abbrev pub move_begin : MovePlace
+abbrev pub move_begin : MovePoint
 move_begin = MoveCount
 
-abbrev pub move_verb : Place → Cells → MovePlace → VerbAt Field
+abbrev pub move_verb : Place → Cells → MovePoint → VerbAt Field
 move_verb place cells MoveCount = ReadAt (field.Count place.row)
 move_verb place cells (MoveHead slot) = ReadAt (field.SlotHeader place.row slot)
 move_verb place cells (MoveEnding slot header) = ReadAt (field.SlotEnd place.row slot)
@@ -43,17 +43,17 @@ move_verb place cells (MoveFlag slot header) =
 move_verb place cells (MoveBack header cell tag) = WriteAt (field.Tag cells.bucket cell) (freed tag)
 
 -- after the claim the slot's words are read
-abbrev pub on_claim : Cells → ℕ → ℕ → ℕ → Now ClaimPlace ClaimEnd → Now MovePlace MoveAnswer
+abbrev pub on_claim : Cells → ℕ → ℕ → ℕ → Now ClaimPoint ClaimEnd → Now MovePoint MoveAnswer
 on_claim cells slot header ending (At at) = At (MoveClaim slot header ending at)
 on_claim cells slot header ending (Over (Claimed cell tag)) = At (MoveWords slot header ending cell tag [])
 on_claim cells slot header ending (Over NoRoom) = Over (answer.NoRoom cells.bucket)
 
 -- after the filling the slot's header is read again
-abbrev pub on_fill : ℕ → ℕ → ℕ → ℕ → Version → Now FillPlace (Unit {0}) → Now MovePlace MoveAnswer
+abbrev pub on_fill : ℕ → ℕ → ℕ → ℕ → Version → Now FillPoint (Unit {0}) → Now MovePoint MoveAnswer
 on_fill slot header cell tag version (At at) = At (MoveFill slot header cell tag version at)
 on_fill slot header cell tag version (Over done) = At (MoveAgain slot header cell tag)
 
-abbrev pub move_after : Place → Cells → MovePlace → ℕ → Now MovePlace MoveAnswer
+abbrev pub move_after : Place → Cells → MovePoint → ℕ → Now MovePoint MoveAnswer
 move_after place cells MoveCount found = At (MoveHead (slot_of place found))
 move_after place cells (MoveHead slot) found =
     if is_moved place.form found then Over answer.Nothing else At (MoveEnding slot found)
@@ -73,7 +73,7 @@ move_after place cells (MoveFlag slot header) found = Over (answer.Moved (stamp_
 move_after place cells (MoveBack header cell tag) found = Over (answer.Back (stamp_in place.form header))
 
 -- the version for which a cell was claimed
-abbrev pub move_claimed : Place → MovePlace → Option Stamp
+abbrev pub move_claimed : Place → MovePoint → Option Stamp
 move_claimed place MoveCount = None
 move_claimed place (MoveHead slot) = None
 move_claimed place (MoveEnding slot header) = None
@@ -85,7 +85,7 @@ move_claimed place (MoveFull slot header cell tag) = Some (stamp_in place.form h
 move_claimed place (MoveFlag slot header) = Some (stamp_in place.form header)
 move_claimed place (MoveBack header cell tag) = Some (stamp_in place.form header)
 
-abbrev pub move_left : Place → Cells → MovePlace → ℕ
+abbrev pub move_left : Place → Cells → MovePoint → ℕ
 move_left place cells MoveCount = 2 * cells.cells + 2 * place.width + 9
 move_left place cells (MoveHead slot) = 2 * cells.cells + 2 * place.width + 8
 move_left place cells (MoveEnding slot header) = 2 * cells.cells + 2 * place.width + 7

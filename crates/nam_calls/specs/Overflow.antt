@@ -13,23 +13,23 @@ use Rattle.nam_layout.specs.declared.field.Field.{Field}
 use Rattle.nam_layout.specs.declared.field.Field.TheVariants as field
 use Rattle.nam_calls.specs.declared.ring.SearchEnd.{SearchEnd}
 use Rattle.nam_calls.specs.declared.ring.SearchEnd.TheVariants.{Found, NotThere}
-use Rattle.nam_calls.specs.declared.overflow.CellPlace.{CellPlace}
-use Rattle.nam_calls.specs.declared.overflow.CellPlace.TheVariants.{CellTag, CellOwner, CellBegin, CellEnding}
-use Rattle.nam_calls.specs.declared.overflow.CellPlace.TheVariants.{CellWords, CellAgain}
-use Rattle.nam_calls.specs.declared.overflow.ClaimPlace.{ClaimPlace}
-use Rattle.nam_calls.specs.declared.overflow.ClaimPlace.TheVariants.{ClaimLook, ClaimTake}
+use Rattle.nam_calls.specs.declared.overflow.CellPoint.{CellPoint}
+use Rattle.nam_calls.specs.declared.overflow.CellPoint.TheVariants.{CellTag, CellOwner, CellBegin, CellEnding}
+use Rattle.nam_calls.specs.declared.overflow.CellPoint.TheVariants.{CellWords, CellAgain}
+use Rattle.nam_calls.specs.declared.overflow.ClaimPoint.{ClaimPoint}
+use Rattle.nam_calls.specs.declared.overflow.ClaimPoint.TheVariants.{ClaimLook, ClaimTake}
 use Rattle.nam_calls.specs.declared.overflow.ClaimEnd.{ClaimEnd}
 use Rattle.nam_calls.specs.declared.overflow.ClaimEnd.TheVariants.{Claimed, NoRoom}
 use Rattle.nam_calls.specs.declared.overflow.Version.{Version}
-use Rattle.nam_calls.specs.declared.overflow.FillPlace.{FillPlace}
-use Rattle.nam_calls.specs.declared.overflow.FillPlace.TheVariants.{FillOwner, FillBegin, FillEnding, FillWord}
+use Rattle.nam_calls.specs.declared.overflow.FillPoint.{FillPoint}
+use Rattle.nam_calls.specs.declared.overflow.FillPoint.TheVariants.{FillOwner, FillBegin, FillEnding, FillWord}
 
 -- 1. SearchCells: cell after cell its tag, owner, begin, end, its words, its tag again
 
-abbrev pub cell_begin : CellPlace
+abbrev pub cell_begin : CellPoint
 cell_begin = CellTag 0
 
-abbrev pub cell_verb : Cells → CellPlace → VerbAt Field
+abbrev pub cell_verb : Cells → CellPoint → VerbAt Field
 cell_verb cells (CellTag cell) = ReadAt (field.Tag cells.bucket cell)
 cell_verb cells (CellOwner cell tag) = ReadAt (field.Owner cells.bucket cell)
 cell_verb cells (CellBegin cell tag) = ReadAt (field.Begin cells.bucket cell)
@@ -37,12 +37,12 @@ cell_verb cells (CellEnding cell tag header) = ReadAt (field.End cells.bucket ce
 cell_verb cells (CellWords cell tag header got) = ReadAt (field.CellWord cells.bucket cell (length got))
 cell_verb cells (CellAgain cell tag header value) = ReadAt (field.Tag cells.bucket cell)
 
-abbrev pub next_cell : Cells → ℕ → Now CellPlace SearchEnd
+abbrev pub next_cell : Cells → ℕ → Now CellPoint SearchEnd
 next_cell cells cell = if cell + 1 == cells.cells then Over NotThere else At (CellTag (cell + 1))
 
 -- a full cell of the row, with a version that the snapshot sees, whose successor it does not see, and which is still
 -- there
-abbrev pub cell_after : Cells → Place → List ℕ → CellPlace → ℕ → Now CellPlace SearchEnd
+abbrev pub cell_after : Cells → Place → List ℕ → CellPoint → ℕ → Now CellPoint SearchEnd
 cell_after cells place seen (CellTag cell) found =
     if is_full found then At (CellOwner cell found) else next_cell cells cell
 cell_after cells place seen (CellOwner cell tag) found =
@@ -61,7 +61,7 @@ cell_after cells place seen (CellAgain cell tag header value) found =
 abbrev pub cells_left : Cells → Place → ℕ → ℕ
 cells_left cells place cell = (cells.cells - cell - 1) * (place.width + 5)
 
-abbrev pub cell_left : Cells → Place → CellPlace → ℕ
+abbrev pub cell_left : Cells → Place → CellPoint → ℕ
 cell_left cells place (CellTag cell) = cells_left cells place cell + (place.width + 5)
 cell_left cells place (CellOwner cell tag) = cells_left cells place cell + (place.width + 4)
 cell_left cells place (CellBegin cell tag) = cells_left cells place cell + (place.width + 3)
@@ -71,44 +71,44 @@ cell_left cells place (CellAgain cell tag header value) = cells_left cells place
 
 -- 2. ClaimCell: the first free cell whose tag is exchanged
 
-abbrev pub claim_begin : ClaimPlace
+abbrev pub claim_begin : ClaimPoint
 claim_begin = ClaimLook 0
 
-abbrev pub claim_verb : Cells → ClaimPlace → VerbAt Field
+abbrev pub claim_verb : Cells → ClaimPoint → VerbAt Field
 claim_verb cells (ClaimLook cell) = ReadAt (field.Tag cells.bucket cell)
 claim_verb cells (ClaimTake cell tag) = ExchangeAt (field.Tag cells.bucket cell) tag (written tag)
 
-abbrev pub claim_next : Cells → ℕ → Now ClaimPlace ClaimEnd
+abbrev pub claim_next : Cells → ℕ → Now ClaimPoint ClaimEnd
 claim_next cells cell = if cell + 1 == cells.cells then Over NoRoom else At (ClaimLook (cell + 1))
 
-abbrev pub claim_after : Cells → ClaimPlace → ℕ → Now ClaimPlace ClaimEnd
+abbrev pub claim_after : Cells → ClaimPoint → ℕ → Now ClaimPoint ClaimEnd
 claim_after cells (ClaimLook cell) found = if is_free found then At (ClaimTake cell found) else claim_next cells cell
 claim_after cells (ClaimTake cell tag) found =
     if found == tag then Over (Claimed cell (written tag)) else claim_next cells cell
 
-abbrev pub claim_left : Cells → ClaimPlace → ℕ
+abbrev pub claim_left : Cells → ClaimPoint → ℕ
 claim_left cells (ClaimLook cell) = (cells.cells - cell - 1) * 2 + 2
 claim_left cells (ClaimTake cell tag) = (cells.cells - cell - 1) * 2 + 1
 
 -- 3. FillCell: owner, begin, end, words
 
-abbrev pub fill_begin : FillPlace
+abbrev pub fill_begin : FillPoint
 fill_begin = FillOwner
 
-abbrev pub fill_verb : Cells → ℕ → ℕ → Version → FillPlace → VerbAt Field
+abbrev pub fill_verb : Cells → ℕ → ℕ → Version → FillPoint → VerbAt Field
 fill_verb cells cell owner version FillOwner = WriteAt (field.Owner cells.bucket cell) owner
 fill_verb cells cell owner version FillBegin = WriteAt (field.Begin cells.bucket cell) version.begin
 fill_verb cells cell owner version FillEnding = WriteAt (field.End cells.bucket cell) version.«end»
 fill_verb cells cell owner version (FillWord nth) =
     WriteAt (field.CellWord cells.bucket cell nth) (slice_index version.value nth)
 
-abbrev pub fill_after : ℕ → FillPlace → Now FillPlace (Unit {0})
+abbrev pub fill_after : ℕ → FillPoint → Now FillPoint (Unit {0})
 fill_after width FillOwner = At FillBegin
 fill_after width FillBegin = At FillEnding
 fill_after width FillEnding = At (FillWord 0)
 fill_after width (FillWord nth) = if nth + 1 == width then Over tt else At (FillWord (nth + 1))
 
-abbrev pub fill_left : ℕ → FillPlace → ℕ
+abbrev pub fill_left : ℕ → FillPoint → ℕ
 fill_left width FillOwner = width + 3
 fill_left width FillBegin = width + 2
 fill_left width FillEnding = width + 1

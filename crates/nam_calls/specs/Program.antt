@@ -62,7 +62,7 @@ module _ {S A : Type 0} (stands : S → Now (VerbAt Field) A) (after : S → ℕ
     pub only : (other : Prog A) → IsProgram call other → other ≡ program
 
 module _ {P E : Type 0} where
-  -- the verb of a call at a place, and the call after a word
+  -- the verb of a call at a point, and the call after a word
   abbrev pub standing : (P → VerbAt Field) → Now P E → Now (VerbAt Field) E
   standing verb (At place) = At (verb place)
   standing verb (Over end) = Over end

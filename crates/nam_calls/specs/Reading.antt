@@ -6,18 +6,18 @@ use Rattle.nam_verbs.specs.VerbAt.{VerbAt}
 use Rattle.nam_catalog.specs.declared.shape.Shape.{Shape}
 use Rattle.nam_layout.specs.Place.{place_of, cells_by}
 use Rattle.nam_layout.specs.declared.field.Field.{Field}
-use Rattle.nam_calls.specs.declared.record.CurrentPlace.{CurrentPlace}
+use Rattle.nam_calls.specs.declared.record.CurrentPoint.{CurrentPoint}
 use Rattle.nam_calls.specs.declared.record.CurrentEnd.{CurrentEnd}
-use Rattle.nam_calls.specs.declared.ring.RingPlace.{RingPlace}
+use Rattle.nam_calls.specs.declared.ring.RingPoint.{RingPoint}
 use Rattle.nam_calls.specs.declared.ring.SearchEnd.{SearchEnd}
 use Rattle.nam_calls.specs.declared.ring.SearchEnd.TheVariants.{Found, NotThere}
-use Rattle.nam_calls.specs.declared.overflow.CellPlace.{CellPlace}
+use Rattle.nam_calls.specs.declared.overflow.CellPoint.{CellPoint}
 use Rattle.nam_calls.specs.declared.horizon.OldEnd.{OldEnd}
 use Rattle.nam_calls.specs.declared.horizon.OldEnd.TheVariants.{TooOld, NotPassed}
 use Rattle.nam_calls.specs.declared.reading.Sight.{Sight}
-use Rattle.nam_calls.specs.declared.reading.ReadPlace.{ReadPlace}
-use Rattle.nam_calls.specs.declared.reading.ReadPlace.TheVariants.{ReadCurrent, ReadUnsure, ReadRecheck, ReadRing}
-use Rattle.nam_calls.specs.declared.reading.ReadPlace.TheVariants.{ReadCells, ReadHorizon}
+use Rattle.nam_calls.specs.declared.reading.ReadPoint.{ReadPoint}
+use Rattle.nam_calls.specs.declared.reading.ReadPoint.TheVariants.{ReadCurrent, ReadUnsure, ReadRecheck, ReadRing}
+use Rattle.nam_calls.specs.declared.reading.ReadPoint.TheVariants.{ReadCells, ReadHorizon}
 use Rattle.nam_calls.specs.declared.reading.ReadingEnd.{ReadingEnd}
 use Rattle.nam_calls.specs.declared.reading.ReadingEnd.TheVariants.{Got, Passed, Astray}
 use Rattle.nam_calls.specs.Words.{width_of, ring_of}
@@ -34,10 +34,10 @@ sight_of shape table position =
     let place = place_of shape table position in
     record { place = place; cells = cells_by shape place; workers = shape.workers }
 
-abbrev pub read_begin : ReadPlace
+abbrev pub read_begin : ReadPoint
 read_begin = ReadCurrent current_begin
 
-abbrev pub read_verb : Sight → ReadPlace → VerbAt Field
+abbrev pub read_verb : Sight → ReadPoint → VerbAt Field
 read_verb sight (ReadCurrent at) = current_verb sight.place at
 read_verb sight (ReadUnsure value header at) = ring_verb sight.place at
 read_verb sight (ReadRecheck value header) = recheck_verb sight.place
@@ -46,37 +46,37 @@ read_verb sight (ReadCells at) = cell_verb sight.cells at
 read_verb sight (ReadHorizon worker) = old_verb worker
 
 -- steps 1 to 3: the current version; a locked one is looked for in the ring, another stamp leads to the old versions
-abbrev pub on_current : Now CurrentPlace CurrentEnd → Now ReadPlace ReadingEnd
+abbrev pub on_current : Now CurrentPoint CurrentEnd → Now ReadPoint ReadingEnd
 on_current (At at) = At (ReadCurrent at)
 on_current (Over (current.Found value)) = Over (Got value)
 on_current (Over (current.Unsure value header)) = At (ReadUnsure value header ring_begin)
 on_current (Over current.GoOld) = At (ReadRing ring_begin)
 
 -- step 4: the ring under a locked record; step 5 follows where it has no version
-abbrev pub on_unsure : List ℕ → ℕ → Now RingPlace SearchEnd → Now ReadPlace ReadingEnd
+abbrev pub on_unsure : List ℕ → ℕ → Now RingPoint SearchEnd → Now ReadPoint ReadingEnd
 on_unsure value header (At at) = At (ReadUnsure value header at)
 on_unsure value header (Over (Found old)) = Over (Got old)
 on_unsure value header (Over NotThere) = At (ReadRecheck value header)
 
 -- step 6: the ring
-abbrev pub on_ring : Now RingPlace SearchEnd → Now ReadPlace ReadingEnd
+abbrev pub on_ring : Now RingPoint SearchEnd → Now ReadPoint ReadingEnd
 on_ring (At at) = At (ReadRing at)
 on_ring (Over (Found old)) = Over (Got old)
 on_ring (Over NotThere) = At (ReadCells cell_begin)
 
 -- step 7: the cells
-abbrev pub on_cells : Now CellPlace SearchEnd → Now ReadPlace ReadingEnd
+abbrev pub on_cells : Now CellPoint SearchEnd → Now ReadPoint ReadingEnd
 on_cells (At at) = At (ReadCells at)
 on_cells (Over (Found old)) = Over (Got old)
 on_cells (Over NotThere) = At (ReadHorizon old_begin)
 
 -- step 8: the horizon
-abbrev pub on_horizon : Now ℕ OldEnd → Now ReadPlace ReadingEnd
+abbrev pub on_horizon : Now ℕ OldEnd → Now ReadPoint ReadingEnd
 on_horizon (At worker) = At (ReadHorizon worker)
 on_horizon (Over (TooOld worker entry horizon)) = Over (Passed worker entry horizon)
 on_horizon (Over NotPassed) = Over Astray
 
-abbrev pub read_after : Sight → List ℕ → ReadPlace → ℕ → Now ReadPlace ReadingEnd
+abbrev pub read_after : Sight → List ℕ → ReadPoint → ℕ → Now ReadPoint ReadingEnd
 read_after sight seen (ReadCurrent at) found = on_current (current_after sight.place seen at found)
 read_after sight seen (ReadUnsure value header at) found = on_unsure value header (ring_after sight.place seen at found)
 read_after sight seen (ReadRecheck value header) found =
@@ -101,7 +101,7 @@ cells_whole sight = sight.cells.cells * (sight.place.width + 5)
 abbrev pub old_versions_left : Sight → ℕ
 old_versions_left sight = ring_whole sight + (cells_whole sight + sight.workers)
 
-abbrev pub read_left : Sight → ReadPlace → ℕ
+abbrev pub read_left : Sight → ReadPoint → ℕ
 read_left sight (ReadCurrent at) = current_left sight.place at + (ring_whole sight + (1 + old_versions_left sight))
 read_left sight (ReadUnsure value header at) = ring_left sight.place at + (1 + old_versions_left sight)
 read_left sight (ReadRecheck value header) = 1 + old_versions_left sight

@@ -9,25 +9,25 @@ use Rattle.nam_header.specs.Stamp.{is_locked, is_deleted, same_stamp, sees}
 use Rattle.nam_layout.specs.declared.field.Place.{Place}
 use Rattle.nam_layout.specs.declared.field.Field.{Field}
 use Rattle.nam_layout.specs.declared.field.Field.TheVariants as field
-use Rattle.nam_calls.specs.declared.record.CurrentPlace.{CurrentPlace}
-use Rattle.nam_calls.specs.declared.record.CurrentPlace.TheVariants.{CurrentHead, CurrentWords, CurrentAgain}
+use Rattle.nam_calls.specs.declared.record.CurrentPoint.{CurrentPoint}
+use Rattle.nam_calls.specs.declared.record.CurrentPoint.TheVariants.{CurrentHead, CurrentWords, CurrentAgain}
 use Rattle.nam_calls.specs.declared.record.CurrentEnd.{CurrentEnd}
 use Rattle.nam_calls.specs.declared.record.CurrentEnd.TheVariants.{Found, Unsure, GoOld}
-use Rattle.nam_calls.specs.declared.record.InstallPlace.{InstallPlace}
-use Rattle.nam_calls.specs.declared.record.InstallPlace.TheVariants.{InstallWord, InstallCount, InstallHead}
+use Rattle.nam_calls.specs.declared.record.InstallPoint.{InstallPoint}
+use Rattle.nam_calls.specs.declared.record.InstallPoint.TheVariants.{InstallWord, InstallCount, InstallHead}
 use Rattle.nam_calls.specs.Words.{wrapped}
 
 -- 1. ReadCurrent: the header, the data words, the header again
 
-abbrev pub current_begin : CurrentPlace
+abbrev pub current_begin : CurrentPoint
 current_begin = CurrentHead
 
-abbrev pub current_verb : Place → CurrentPlace → VerbAt Field
+abbrev pub current_verb : Place → CurrentPoint → VerbAt Field
 current_verb place CurrentHead = ReadAt (field.Header place.row)
 current_verb place (CurrentWords header got) = ReadAt (field.Word place.row (length got))
 current_verb place (CurrentAgain header value) = ReadAt (field.Header place.row)
 
-abbrev pub current_after : Place → List ℕ → CurrentPlace → ℕ → Now CurrentPlace CurrentEnd
+abbrev pub current_after : Place → List ℕ → CurrentPoint → ℕ → Now CurrentPoint CurrentEnd
 current_after place seen CurrentHead found =
     if sees place.form seen found
     then (if is_deleted place.form found then Over (Found None) else At (CurrentWords found []))
@@ -40,12 +40,12 @@ current_after place seen (CurrentAgain header value) found =
     else Over (Found (Some value)))
     else Over GoOld
 
-abbrev pub current_left : Place → CurrentPlace → ℕ
+abbrev pub current_left : Place → CurrentPoint → ℕ
 current_left place CurrentHead = place.width + 2
 current_left place (CurrentWords header got) = place.width - length got + 1
 current_left place (CurrentAgain header value) = 1
 
--- 2. Recheck: does the header still bear the stamp. There is one place
+-- 2. Recheck: does the header still bear the stamp. There is one point
 
 abbrev pub recheck_verb : Place → VerbAt Field
 recheck_verb place = ReadAt (field.Header place.row)
@@ -53,7 +53,7 @@ recheck_verb place = ReadAt (field.Header place.row)
 abbrev pub recheck_end : Place → ℕ → ℕ → Bool
 recheck_end place header found = same_stamp place.form found header
 
--- 3. ReadWords: the place is what was got
+-- 3. ReadWords: the point is what was got
 
 abbrev pub words_begin : List ℕ
 words_begin = []
@@ -69,7 +69,7 @@ words_left place got = place.width - length got
 
 -- 4. Install: the data words, for a deletion none; the count; the header
 
-abbrev pub install_begin : Option (List ℕ) → InstallPlace
+abbrev pub install_begin : Option (List ℕ) → InstallPoint
 install_begin None = InstallCount
 install_begin (Some value) = InstallWord 0
 
@@ -78,17 +78,17 @@ abbrev pub word_in : Option (List ℕ) → ℕ → ℕ
 word_in None nth = 0
 word_in (Some value) nth = slice_index value nth
 
-abbrev pub install_verb : Place → Option (List ℕ) → ℕ → ℕ → InstallPlace → VerbAt Field
+abbrev pub install_verb : Place → Option (List ℕ) → ℕ → ℕ → InstallPoint → VerbAt Field
 install_verb place value count header (InstallWord nth) = WriteAt (field.Word place.row nth) (word_in value nth)
 install_verb place value count header InstallCount = WriteAt (field.Count place.row) (wrapped (count + 1))
 install_verb place value count header InstallHead = WriteAt (field.Header place.row) header
 
-abbrev pub install_after : Place → InstallPlace → Now InstallPlace (Unit {0})
+abbrev pub install_after : Place → InstallPoint → Now InstallPoint (Unit {0})
 install_after place (InstallWord nth) = if nth + 1 == place.width then At InstallCount else At (InstallWord (nth + 1))
 install_after place InstallCount = At InstallHead
 install_after place InstallHead = Over tt
 
-abbrev pub install_left : Place → InstallPlace → ℕ
+abbrev pub install_left : Place → InstallPoint → ℕ
 install_left place (InstallWord nth) = place.width - nth + 2
 install_left place InstallCount = 2
 install_left place InstallHead = 1

@@ -1,4 +1,4 @@
--- Which field the verb of a place may change: none where it is a read. The tables look no further into a place than to
+-- Which field the verb of a point may change: none where it is a read. The tables look no further into a point than to
 -- the verbs that write.
 use Rattle.std.specs.Prelude.{List, None, Option, Some, length, ℕ, ◌+◌}
 use Rattle.nam_verbs.specs.VerbAt.{ExchangeAt, ReadAt, VerbAt, WriteAt}
@@ -7,23 +7,23 @@ use Rattle.nam_layout.specs.declared.field.Field.{Field}
 use Rattle.nam_layout.specs.declared.field.Place.{Place}
 use Rattle.nam_layout.specs.Place.{slot_of}
 use Rattle.nam_layout.specs.declared.field.Field.TheVariants as field
-use Rattle.nam_calls.specs.declared.horizon.CollectPlace.TheVariants.{CollectFree, HorizonRaise}
-use Rattle.nam_calls.specs.declared.horizon.CollectPlace.{CollectPlace}
-use Rattle.nam_calls.specs.declared.index.ClaimKeyPlace.TheVariants.{KeyTake}
-use Rattle.nam_calls.specs.declared.index.ClaimKeyPlace.{ClaimKeyPlace}
+use Rattle.nam_calls.specs.declared.horizon.CollectPoint.TheVariants.{CollectFree, HorizonRaise}
+use Rattle.nam_calls.specs.declared.horizon.CollectPoint.{CollectPoint}
+use Rattle.nam_calls.specs.declared.index.ClaimKeyPoint.TheVariants.{KeyTake}
+use Rattle.nam_calls.specs.declared.index.ClaimKeyPoint.{ClaimKeyPoint}
 use Rattle.nam_calls.specs.declared.index.Path.{Path}
-use Rattle.nam_calls.specs.declared.lock.LockPlace.TheVariants.{GiveBack, Seize}
-use Rattle.nam_calls.specs.declared.lock.LockPlace.{LockPlace}
-use Rattle.nam_calls.specs.declared.mover.MovePlace.TheVariants.{MoveBack, MoveClaim, MoveFill, MoveFlag, MoveFull}
-use Rattle.nam_calls.specs.declared.mover.MovePlace.{MovePlace}
-use Rattle.nam_calls.specs.declared.overflow.ClaimPlace.TheVariants.{ClaimTake}
-use Rattle.nam_calls.specs.declared.overflow.ClaimPlace.{ClaimPlace}
-use Rattle.nam_calls.specs.declared.overflow.FillPlace.TheVariants.{FillBegin, FillEnding, FillOwner, FillWord}
-use Rattle.nam_calls.specs.declared.overflow.FillPlace.{FillPlace}
-use Rattle.nam_calls.specs.declared.record.InstallPlace.TheVariants.{InstallCount, InstallHead, InstallWord}
-use Rattle.nam_calls.specs.declared.record.InstallPlace.{InstallPlace}
-use Rattle.nam_calls.specs.declared.ring.CopyPlace.TheVariants.{CopyEnding, CopyHead, CopyMark, CopyWord}
-use Rattle.nam_calls.specs.declared.ring.CopyPlace.{CopyPlace}
+use Rattle.nam_calls.specs.declared.lock.LockPoint.TheVariants.{GiveBack, Seize}
+use Rattle.nam_calls.specs.declared.lock.LockPoint.{LockPoint}
+use Rattle.nam_calls.specs.declared.mover.MovePoint.TheVariants.{MoveBack, MoveClaim, MoveFill, MoveFlag, MoveFull}
+use Rattle.nam_calls.specs.declared.mover.MovePoint.{MovePoint}
+use Rattle.nam_calls.specs.declared.overflow.ClaimPoint.TheVariants.{ClaimTake}
+use Rattle.nam_calls.specs.declared.overflow.ClaimPoint.{ClaimPoint}
+use Rattle.nam_calls.specs.declared.overflow.FillPoint.TheVariants.{FillBegin, FillEnding, FillOwner, FillWord}
+use Rattle.nam_calls.specs.declared.overflow.FillPoint.{FillPoint}
+use Rattle.nam_calls.specs.declared.record.InstallPoint.TheVariants.{InstallCount, InstallHead, InstallWord}
+use Rattle.nam_calls.specs.declared.record.InstallPoint.{InstallPoint}
+use Rattle.nam_calls.specs.declared.ring.CopyPoint.TheVariants.{CopyEnding, CopyHead, CopyMark, CopyWord}
+use Rattle.nam_calls.specs.declared.ring.CopyPoint.{CopyPoint}
 use Rattle.nam_calls.specs.Index.{nth_key}
 use Rattle.nam_calls.specs.Lock.{header_field, nth_place}
 
@@ -34,41 +34,41 @@ written_by (WriteAt at word) = Some at
 written_by (ExchangeAt at expect word) = Some at
 
 -- a position's key word, where it was free
-abbrev pub claim_key_writes : Path → ClaimKeyPlace → Option Field
+abbrev pub claim_key_writes : Path → ClaimKeyPoint → Option Field
 claim_key_writes path (KeyTake passed) = Some (nth_key path passed)
 claim_key_writes path _ = None
 
 -- the header of the next record, or of one that is given back
-abbrev pub lock_writes : List Place → LockPlace → Option Field
+abbrev pub lock_writes : List Place → LockPoint → Option Field
 lock_writes places (Seize held header) = Some (header_field (nth_place places (length held)))
 lock_writes places (GiveBack held given found) = Some (header_field (nth_place places given))
 lock_writes places _ = None
 
 -- the words of the slot that a version is copied into
-abbrev pub copy_writes : Place → ℕ → CopyPlace → Option Field
+abbrev pub copy_writes : Place → ℕ → CopyPoint → Option Field
 copy_writes place count CopyMark = Some (field.SlotHeader place.row (slot_of place count))
 copy_writes place count CopyEnding = Some (field.SlotEnd place.row (slot_of place count))
 copy_writes place count (CopyWord nth) = Some (field.SlotWord place.row (slot_of place count) nth)
 copy_writes place count CopyHead = Some (field.SlotHeader place.row (slot_of place count))
 
 -- the words of the current version
-abbrev pub install_writes : Place → InstallPlace → Option Field
+abbrev pub install_writes : Place → InstallPoint → Option Field
 install_writes place (InstallWord nth) = Some (field.Word place.row nth)
 install_writes place InstallCount = Some (field.Count place.row)
 install_writes place InstallHead = Some (field.Header place.row)
 
-abbrev pub claim_writes : Cells → ClaimPlace → Option Field
+abbrev pub claim_writes : Cells → ClaimPoint → Option Field
 claim_writes cells (ClaimTake cell tag) = Some (field.Tag cells.bucket cell)
 claim_writes cells _ = None
 
-abbrev pub fill_writes : Cells → ℕ → FillPlace → Option Field
+abbrev pub fill_writes : Cells → ℕ → FillPoint → Option Field
 fill_writes cells cell FillOwner = Some (field.Owner cells.bucket cell)
 fill_writes cells cell FillBegin = Some (field.Begin cells.bucket cell)
 fill_writes cells cell FillEnding = Some (field.End cells.bucket cell)
 fill_writes cells cell (FillWord nth) = Some (field.CellWord cells.bucket cell nth)
 
 -- the words of a cell, and the moved flag of the slot
-abbrev pub move_writes : Place → Cells → MovePlace → Option Field
+abbrev pub move_writes : Place → Cells → MovePoint → Option Field
 move_writes place cells (MoveClaim slot header ending at) = claim_writes cells at
 move_writes place cells (MoveFill slot header cell tag version at) = fill_writes cells cell at
 move_writes place cells (MoveFull slot header cell tag) = Some (field.Tag cells.bucket cell)
@@ -77,7 +77,7 @@ move_writes place cells (MoveBack header cell tag) = Some (field.Tag cells.bucke
 move_writes place cells _ = None
 
 -- a horizon entry, or a cell's tag
-abbrev pub collect_writes : Cells → CollectPlace → Option Field
+abbrev pub collect_writes : Cells → CollectPoint → Option Field
 collect_writes cells (HorizonRaise known found) = Some (field.Horizon (length known + 1))
 collect_writes cells (CollectFree known cell tag) = Some (field.Tag cells.bucket cell)
 collect_writes cells _ = None

@@ -4,7 +4,7 @@ use si_model::Snapshot;
 
 /// Where the collection of a bucket stands. It knows so many entries of the horizon.
 #[derive(Debug, Drop)]
-pub enum CollectPlace {
+pub enum CollectPoint {
     /// Read the horizon entry after those known.
     HorizonLook {
         known: Snapshot,

@@ -25,7 +25,7 @@ pub enum FindEnd {
 
 /// Where the claim of a position stands. It has passed so many positions of the key's path.
 #[derive(Clone, Copy, Debug, PartialEq, Eq)]
-pub enum ClaimKeyPlace {
+pub enum ClaimKeyPoint {
     /// Read the key word.
     KeyLook { passed: u32 },
     /// Exchange 0 for the key.

@@ -7,7 +7,7 @@ ghost use Rattle.nam_calls.specs.FallsLaw.{UnlockLaw, ReadLaw, ReadBeginsLaw};
 ghost use Rattle.nam_calls.specs.FieldLaw.{PlaceVerbsLaw, CellVerbsLaw, MoveVerbsLaw, CollectVerbsLaw, ReadVerbsLaw};
 ghost use Rattle.nam_calls.specs.FieldLaw.{PathLaw};
 
-/// The machines of a key and of a position: at each place that fits, each word leads to a place that fits with fewer
+/// The machines of a key and of a position: at each point that fits, each word leads to a point that fits with fewer
 /// verbs to come, or to an end that fits, as a value of the position's width.
 pub fn position_falls()
     ensures find { FindLaw }
@@ -45,7 +45,7 @@ pub fn read_falls()
 
 /// Each verb of each call is at a field of what the call was given: of its position, of its bucket's cells, of the
 /// workers' entries; the verbs along a path are at the keys of the table's positions. This needs no more than that the
-/// place fits, which the other laws keep. Where such fields stand says `nam_layout`.
+/// point fits, which the other laws keep. Where such fields stand says `nam_layout`.
 pub fn verbs_at_fields()
     ensures place { PlaceVerbsLaw }
     ensures cells { CellVerbsLaw }

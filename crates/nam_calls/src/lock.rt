@@ -6,7 +6,7 @@ use lists::ShortList;
 
 /// Where the locking stands. It holds the first records, whose headers were these.
 #[derive(Debug, Drop)]
-pub enum LockPlace {
+pub enum LockPoint {
     /// Read the header of the next record.
     Peek {
         held: ShortList<u64, 16>,

@@ -1,11 +1,11 @@
 //! Moving an old version from its slot into a cell.
 
-use crate::overflow::{ClaimPlace, FillPlace, Version};
+use crate::overflow::{ClaimPoint, FillPoint, Version};
 use si_model::{Stamp, Value};
 
 /// Where a move stands.
 #[derive(Debug, Drop)]
-pub enum MovePlace {
+pub enum MovePoint {
     /// Read the number of the record's current version.
     MoveCount,
     /// Read the header of that version's slot.
@@ -22,7 +22,7 @@ pub enum MovePlace {
         slot: u32,
         header: u64,
         ending: u64,
-        at: ClaimPlace,
+        at: ClaimPoint,
     },
     /// Read the slot word after those got.
     MoveWords {
@@ -40,7 +40,7 @@ pub enum MovePlace {
         cell: u32,
         tag: u64,
         version: Version,
-        at: FillPlace,
+        at: FillPoint,
     },
     /// Read the slot's header again.
     MoveAgain {

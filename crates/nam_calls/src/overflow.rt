@@ -4,7 +4,7 @@ use si_model::Value;
 
 /// Where the search of a bucket's cells stands.
 #[derive(Debug, Drop)]
-pub enum CellPlace {
+pub enum CellPoint {
     /// Read the cell's tag.
     CellTag {
         cell: u32,
@@ -43,7 +43,7 @@ pub enum CellPlace {
 
 /// Where the claim of a free cell stands.
 #[derive(Clone, Copy, Debug, PartialEq, Eq)]
-pub enum ClaimPlace {
+pub enum ClaimPoint {
     /// Read the cell's tag.
     ClaimLook { cell: u32 },
     /// Exchange the free tag for one that says it is being written.
@@ -69,7 +69,7 @@ pub struct Version {
 
 /// Where the filling of a claimed cell stands.
 #[derive(Clone, Copy, Debug, PartialEq, Eq)]
-pub enum FillPlace {
+pub enum FillPoint {
     /// Write the row that owns it.
     FillOwner,
     /// Write the header of its version.

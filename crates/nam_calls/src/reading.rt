@@ -1,8 +1,8 @@
 //! Reading the version of a record that a snapshot sees.
 
-use crate::overflow::CellPlace;
-use crate::record::CurrentPlace;
-use crate::ring::RingPlace;
+use crate::overflow::CellPoint;
+use crate::record::CurrentPoint;
+use crate::ring::RingPoint;
 use nam_layout::{Cells, Place};
 use si_model::Value;
 
@@ -16,16 +16,16 @@ pub struct Sight {
 
 /// Where a read stands.
 #[derive(Debug, Drop)]
-pub enum ReadPlace {
+pub enum ReadPoint {
     /// Read the current version.
     ReadCurrent {
-        at: CurrentPlace,
+        at: CurrentPoint,
     },
     /// Search the ring, since the current version was locked.
     ReadUnsure {
         value: Value,
         header: u64,
-        at: RingPlace,
+        at: RingPoint,
     },
     /// Read the header once more, since the ring has no version.
     ReadRecheck {
@@ -34,11 +34,11 @@ pub enum ReadPlace {
     },
     /// Search the ring.
     ReadRing {
-        at: RingPlace,
+        at: RingPoint,
     },
     /// Search the cells.
     ReadCells {
-        at: CellPlace,
+        at: CellPoint,
     },
     /// Read a worker's horizon entry.
     ReadHorizon {

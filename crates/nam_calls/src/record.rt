@@ -6,7 +6,7 @@ use si_model::Value;
 
 /// Where the reading of a current version stands.
 #[derive(Debug, Drop)]
-pub enum CurrentPlace {
+pub enum CurrentPoint {
     /// Read the header.
     CurrentHead,
     /// Read the data word after those got.
@@ -45,7 +45,7 @@ impl CurrentEnd {
 
 /// Where an install stands.
 #[derive(Clone, Copy, Debug, PartialEq, Eq)]
-pub enum InstallPlace {
+pub enum InstallPoint {
     /// Write a data word.
     InstallWord { nth: u32 },
     /// Write the number of the version.

@@ -6,7 +6,7 @@ use si_model::Value;
 
 /// Where the look at the slot stands that the next version needs.
 #[derive(Clone, Copy, Debug, PartialEq, Eq)]
-pub enum SlotPlace {
+pub enum SlotPoint {
     /// Read the number of the current version.
     CheckCount,
     /// Read the header of that version's slot.
@@ -24,7 +24,7 @@ pub enum SlotEnd {
 
 /// Where the copy of the current version into its slot stands.
 #[derive(Clone, Copy, Debug, PartialEq, Eq)]
-pub enum CopyPlace {
+pub enum CopyPoint {
     /// Write the mark in the place of the slot's header.
     CopyMark,
     /// Write the slot's end.
@@ -37,7 +37,7 @@ pub enum CopyPlace {
 
 /// Where the search of a ring stands.
 #[derive(Debug, Drop)]
-pub enum RingPlace {
+pub enum RingPoint {
     /// Read the slot's header.
     SlotHead {
         slot: u32,

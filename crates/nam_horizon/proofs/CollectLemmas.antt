@@ -16,12 +16,12 @@ use Rattle.nam_header.specs.Tag.{is_full, has_next, freed}
 use Rattle.nam_layout.specs.declared.field.Cells.{Cells}
 use Rattle.nam_layout.specs.declared.field.Field.{Field}
 use Rattle.nam_layout.specs.declared.field.Field.TheVariants as field
-use Rattle.nam_calls.specs.declared.horizon.CollectPlace.{CollectPlace}
-use Rattle.nam_calls.specs.declared.horizon.CollectPlace.TheVariants.{HorizonLook, HorizonRaise, CollectTag}
-use Rattle.nam_calls.specs.declared.horizon.CollectPlace.TheVariants.{CollectEnding, CollectFree}
+use Rattle.nam_calls.specs.declared.horizon.CollectPoint.{CollectPoint}
+use Rattle.nam_calls.specs.declared.horizon.CollectPoint.TheVariants.{HorizonLook, HorizonRaise, CollectTag}
+use Rattle.nam_calls.specs.declared.horizon.CollectPoint.TheVariants.{CollectEnding, CollectFree}
 use Rattle.nam_calls.specs.Horizon.{collect_verb, collect_after, entry_known, collect_next}
 use Rattle.nam_horizon.specs.CollectLaw.{EntryKnown, was_reached, is_raised, was_lost, EntriesKnown}
-use Rattle.nam_horizon.specs.CollectLaw.{MayBeFreed, looked, CellCollected, not_full, is_kept, is_freed, CollectedBy}
+use Rattle.nam_horizon.specs.CollectLaw.{MayBeFreed, look_steps, CellCollected, not_full, is_kept, is_freed, CollectedBy}
 
 -- steps in parts
 regrouped : (first raising freeing rest steps : List (Step Field)) → steps ≡ first ++ rest → rest ≡ raising ++ freeing
@@ -42,16 +42,16 @@ regrouped_after before here after freeing raising steps is parts = rw (is, parts
     (append_assoc (before ++ here) after freeing)
 
 module _ (cells : Cells) (some_cells : 1 ≤ cells.cells) (workers : ℕ) (some : 1 ≤ workers) (seen : List ℕ) where
-  abbrev verb : CollectPlace → VerbAt Field
+  abbrev verb : CollectPoint → VerbAt Field
   verb = collect_verb cells seen
 
-  abbrev after : CollectPlace → ℕ → Now CollectPlace (List ℕ)
+  abbrev after : CollectPoint → ℕ → Now CollectPoint (List ℕ)
   after = collect_after cells workers seen
 
-  abbrev EndsFrom : Now CollectPlace (List ℕ) → List (Step Field) → List ℕ → Type 0
+  abbrev EndsFrom : Now CollectPoint (List ℕ) → List (Step Field) → List ℕ → Type 0
   EndsFrom now steps end = Ends verb after now steps end
 
-  ends_as : (now new : Now CollectPlace (List ℕ)) (steps : List (Step Field)) (end : List ℕ) → now ≡ new
+  ends_as : (now new : Now CollectPoint (List ℕ)) (steps : List (Step Field)) (end : List ℕ) → now ≡ new
       → EndsFrom now steps end → EndsFrom new steps end
   ends_as now new steps end same ends = subst (λ now. EndsFrom now steps end) same ends
 
@@ -86,11 +86,11 @@ module _ (cells : Cells) (some_cells : 1 ≤ cells.cells) (workers : ℕ) (some 
 
     part_free : (cell tag ending : ℕ) → MayBeFreed cells known tag ending → (steps : List (Step Field)) (end : List ℕ)
         → EndsFrom (At (CollectFree known cell tag)) steps end
-        → Parts cell (looked cells known cell tag ending ++ steps) end
+        → Parts cell (look_steps cells known cell tag ending ++ steps) end
     part_free cell tag ending may [] end ends = absurd ends
     part_free cell tag ending may (step ∷ steps) end ends =
         let is : step ≡ tried (field.Tag cells.bucket cell) tag (freed tag) step.found = step_of _ step ends.0 in (
-          looked cells known cell tag ending ++ step ∷ [],
+          look_steps cells known cell tag ending ++ step ∷ [],
           steps,
           refl,
           is_freed tag ending step.found may

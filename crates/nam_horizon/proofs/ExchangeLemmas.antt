@@ -8,8 +8,8 @@ use Rattle.nam_header.specs.Tag.{freed}
 use Rattle.nam_layout.specs.declared.field.Cells.{Cells}
 use Rattle.nam_layout.specs.declared.field.Field.{Field}
 use Rattle.nam_layout.specs.declared.field.Field.TheVariants as field
-use Rattle.nam_horizon.specs.CollectLaw.{raised, EntryKnown, was_reached, is_raised, was_lost, EntriesKnown}
-use Rattle.nam_horizon.specs.CollectLaw.{looked, CellCollected, not_full, is_kept, is_freed, CollectedBy, RaisesEntry}
+use Rattle.nam_horizon.specs.CollectLaw.{raise_steps, EntryKnown, was_reached, is_raised, was_lost, EntriesKnown}
+use Rattle.nam_horizon.specs.CollectLaw.{look_steps, CellCollected, not_full, is_kept, is_freed, CollectedBy, RaisesEntry}
 use Rattle.nam_horizon.specs.CollectLaw.{FreesCell}
 
 -- 1. A step among some steps
@@ -95,7 +95,7 @@ module _ (cells : Cells) (workers : ℕ) (seen known : List ℕ) where
     may = frees.may;
     earlier = first ++ frees.earlier;
     before_is = rw frees.before_is
-        (sym (append_assoc first frees.earlier (looked cells known frees.cell expected frees.ending)));
+        (sym (append_assoc first frees.earlier (look_steps cells known frees.cell expected frees.ending)));
   })
 
   joined : (first rest : List (Step Field)) → Exchanges first → Exchanges rest → Exchanges (first ++ rest)
@@ -114,7 +114,7 @@ module _ (cells : Cells) (workers : ℕ) (seen known : List ℕ) where
   -- 3. The exchanges of an entry, and of a cell
 
   raises : (nth entry word : ℕ) → nth < workers → entry < slice_index seen nth
-      → Exchanges (raised seen nth entry word)
+      → Exchanges (raise_steps seen nth entry word)
   raises nth entry word within lower before after at expected new found is =
       let entry_at = field.Horizon (nth + 1) in
       elim (among_two (tried at expected new found) (saw entry_at entry)

@@ -20,13 +20,13 @@ use Rattle.nam_layout.specs.declared.field.Cells.{Cells}
 use Rattle.nam_layout.specs.Place.{cells_end, later}
 use Rattle.nam_layout.specs.declared.field.Field.{Field}
 use Rattle.nam_layout.specs.declared.field.Field.TheVariants as field
-use Rattle.nam_calls.specs.declared.horizon.CollectPlace.{CollectPlace}
-use Rattle.nam_calls.specs.declared.horizon.CollectPlace.TheVariants.{HorizonLook, HorizonRaise, CollectTag}
-use Rattle.nam_calls.specs.declared.horizon.CollectPlace.TheVariants.{CollectEnding, CollectFree}
+use Rattle.nam_calls.specs.declared.horizon.CollectPoint.{CollectPoint}
+use Rattle.nam_calls.specs.declared.horizon.CollectPoint.TheVariants.{HorizonLook, HorizonRaise, CollectTag}
+use Rattle.nam_calls.specs.declared.horizon.CollectPoint.TheVariants.{CollectEnding, CollectFree}
 use Rattle.nam_calls.specs.Horizon.{collect_verb, collect_after, collect_left, entry_known, collect_next}
 use Rattle.nam_horizon.specs.Collect.{collect_address, collecting, running}
 use Rattle.nam_horizon.specs.CollectLaw.{EntryKnown, was_reached, is_raised, was_lost, EntriesKnown}
-use Rattle.nam_horizon.specs.CollectLaw.{looked, CellCollected, not_full, is_kept, is_freed}
+use Rattle.nam_horizon.specs.CollectLaw.{look_steps, CellCollected, not_full, is_kept, is_freed}
 use Rattle.nam_horizon.specs.CollectLaw.{RaisesEntry}
 use Rattle.nam_horizon.specs.MomentLaw.{CellsSoFar, CollectedSoFar, FreesWithin}
 
@@ -69,17 +69,17 @@ stretches_more Passed (suc count) from last steps more is are here = (
 )
 
 module _ (cells : Cells) (some_cells : 1 ≤ cells.cells) (workers : ℕ) (some : 1 ≤ workers) (seen : List ℕ) where
-  abbrev Holds : CollectPlace → List (Step Field) → Type 0
+  abbrev Holds : CollectPoint → List (Step Field) → Type 0
   Holds = CollectedSoFar cells workers seen
 
-  abbrev HoldsNow : Now CollectPlace (List ℕ) → List (Step Field) → Type 0
+  abbrev HoldsNow : Now CollectPoint (List ℕ) → List (Step Field) → Type 0
   HoldsNow = past.HoldsNow (collect_verb cells seen) (collect_after cells workers seen) (collect_address cells workers)
       (later (2 * workers) (cells_end cells)) (collect_left cells workers) Holds
 
-  abbrev call : Now CollectPlace (List ℕ) → Running Field CollectPlace (List ℕ)
+  abbrev call : Now CollectPoint (List ℕ) → Running Field CollectPoint (List ℕ)
   call state = running (record { cells = cells; workers = workers; seen = seen; state = state })
 
-  abbrev step_at : CollectPlace → ℕ → Step Field
+  abbrev step_at : CollectPoint → ℕ → Step Field
   step_at = past.step_at (collect_verb cells seen) (collect_after cells workers seen)
 
   abbrev CellsDone : List ℕ → ℕ → List (Step Field) → List (Step Field) → Type 0
@@ -148,7 +148,7 @@ module _ (cells : Cells) (some_cells : 1 ≤ cells.cells) (workers : ℕ) (some 
 
   -- 4. Each word
 
-  keeps : (at : CollectPlace) (before : List (Step Field)) → Holds at before → (found : ℕ)
+  keeps : (at : CollectPoint) (before : List (Step Field)) → Holds at before → (found : ℕ)
       → HoldsNow (collect_after cells workers seen at found) (before ++ step_at at found ∷ [])
   keeps (HorizonLook known) before holds found =
       let own = slice_index seen (length known) in
@@ -190,13 +190,13 @@ module _ (cells : Cells) (some_cells : 1 ≤ cells.cells) (workers : ℕ) (some 
       (λ why. cell_holds known cell (read ∷ step ∷ []) steps holds.0 so_far (is_kept tag found holds.1 why refl))
   keeps (CollectFree known cell tag) before holds found =
       let step = tried (field.Tag cells.bucket cell) tag (freed tag) found in
-      let all = looked cells known cell tag holds.1 in
+      let all = look_steps cells known cell tag holds.1 in
       cell_holds known cell (all ++ step ∷ []) (before ++ step ∷ []) holds.0
       (cells_longer known cell all (step ∷ []) before holds.3) (is_freed tag holds.1 found holds.2 refl)
 
   -- 5. After any words
 
-  fits_now : (now : Now CollectPlace (List ℕ)) (steps : List (Step Field)) → HoldsNow now steps
+  fits_now : (now : Now CollectPoint (List ℕ)) (steps : List (Step Field)) → HoldsNow now steps
       → FitsNow (λ at. Holds at steps) now
   fits_now (At at) steps holds = holds
   fits_now (Over end) steps holds = tt
@@ -213,7 +213,7 @@ module _ (cells : Cells) (some_cells : 1 ≤ cells.cells) (workers : ℕ) (some 
       (after_words (running (collecting cells workers seen)) words).state
   collected_so_far words = fits_now _ _ (holds_after words)
 
-  exchange_at : (now : Now CollectPlace (List ℕ)) (steps : List (Step Field)) → HoldsNow now steps
+  exchange_at : (now : Now CollectPoint (List ℕ)) (steps : List (Step Field)) → HoldsNow now steps
       → (at : Field) (expected new : ℕ) → verb_at (collect_verb cells seen) now ≡ Some (ExchangeAt at expected new)
       → RaisesEntry workers seen steps at expected new ⊎ FreesWithin cells workers seen steps at expected new
   exchange_at (Over end) steps holds at expected new is = absurd (cc)
@@ -238,7 +238,7 @@ module _ (cells : Cells) (some_cells : 1 ≤ cells.cells) (workers : ℕ) (some 
       let expected_is : expected ≡ tag = cc in
       let new_is : new ≡ freed tag = cc in
       let so_far = holds.3 in
-      let all = looked cells known cell tag holds.1 in
+      let all = look_steps cells known cell tag holds.1 in
       rw (at_is, expected_is, new_is) (inr (record {
         known = known;
         all = so_far.all;
@@ -267,12 +267,12 @@ module _ (cells : Cells) (some_cells : 1 ≤ cells.cells) (workers : ℕ) (some 
       (sym (past.next_after (running (collecting cells workers seen)) words) ∙ is)
 
   -- a step stood once the steps before it were done
-  abbrev StoodAfter : Now CollectPlace (List ℕ) → List (Step Field) → Step Field → Type 0
+  abbrev StoodAfter : Now CollectPoint (List ℕ) → List (Step Field) → Step Field → Type 0
   StoodAfter now before step =
       (words : List ℕ) × (steps_from (collect_verb cells seen) (collect_after cells workers seen) now words ≡ before)
       × (verb_at (collect_verb cells seen) (after_words (call now) words).state ≡ Some step.verb)
 
-  stood_after : (words : List ℕ) (now : Now CollectPlace (List ℕ)) (before after : List (Step Field))
+  stood_after : (words : List ℕ) (now : Now CollectPoint (List ℕ)) (before after : List (Step Field))
       (step : Step Field)
       → steps_from (collect_verb cells seen) (collect_after cells workers seen) now words ≡ before ++ step ∷ after
       → StoodAfter now before step
@@ -301,7 +301,7 @@ module _ (cells : Cells) (some_cells : 1 ≤ cells.cells) (workers : ℕ) (some 
 
 -- 6. No verb writes
 
-no_write_at : (cells : Cells) (seen : List ℕ) (now : Now CollectPlace (List ℕ)) (at : Field) (word : ℕ)
+no_write_at : (cells : Cells) (seen : List ℕ) (now : Now CollectPoint (List ℕ)) (at : Field) (word : ℕ)
     → verb_at (collect_verb cells seen) now ≡ Some (WriteAt at word) → ⊥
 no_write_at cells seen (Over end) at word is = cc
 no_write_at cells seen (At (HorizonLook known)) at word is = cc

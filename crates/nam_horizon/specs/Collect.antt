@@ -8,7 +8,7 @@ use Rattle.nam_layout.specs.declared.field.Cells.{Cells}
 use Rattle.nam_layout.specs.PlaceFits.{FitsCells}
 use Rattle.nam_layout.specs.Place.{no_place, known_address, cells_end, later}
 use Rattle.nam_layout.specs.declared.field.Field.{Field}
-use Rattle.nam_calls.specs.declared.horizon.CollectPlace.{CollectPlace}
+use Rattle.nam_calls.specs.declared.horizon.CollectPoint.{CollectPoint}
 use Rattle.nam_calls.specs.Fits.{CollectFits}
 use Rattle.nam_calls.specs.Horizon.{collect_begin, collect_verb, collect_after, collect_left}
 
@@ -17,10 +17,10 @@ pub record Collecting : Type 0 where
   pub cells : Cells
   pub workers : ℕ
   pub seen : List ℕ
-  pub state : Now CollectPlace (List ℕ)
+  pub state : Now CollectPoint (List ℕ)
 
 -- what it is under fits, and where it stands
-pub record FitsCollecting (cells : Cells) (workers : ℕ) (seen : List ℕ) (state : Now CollectPlace (List ℕ))
+pub record FitsCollecting (cells : Cells) (workers : ℕ) (seen : List ℕ) (state : Now CollectPoint (List ℕ))
     : Type 0 where
   pub bucket : FitsCells cells
   pub most_workers : workers ≤ 16
@@ -36,7 +36,7 @@ abbrev pub collect_address : Cells → ℕ → Field → ℕ
 collect_address cells workers = known_address no_place cells workers
 
 -- the same as a running call
-abbrev pub running : Collecting → Running Field CollectPlace (List ℕ)
+abbrev pub running : Collecting → Running Field CollectPoint (List ℕ)
 running a = record {
   address = collect_address a.cells a.workers;
   reach = later (2 * a.workers) (cells_end a.cells);

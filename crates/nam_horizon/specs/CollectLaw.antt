@@ -19,8 +19,8 @@ use Rattle.nam_horizon.specs.Collect.{collecting, running}
 
 module _ (seen : List ℕ) where
   -- a worker's horizon entry was found, and its exchange for the snapshot's found this word
-  abbrev pub raised : ℕ → ℕ → ℕ → List (Step Field)
-  raised nth entry word =
+  abbrev pub raise_steps : ℕ → ℕ → ℕ → List (Step Field)
+  raise_steps nth entry word =
       saw (field.Horizon (nth + 1)) entry
       ∷ tried (field.Horizon (nth + 1)) entry (slice_index seen nth) word ∷ []
 
@@ -30,8 +30,8 @@ module _ (seen : List ℕ) where
     was_reached : slice_index seen nth ≤ known → steps ≡ saw (field.Horizon (nth + 1)) known ∷ []
         → EntryKnown nth known steps
     is_raised : (entry : ℕ) → entry < slice_index seen nth → known ≡ slice_index seen nth
-        → steps ≡ raised nth entry entry → EntryKnown nth known steps
-    was_lost : (entry : ℕ) → entry < slice_index seen nth → known ≢ entry → steps ≡ raised nth entry known
+        → steps ≡ raise_steps nth entry entry → EntryKnown nth known steps
+    was_lost : (entry : ℕ) → entry < slice_index seen nth → known ≢ entry → steps ≡ raise_steps nth entry known
         → EntryKnown nth known steps
 
   -- the entries that are known of workers one after another
@@ -51,8 +51,8 @@ module _ (cells : Cells) (known : List ℕ) where
     pub passed : is_within (stamp_in cells.form ending) known ≡ true
     pub next : has_next tag ≡ true
 
-  abbrev pub looked : ℕ → ℕ → ℕ → List (Step Field)
-  looked cell tag ending = saw (field.Tag cells.bucket cell) tag ∷ saw (field.End cells.bucket cell) ending ∷ []
+  abbrev pub look_steps : ℕ → ℕ → ℕ → List (Step Field)
+  look_steps cell tag ending = saw (field.Tag cells.bucket cell) tag ∷ saw (field.End cells.bucket cell) ending ∷ []
 
   -- a cell's tag was read, where it is full the end too, and where it may be set free its tag was exchanged
   pub data CellCollected (cell : ℕ) (steps : List (Step Field)) : Type 0 where
@@ -60,9 +60,9 @@ module _ (cells : Cells) (known : List ℕ) where
         → CellCollected cell steps
     is_kept : (tag ending : ℕ) → is_full tag ≡ true
         → (is_within (stamp_in cells.form ending) known ≡ false) ⊎ (has_next tag ≡ false)
-        → steps ≡ looked cell tag ending → CellCollected cell steps
+        → steps ≡ look_steps cell tag ending → CellCollected cell steps
     is_freed : (tag ending word : ℕ) → MayBeFreed tag ending
-        → steps ≡ looked cell tag ending ++ tried (field.Tag cells.bucket cell) tag (freed tag) word ∷ []
+        → steps ≡ look_steps cell tag ending ++ tried (field.Tag cells.bucket cell) tag (freed tag) word ∷ []
         → CellCollected cell steps
 
 -- 3. A whole collection
@@ -113,7 +113,7 @@ pub record FreesCell (cells : Cells) (known : List ℕ) (before : List (Step Fie
   pub ending : ℕ
   pub may : MayBeFreed cells known expected ending
   pub earlier : List (Step Field)
-  pub before_is : before ≡ earlier ++ looked cells known cell expected ending
+  pub before_is : before ≡ earlier ++ look_steps cells known cell expected ending
 
 -- each exchange raises an entry, or frees a cell within the horizon that the collection ends with
 abbrev pub ExchangeLaw : Type 0

@@ -10,14 +10,14 @@ use Rattle.nam_layout.specs.declared.field.Cells.{Cells}
 use Rattle.nam_layout.specs.PlaceFits.{FitsCells}
 use Rattle.nam_layout.specs.declared.field.Field.{Field}
 use Rattle.nam_layout.specs.declared.field.Field.TheVariants as field
-use Rattle.nam_calls.specs.declared.horizon.CollectPlace.{CollectPlace}
-use Rattle.nam_calls.specs.declared.horizon.CollectPlace.TheVariants.{HorizonLook, HorizonRaise, CollectTag}
-use Rattle.nam_calls.specs.declared.horizon.CollectPlace.TheVariants.{CollectEnding, CollectFree}
+use Rattle.nam_calls.specs.declared.horizon.CollectPoint.{CollectPoint}
+use Rattle.nam_calls.specs.declared.horizon.CollectPoint.TheVariants.{HorizonLook, HorizonRaise, CollectTag}
+use Rattle.nam_calls.specs.declared.horizon.CollectPoint.TheVariants.{CollectEnding, CollectFree}
 use Rattle.nam_horizon.specs.Collect.{collecting, running}
-use Rattle.nam_horizon.specs.CollectLaw.{EntriesKnown, MayBeFreed, looked, CellCollected, RaisesEntry, FreesCell}
+use Rattle.nam_horizon.specs.CollectLaw.{EntriesKnown, MayBeFreed, look_steps, CellCollected, RaisesEntry, FreesCell}
 
 module _ (cells : Cells) (workers : ℕ) (seen : List ℕ) where
-  -- 1. The steps that led to a place
+  -- 1. The steps that led to a point
 
   -- all entries became known, in order of workers, and then so many cells were collected under them, before these steps
   pub record CellsSoFar (known : List ℕ) (cell : ℕ) (last steps : List (Step Field)) : Type 0 where
@@ -30,7 +30,7 @@ module _ (cells : Cells) (workers : ℕ) (seen : List ℕ) where
 
   -- The entries that are known so far, each found or written, in order of workers, and the one that was found lower;
   -- and once all are known, the cells that were collected, and what was found of the next one.
-  abbrev pub CollectedSoFar : CollectPlace → List (Step Field) → Type 0
+  abbrev pub CollectedSoFar : CollectPoint → List (Step Field) → Type 0
   CollectedSoFar (HorizonLook known) steps = (length known < workers) × EntriesKnown seen 0 known steps
   CollectedSoFar (HorizonRaise known found) steps =
       (length known < workers) × (found < slice_index seen (length known))
@@ -42,7 +42,7 @@ module _ (cells : Cells) (workers : ℕ) (seen : List ℕ) where
       × CellsSoFar known cell (saw (field.Tag cells.bucket cell) tag ∷ []) steps
   CollectedSoFar (CollectFree known cell tag) steps =
       (cell < cells.cells) × (ending : ℕ) × MayBeFreed cells known tag ending
-      × CellsSoFar known cell (looked cells known cell tag ending) steps
+      × CellsSoFar known cell (look_steps cells known cell tag ending) steps
 
   -- 2. The exchange that comes next
 

@@ -11,7 +11,7 @@ ghost use Rattle.nam_calls.specs.Horizon.{entry_known, collect_next};
 ghost use Rattle.nam_calls.specs.Fits.{CollectFits};
 ghost use Rattle.nam_horizon.specs.Collect.{collect_address, collecting, running};
 
-use nam_calls::CollectPlace;
+use nam_calls::CollectPoint;
 use nam_header::{Tag, is_within, stamp_in};
 use nam_layout::{Cells, Field, horizon_at};
 use nam_verbs::{Machine, Now, Verb};
@@ -20,16 +20,16 @@ use std::marker::Model;
 use std::mem::replace;
 
 /// Where a collection begins: no entry of the horizon is known.
-pub fn collect_begin() -> CollectPlace
+pub fn collect_begin() -> CollectPoint
     ensures { result ≡ collect_begin }
 {
-    CollectPlace::HorizonLook {
+    CollectPoint::HorizonLook {
         known: Snapshot::new(),
     }
 }
 
-/// The verb that stands at a place.
-pub fn collect_verb(cells: &Cells, workers: u32, seen: &Snapshot, at: &CollectPlace) -> Verb
+/// The verb that stands at a point.
+pub fn collect_verb(cells: &Cells, workers: u32, seen: &Snapshot, at: &CollectPoint) -> Verb
     requires fits { FitsCells cells.now }
     requires seen { length seen.now ≡ workers }
     requires at { CollectFits cells.now workers at.now }
@@ -37,21 +37,21 @@ pub fn collect_verb(cells: &Cells, workers: u32, seen: &Snapshot, at: &CollectPl
     ensures within { address_of result < later (2 * workers) (cells_end cells.now) }
 {
     match at {
-        CollectPlace::HorizonLook { known } => Verb::Read {
+        CollectPoint::HorizonLook { known } => Verb::Read {
             at: horizon_at(workers, known.len() as u32 + 1),
         },
-        CollectPlace::HorizonRaise { known, found } => Verb::Exchange {
+        CollectPoint::HorizonRaise { known, found } => Verb::Exchange {
             at: horizon_at(workers, known.len() as u32 + 1),
             expect: *found,
             word: *seen.at(known.len()),
         },
-        CollectPlace::CollectTag { cell, .. } => Verb::Read {
+        CollectPoint::CollectTag { cell, .. } => Verb::Read {
             at: cells.tag(*cell),
         },
-        CollectPlace::CollectEnding { cell, .. } => Verb::Read {
+        CollectPoint::CollectEnding { cell, .. } => Verb::Read {
             at: cells.end(*cell),
         },
-        CollectPlace::CollectFree { cell, tag, .. } => Verb::Exchange {
+        CollectPoint::CollectFree { cell, tag, .. } => Verb::Exchange {
             at: cells.tag(*cell),
             expect: *tag,
             word: Tag(*tag).freed().0,
@@ -59,17 +59,17 @@ pub fn collect_verb(cells: &Cells, workers: u32, seen: &Snapshot, at: &CollectPl
     }
 }
 
-fn entry_known(workers: u32, known: Snapshot) -> Now<CollectPlace, Snapshot>
+fn entry_known(workers: u32, known: Snapshot) -> Now<CollectPoint, Snapshot>
     ensures { result ≡ entry_known workers known }
 {
     if known.len() == workers as usize {
-        Now::At(CollectPlace::CollectTag { known, cell: 0 })
+        Now::At(CollectPoint::CollectTag { known, cell: 0 })
     } else {
-        Now::At(CollectPlace::HorizonLook { known })
+        Now::At(CollectPoint::HorizonLook { known })
     }
 }
 
-fn collect_next(cells: &Cells, known: Snapshot, cell: u32) -> Now<CollectPlace, Snapshot>
+fn collect_next(cells: &Cells, known: Snapshot, cell: u32) -> Now<CollectPoint, Snapshot>
     requires fits { FitsCells cells.now }
     requires cell { cell < cells.now.cells }
     ensures { result ≡ collect_next cells.now known cell }
@@ -77,21 +77,21 @@ fn collect_next(cells: &Cells, known: Snapshot, cell: u32) -> Now<CollectPlace, 
     if cell + 1 == cells.cells {
         Now::Over(known)
     } else {
-        Now::At(CollectPlace::CollectTag {
+        Now::At(CollectPoint::CollectTag {
             known,
             cell: cell + 1,
         })
     }
 }
 
-/// What follows the word that the verb of a place found.
+/// What follows the word that the verb of a point found.
 pub fn collect_after(
     cells: &Cells,
     workers: u32,
     seen: &Snapshot,
-    at: CollectPlace,
+    at: CollectPoint,
     found: u64,
-) -> Now<CollectPlace, Snapshot>
+) -> Now<CollectPoint, Snapshot>
     requires fits { FitsCells cells.now }
     requires workers { workers ≤ 16 }
     requires seen { length seen.now ≡ workers }
@@ -99,15 +99,15 @@ pub fn collect_after(
     ensures { result ≡ collect_after cells.now workers seen.now at found }
 {
     match at {
-        CollectPlace::HorizonLook { mut known } => {
+        CollectPoint::HorizonLook { mut known } => {
             if found < *seen.at(known.len()) {
-                Now::At(CollectPlace::HorizonRaise { known, found })
+                Now::At(CollectPoint::HorizonRaise { known, found })
             } else {
                 known.push(found);
                 entry_known(workers, known)
             }
         }
-        CollectPlace::HorizonRaise {
+        CollectPoint::HorizonRaise {
             mut known,
             found: expected,
         } => {
@@ -119,9 +119,9 @@ pub fn collect_after(
             known.push(entry);
             entry_known(workers, known)
         }
-        CollectPlace::CollectTag { known, cell } => {
+        CollectPoint::CollectTag { known, cell } => {
             if Tag(found).is_full() {
-                Now::At(CollectPlace::CollectEnding {
+                Now::At(CollectPoint::CollectEnding {
                     known,
                     cell,
                     tag: found,
@@ -130,21 +130,21 @@ pub fn collect_after(
                 collect_next(cells, known, cell)
             }
         }
-        CollectPlace::CollectEnding { known, cell, tag } => {
+        CollectPoint::CollectEnding { known, cell, tag } => {
             // Within what is known of the horizon, and not only within the own snapshot: a snapshot that another
             // worker has may still need the version.
             if is_within(stamp_in(cells.form, found), &known) && Tag(tag).has_next() {
-                Now::At(CollectPlace::CollectFree { known, cell, tag })
+                Now::At(CollectPoint::CollectFree { known, cell, tag })
             } else {
                 collect_next(cells, known, cell)
             }
         }
-        CollectPlace::CollectFree { known, cell, .. } => collect_next(cells, known, cell),
+        CollectPoint::CollectFree { known, cell, .. } => collect_next(cells, known, cell),
     }
 }
 
-/// A number of verbs that are to come from a place at the most.
-pub fn collect_left(cells: &Cells, workers: u32, at: &CollectPlace) -> u64
+/// A number of verbs that are to come from a point at the most.
+pub fn collect_left(cells: &Cells, workers: u32, at: &CollectPoint) -> u64
     requires fits { FitsCells cells.now }
     requires at { CollectFits cells.now workers at.now }
     ensures { result ≡ collect_left cells.now workers at.now }
@@ -152,13 +152,13 @@ pub fn collect_left(cells: &Cells, workers: u32, at: &CollectPlace) -> u64
     let workers = workers as u64;
     let count = cells.cells as u64;
     match at {
-        CollectPlace::HorizonLook { known } => 2 * (workers - known.len() as u64) + 3 * count,
-        CollectPlace::HorizonRaise { known, .. } => {
+        CollectPoint::HorizonLook { known } => 2 * (workers - known.len() as u64) + 3 * count,
+        CollectPoint::HorizonRaise { known, .. } => {
             2 * (workers - known.len() as u64) - 1 + 3 * count
         }
-        CollectPlace::CollectTag { cell, .. } => 3 * (count - *cell as u64 - 1) + 3,
-        CollectPlace::CollectEnding { cell, .. } => 3 * (count - *cell as u64 - 1) + 2,
-        CollectPlace::CollectFree { cell, .. } => 3 * (count - *cell as u64 - 1) + 1,
+        CollectPoint::CollectTag { cell, .. } => 3 * (count - *cell as u64 - 1) + 3,
+        CollectPoint::CollectEnding { cell, .. } => 3 * (count - *cell as u64 - 1) + 2,
+        CollectPoint::CollectFree { cell, .. } => 3 * (count - *cell as u64 - 1) + 1,
     }
 }
 
@@ -169,7 +169,7 @@ pub struct Collect {
     cells: Cells,
     workers: u32,
     seen: Snapshot,
-    state: Now<CollectPlace, Snapshot>,
+    state: Now<CollectPoint, Snapshot>,
 }
 
 impl Model for Collect {
@@ -206,21 +206,21 @@ impl Machine for Collect {
 
     type Word = Field;
 
-    type Place = CollectPlace;
+    type Point = CollectPoint;
 
     type End = Snapshot;
 
     ghost running = { running };
 
-    fn state(&self) -> &Now<CollectPlace, Snapshot> {
+    fn state(&self) -> &Now<CollectPoint, Snapshot> {
         &self.state
     }
 
-    fn verb_from(&self, place: &CollectPlace) -> Verb {
+    fn verb_from(&self, place: &CollectPoint) -> Verb {
         collect_verb(&self.cells, self.workers, &self.seen, place)
     }
 
-    fn left_from(&self, place: &CollectPlace) -> u64 {
+    fn left_from(&self, place: &CollectPoint) -> u64 {
         collect_left(&self.cells, self.workers, place)
     }
 

@@ -15,5 +15,5 @@ mod tests;
 
 pub use collect::{Collect, collect_after, collect_begin, collect_left, collect_verb};
 pub use laws::{collect_law, exchange_law, field_law, old_law};
-pub use nam_calls::{CollectPlace, OldEnd};
+pub use nam_calls::{CollectPoint, OldEnd};
 pub use old::{ShowOld, old_after, old_begin, old_left, old_verb};

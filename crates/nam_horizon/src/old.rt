@@ -105,7 +105,7 @@ impl Machine for ShowOld {
 
     type Word = Field;
 
-    type Place = u32;
+    type Point = u32;
 
     type End = OldEnd;
 

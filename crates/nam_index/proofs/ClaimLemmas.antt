@@ -11,29 +11,29 @@ use Rattle.nam_verbs.proofs.SearchLemmas.{search_ends, search_stops, search_miss
 use Rattle.nam_verbs.proofs.ReadingLemmas.{step_of}
 use Rattle.nam_verbs.specs.declared.now.Now.TheVariants as now
 use Rattle.nam_layout.specs.declared.field.Field.{Field}
-use Rattle.nam_calls.specs.declared.index.ClaimKeyPlace.{ClaimKeyPlace}
-use Rattle.nam_calls.specs.declared.index.ClaimKeyPlace.TheVariants.{KeyLook, KeyTake}
+use Rattle.nam_calls.specs.declared.index.ClaimKeyPoint.{ClaimKeyPoint}
+use Rattle.nam_calls.specs.declared.index.ClaimKeyPoint.TheVariants.{KeyLook, KeyTake}
 use Rattle.nam_calls.specs.declared.index.ClaimKeyEnd.{ClaimKeyEnd}
 use Rattle.nam_calls.specs.declared.index.ClaimKeyEnd.TheVariants.{At, NoSpace}
 use Rattle.nam_calls.specs.declared.index.Path.{Path}
 use Rattle.nam_calls.specs.Words.{key_word}
 use Rattle.nam_calls.specs.Index.{nth_position, nth_key, claim_key_verb, claim_key_after, claim_key_next}
-use Rattle.nam_index.specs.ClaimLaw.{exchanged, OtherHas, by_look, by_loss, KeyHas, was_there, is_claimed}
+use Rattle.nam_index.specs.ClaimLaw.{exchange_steps, OtherHas, by_look, by_loss, KeyHas, was_there, is_claimed}
 use Rattle.nam_index.specs.ClaimLaw.{was_claimed}
 
 module _ (path : Path) (some : 1 ≤ path.capacity) where
-  abbrev after : ClaimKeyPlace → ℕ → Now ClaimKeyPlace ClaimKeyEnd
+  abbrev after : ClaimKeyPoint → ℕ → Now ClaimKeyPoint ClaimKeyEnd
   after = claim_key_after path
 
-  abbrev EndsFrom : Now ClaimKeyPlace ClaimKeyEnd → List (Step Field) → ClaimKeyEnd → Type 0
+  abbrev EndsFrom : Now ClaimKeyPoint ClaimKeyEnd → List (Step Field) → ClaimKeyEnd → Type 0
   EndsFrom now steps end = Ends (claim_key_verb path) after now steps end
 
   -- after a position that bears another key
-  abbrev next : ℕ → Now ClaimKeyPlace ClaimKeyEnd
+  abbrev next : ℕ → Now ClaimKeyPoint ClaimKeyEnd
   next = claim_key_next path
 
   -- the claim ends at the position after so many
-  abbrev there : ℕ → Now ClaimKeyPlace ClaimKeyEnd
+  abbrev there : ℕ → Now ClaimKeyPoint ClaimKeyEnd
   there nth = now.Over (At (nth_position path nth))
 
   -- the position ends the claim so
@@ -86,17 +86,17 @@ module _ (path : Path) (some : 1 ≤ path.capacity) where
   part_take nth (step ∷ steps) end ends =
       let word = step.found in
       let is : step ≡ tried (nth_key path nth) 0 (key_word path.key) word = step_of _ step ends.0 in
-      let goes = λ (now : Now ClaimKeyPlace ClaimKeyEnd) (same : after (KeyTake nth) word ≡ now). subst
+      let goes = λ (now : Now ClaimKeyPoint ClaimKeyEnd) (same : after (KeyTake nth) word ≡ now). subst
       (λ now. EndsFrom now steps end) same ends.1 in
       elim (cases_eq word 0) [
         | inl free ↦
             inl (rw (is, free)
-            (there_stops nth (exchanged path nth 0) (λ position here. is_claimed here refl) steps end
+            (there_stops nth (exchange_steps path nth 0) (λ position here. is_claimed here refl) steps end
             (goes _ (taken_goes nth word (inl free)))))
         | inr not_free ↦ elim (cases_eq word (key_word path.key)) [
           | inl same ↦
               inl (rw (is, same)
-              (there_stops nth (exchanged path nth (key_word path.key))
+              (there_stops nth (exchange_steps path nth (key_word path.key))
               (λ position here. was_claimed here refl) steps end
               (goes _ (taken_goes nth word (inr same)))))
           | inr other ↦
@@ -117,7 +117,7 @@ module _ (path : Path) (some : 1 ≤ path.capacity) where
   part nth (step ∷ steps) end ends =
       let word = step.found in
       let is : step ≡ saw (nth_key path nth) word = step_of _ step ends.0 in
-      let goes = λ (now : Now ClaimKeyPlace ClaimKeyEnd) (same : after (KeyLook nth) word ≡ now). subst
+      let goes = λ (now : Now ClaimKeyPoint ClaimKeyEnd) (same : after (KeyLook nth) word ≡ now). subst
       (λ now. EndsFrom now steps end) same ends.1 in
       elim (cases_eq word (key_word path.key)) [
         | inl same ↦
@@ -141,7 +141,7 @@ module _ (path : Path) (some : 1 ≤ path.capacity) where
 
   -- The other way round.
 
-  goes_back : (at : ClaimKeyPlace) (word : ℕ) (now : Now ClaimKeyPlace ClaimKeyEnd) (steps : List (Step Field))
+  goes_back : (at : ClaimKeyPoint) (word : ℕ) (now : Now ClaimKeyPoint ClaimKeyEnd) (steps : List (Step Field))
       (end : ClaimKeyEnd) → after at word ≡ now
       → EndsFrom now steps end → EndsFrom (after at word) steps end
   goes_back at word now steps end same ends = subst (λ now. EndsFrom now steps end) (sym same) ends
@@ -160,7 +160,7 @@ module _ (path : Path) (some : 1 ≤ path.capacity) where
       )
 
   exchange_stops : (nth word : ℕ) → (word ≡ 0) ⊎ (word ≡ key_word path.key)
-      → EndsFrom (now.At (KeyLook nth)) (exchanged path nth word) (At (nth_position path nth))
+      → EndsFrom (now.At (KeyLook nth)) (exchange_steps path nth word) (At (nth_position path nth))
   exchange_stops nth word why =
       let end = At (nth_position path nth) in (
         refl,

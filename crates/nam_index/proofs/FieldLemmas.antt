@@ -6,8 +6,8 @@ use Rattle.nam_verbs.proofs.TakenLemmas.{holds_always}
 use Rattle.nam_catalog.specs.declared.shape.Shape.{Shape}
 use Rattle.nam_catalog.specs.Fits.{FitsLimits}
 use Rattle.nam_layout.specs.Address.{IsRow}
-use Rattle.nam_calls.specs.declared.index.ClaimKeyPlace.{ClaimKeyPlace}
-use Rattle.nam_calls.specs.declared.index.ClaimKeyPlace.TheVariants.{KeyLook, KeyTake}
+use Rattle.nam_calls.specs.declared.index.ClaimKeyPoint.{ClaimKeyPoint}
+use Rattle.nam_calls.specs.declared.index.ClaimKeyPoint.TheVariants.{KeyLook, KeyTake}
 use Rattle.nam_calls.specs.Words.{capacity_of, path_of}
 use Rattle.nam_calls.specs.Index.{nth_position, nth_key, find_verb, claim_key_verb}
 use Rattle.nam_calls.specs.Fits.{FindFits, FindEnds, ClaimKeyFits, ClaimKeyEnds, IsTableOf}
@@ -32,7 +32,7 @@ module _ (shape : Shape) (limits : FitsLimits shape) (table : ℕ) (is : IsTable
     stands = stands shape limits table is key passed fits;
   }
 
-  claims_at_key : (at : ClaimKeyPlace) → ClaimKeyFits (capacity_of shape table) at
+  claims_at_key : (at : ClaimKeyPoint) → ClaimKeyFits (capacity_of shape table) at
       → IsKeyWord shape table key (target (claim_key_verb (path_of shape table key) at))
   claims_at_key (KeyLook passed) = nth_is_key passed
   claims_at_key (KeyTake passed) = nth_is_key passed

@@ -5,7 +5,7 @@ use Rattle.nam_verbs.specs.declared.now.Now.TheVariants.{At}
 use Rattle.nam_verbs.specs.Running.{Running}
 use Rattle.nam_catalog.specs.declared.shape.Shape.{Shape}
 use Rattle.nam_layout.specs.declared.field.Field.{Field}
-use Rattle.nam_calls.specs.declared.index.ClaimKeyPlace.{ClaimKeyPlace}
+use Rattle.nam_calls.specs.declared.index.ClaimKeyPoint.{ClaimKeyPoint}
 use Rattle.nam_calls.specs.declared.index.ClaimKeyEnd.{ClaimKeyEnd}
 use Rattle.nam_calls.specs.declared.index.Path.{Path}
 use Rattle.nam_calls.specs.Words.{path_of}
@@ -15,14 +15,14 @@ use Rattle.nam_index.specs.Path.{path_address, path_end}
 -- the path of the key, and where the claim stands
 pub record Claiming : Type 0 where
   pub path : Path
-  pub state : Now ClaimKeyPlace ClaimKeyEnd
+  pub state : Now ClaimKeyPoint ClaimKeyEnd
 
 -- a new claim for a key of a table
 abbrev pub claiming : Shape → ℕ → ℕ → Claiming
 claiming shape table key = record { path = path_of shape table key; state = At claim_key_begin }
 
 -- the same as a running call
-abbrev pub running : Claiming → Running Field ClaimKeyPlace ClaimKeyEnd
+abbrev pub running : Claiming → Running Field ClaimKeyPoint ClaimKeyEnd
 running a = record {
   address = path_address a.path;
   reach = path_end a.path;

@@ -13,21 +13,21 @@ use Rattle.nam_index.specs.Claim.{claiming, running}
 
 module _ (path : Path) where
   -- a position of the path was found to bear no key, and its exchange for the key found this word
-  abbrev pub exchanged : ℕ → ℕ → List (Step Field)
-  exchanged nth word = saw (nth_key path nth) 0 ∷ tried (nth_key path nth) 0 (key_word path.key) word ∷ []
+  abbrev pub exchange_steps : ℕ → ℕ → List (Step Field)
+  exchange_steps nth word = saw (nth_key path nth) 0 ∷ tried (nth_key path nth) 0 (key_word path.key) word ∷ []
 
   -- the position bears another key: it was read, or the exchange was lost to it
   pub data OtherHas (nth : ℕ) (steps : List (Step Field)) : Type 0 where
     by_look : (word : ℕ) → word ≢ 0 → word ≢ key_word path.key → steps ≡ saw (nth_key path nth) word ∷ []
         → OtherHas nth steps
-    by_loss : (word : ℕ) → word ≢ 0 → word ≢ key_word path.key → steps ≡ exchanged nth word → OtherHas nth steps
+    by_loss : (word : ℕ) → word ≢ 0 → word ≢ key_word path.key → steps ≡ exchange_steps nth word → OtherHas nth steps
 
   -- the position bears the key: it was read, or the exchange was done, or lost to the same key
   pub data KeyHas (position nth : ℕ) (steps : List (Step Field)) : Type 0 where
     was_there : position ≡ nth_position path nth → steps ≡ saw (nth_key path nth) (key_word path.key) ∷ []
         → KeyHas position nth steps
-    is_claimed : position ≡ nth_position path nth → steps ≡ exchanged nth 0 → KeyHas position nth steps
-    was_claimed : position ≡ nth_position path nth → steps ≡ exchanged nth (key_word path.key)
+    is_claimed : position ≡ nth_position path nth → steps ≡ exchange_steps nth 0 → KeyHas position nth steps
+    was_claimed : position ≡ nth_position path nth → steps ≡ exchange_steps nth (key_word path.key)
         → KeyHas position nth steps
 
 -- at a position exactly where it was found to bear the key or was claimed, after each before it on the path was found

@@ -13,31 +13,31 @@ ghost use Rattle.nam_index.specs.Path.{path_address, path_end, FitsPath};
 ghost use Rattle.nam_index.specs.Claim.{claiming, running};
 
 use crate::path::{key_at, path_of, position_at};
-use nam_calls::{ClaimKeyEnd, ClaimKeyPlace, Path};
+use nam_calls::{ClaimKeyEnd, ClaimKeyPoint, Path};
 use nam_layout::{Field, Layout};
 use nam_verbs::{Machine, Now, Verb};
 use std::marker::Model;
 use std::mem::replace;
 
 /// Where a claim begins: no position of the key's path has been passed.
-pub fn claim_key_begin() -> ClaimKeyPlace
+pub fn claim_key_begin() -> ClaimKeyPoint
     ensures { result ≡ claim_key_begin }
 {
-    ClaimKeyPlace::KeyLook { passed: 0 }
+    ClaimKeyPoint::KeyLook { passed: 0 }
 }
 
-/// The verb that stands at a place.
-pub fn claim_key_verb(path: &Path, place: &ClaimKeyPlace) -> Verb
+/// The verb that stands at a point.
+pub fn claim_key_verb(path: &Path, place: &ClaimKeyPoint) -> Verb
     requires fits { FitsPath path.now }
     requires place { ClaimKeyFits path.now.capacity place.now }
     ensures value { result ≡ verb_by (path_address path.now) (claim_key_verb path.now place.now) }
     ensures within { address_of result < path_end path.now }
 {
     match place {
-        ClaimKeyPlace::KeyLook { passed } => Verb::Read {
+        ClaimKeyPoint::KeyLook { passed } => Verb::Read {
             at: key_at(path, *passed),
         },
-        ClaimKeyPlace::KeyTake { passed } => Verb::Exchange {
+        ClaimKeyPoint::KeyTake { passed } => Verb::Exchange {
             at: key_at(path, *passed),
             expect: 0,
             word: path.key + 1,
@@ -46,7 +46,7 @@ pub fn claim_key_verb(path: &Path, place: &ClaimKeyPlace) -> Verb
 }
 
 /// Goes on after a position that bears another key.
-fn claim_key_next(path: &Path, passed: u32) -> Now<ClaimKeyPlace, ClaimKeyEnd>
+fn claim_key_next(path: &Path, passed: u32) -> Now<ClaimKeyPoint, ClaimKeyEnd>
     requires fits { FitsPath path.now }
     requires passed { passed < path.now.capacity }
     ensures { result ≡ claim_key_next path.now passed }
@@ -54,31 +54,31 @@ fn claim_key_next(path: &Path, passed: u32) -> Now<ClaimKeyPlace, ClaimKeyEnd>
     if passed + 1 == path.capacity {
         Now::Over(ClaimKeyEnd::NoSpace)
     } else {
-        Now::At(ClaimKeyPlace::KeyLook { passed: passed + 1 })
+        Now::At(ClaimKeyPoint::KeyLook { passed: passed + 1 })
     }
 }
 
-/// What follows the word that the verb of a place found.
+/// What follows the word that the verb of a point found.
 pub fn claim_key_after(
     path: &Path,
-    place: ClaimKeyPlace,
+    place: ClaimKeyPoint,
     found: u64,
-) -> Now<ClaimKeyPlace, ClaimKeyEnd>
+) -> Now<ClaimKeyPoint, ClaimKeyEnd>
     requires fits { FitsPath path.now }
     requires place { ClaimKeyFits path.now.capacity place }
     ensures { result ≡ claim_key_after path.now place found }
 {
     match place {
-        ClaimKeyPlace::KeyLook { passed } => {
+        ClaimKeyPoint::KeyLook { passed } => {
             if found == path.key + 1 {
                 Now::Over(ClaimKeyEnd::At(position_at(path, passed)))
             } else if found == 0 {
-                Now::At(ClaimKeyPlace::KeyTake { passed })
+                Now::At(ClaimKeyPoint::KeyTake { passed })
             } else {
                 claim_key_next(path, passed)
             }
         }
-        ClaimKeyPlace::KeyTake { passed } => {
+        ClaimKeyPoint::KeyTake { passed } => {
             if found == 0 || found == path.key + 1 {
                 Now::Over(ClaimKeyEnd::At(position_at(path, passed)))
             } else {
@@ -88,14 +88,14 @@ pub fn claim_key_after(
     }
 }
 
-/// A number of verbs that are to come from a place at the most.
-pub fn claim_key_left(path: &Path, place: &ClaimKeyPlace) -> u64
+/// A number of verbs that are to come from a point at the most.
+pub fn claim_key_left(path: &Path, place: &ClaimKeyPoint) -> u64
     requires { ClaimKeyFits path.now.capacity place.now }
     ensures { result ≡ claim_key_left path.now place.now }
 {
     match place {
-        ClaimKeyPlace::KeyLook { passed } => 2 * (path.capacity - passed - 1) as u64 + 2,
-        ClaimKeyPlace::KeyTake { passed } => 2 * (path.capacity - passed - 1) as u64 + 1,
+        ClaimKeyPoint::KeyLook { passed } => 2 * (path.capacity - passed - 1) as u64 + 2,
+        ClaimKeyPoint::KeyTake { passed } => 2 * (path.capacity - passed - 1) as u64 + 1,
     }
 }
 
@@ -104,7 +104,7 @@ pub fn claim_key_left(path: &Path, place: &ClaimKeyPlace) -> u64
 #[derive(Debug, Drop)]
 pub struct FindOrClaim {
     path: Path,
-    state: Now<ClaimKeyPlace, ClaimKeyEnd>,
+    state: Now<ClaimKeyPoint, ClaimKeyEnd>,
 }
 
 impl Model for FindOrClaim {
@@ -141,21 +141,21 @@ impl Machine for FindOrClaim {
 
     type Word = Field;
 
-    type Place = ClaimKeyPlace;
+    type Point = ClaimKeyPoint;
 
     type End = ClaimKeyEnd;
 
     ghost running = { running };
 
-    fn state(&self) -> &Now<ClaimKeyPlace, ClaimKeyEnd> {
+    fn state(&self) -> &Now<ClaimKeyPoint, ClaimKeyEnd> {
         &self.state
     }
 
-    fn verb_from(&self, place: &ClaimKeyPlace) -> Verb {
+    fn verb_from(&self, place: &ClaimKeyPoint) -> Verb {
         claim_key_verb(&self.path, place)
     }
 
-    fn left_from(&self, place: &ClaimKeyPlace) -> u64 {
+    fn left_from(&self, place: &ClaimKeyPoint) -> u64 {
         claim_key_left(&self.path, place)
     }
 

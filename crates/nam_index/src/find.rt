@@ -101,7 +101,7 @@ impl Machine for Find {
 
     type Word = Field;
 
-    type Place = u32;
+    type Point = u32;
 
     type End = FindEnd;
 

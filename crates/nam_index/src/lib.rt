@@ -17,5 +17,5 @@ mod tests;
 pub use claim::{FindOrClaim, claim_key_after, claim_key_begin, claim_key_left, claim_key_verb};
 pub use find::{Find, find_after, find_begin, find_left, find_verb};
 pub use laws::{claim_law, field_law, find_law, path_law};
-pub use nam_calls::{ClaimKeyEnd, ClaimKeyPlace, FindEnd, Path};
+pub use nam_calls::{ClaimKeyEnd, ClaimKeyPoint, FindEnd, Path};
 pub use path::path_of;

@@ -15,8 +15,8 @@ use Rattle.nam_layout.specs.declared.field.Place.{Place}
 use Rattle.nam_layout.specs.Address.{IsRow, IsField, address}
 use Rattle.nam_layout.specs.Place.{place_at, no_place}
 use Rattle.nam_header.specs.Stamp.{with_lock}
-use Rattle.nam_calls.specs.declared.lock.LockPlace.{LockPlace}
-use Rattle.nam_calls.specs.declared.lock.LockPlace.TheVariants.{Peek, Seize, GiveBack}
+use Rattle.nam_calls.specs.declared.lock.LockPoint.{LockPoint}
+use Rattle.nam_calls.specs.declared.lock.LockPoint.TheVariants.{Peek, Seize, GiveBack}
 use Rattle.nam_calls.specs.declared.lock.LockEnd.TheVariants.{Held}
 use Rattle.nam_calls.specs.Lock.{nth_place, header_field, lock_verb_by, lock_verb, lock_next, unlock_verb_by}
 use Rattle.nam_calls.specs.Lock.{unlock_verb, unlock_begin}
@@ -42,7 +42,7 @@ module _ (shape : Shape) (rows : List ℕ) (are : All (IsRow shape) rows) where
 
   -- 1. Locking
 
-  lock_at_field : (worker : ℕ) (at : LockPlace) → LockFits (length places) at
+  lock_at_field : (worker : ℕ) (at : LockPoint) → LockFits (length places) at
       → IsAtField shape (lock_verb_by (λ place. place) worker places at) (lock_verb worker places at)
   lock_at_field worker (Peek held) fits =
       let has = has_header (length held) fits in record { same = ap Read has.0; is_field = has.1 }

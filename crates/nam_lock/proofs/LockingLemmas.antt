@@ -14,8 +14,8 @@ use Rattle.nam_verbs.proofs.StepsLemmas.{verbs_are, does_verbs}
 use Rattle.nam_verbs.proofs.TestLemmas.{by_test, by_equal}
 use Rattle.nam_header.specs.Stamp.{sees, is_locked}
 use Rattle.nam_layout.specs.declared.field.Place.{Place}
-use Rattle.nam_calls.specs.declared.lock.LockPlace.{LockPlace}
-use Rattle.nam_calls.specs.declared.lock.LockPlace.TheVariants.{Peek, Seize, GiveBack}
+use Rattle.nam_calls.specs.declared.lock.LockPoint.{LockPoint}
+use Rattle.nam_calls.specs.declared.lock.LockPoint.TheVariants.{Peek, Seize, GiveBack}
 use Rattle.nam_calls.specs.declared.lock.LockEnd.{LockEnd}
 use Rattle.nam_calls.specs.declared.lock.LockEnd.TheVariants.{Held, Locked, Newer}
 use Rattle.nam_calls.specs.Lock.{lock_verb_by, lock_next, lock_after, loss_of, give_back}
@@ -24,13 +24,13 @@ use Rattle.nam_lock.specs.LockingLaw.{tried_lock, locks_from, ReadsTaken, LosesE
 use Rattle.nam_lock.specs.LockingLaw.{IsLockingOf}
 
 module _ {W : Type 0} (name : Place → W) (worker : ℕ) (places : List Place) (seen : List ℕ) where
-  abbrev verb : LockPlace → VerbAt W
+  abbrev verb : LockPoint → VerbAt W
   verb = lock_verb_by name worker places
 
-  abbrev after : LockPlace → ℕ → Now LockPlace LockEnd
+  abbrev after : LockPoint → ℕ → Now LockPoint LockEnd
   after = lock_after places seen
 
-  abbrev EndsFrom : Now LockPlace LockEnd → List (Step W) → LockEnd → Type 0
+  abbrev EndsFrom : Now LockPoint LockEnd → List (Step W) → LockEnd → Type 0
   EndsFrom now steps end = Ends verb after now steps end
 
   abbrev read_of : ℕ → ℕ → Step W
@@ -56,7 +56,7 @@ module _ {W : Type 0} (name : Place → W) (worker : ℕ) (places : List Place) 
   Given = GivesBack name worker places seen
 
   -- where it begins to give back, what it writes then, and how it ends
-  abbrev missed_by : List ℕ → ℕ → Now LockPlace LockEnd
+  abbrev missed_by : List ℕ → ℕ → Now LockPoint LockEnd
   missed_by held found = give_back places held 0 found
 
   abbrev writes : List ℕ → List (VerbAt W)
@@ -187,7 +187,7 @@ module _ {W : Type 0} (name : Place → W) (worker : ℕ) (places : List Place) 
       let n = length held in
       let found = step.found in
       let is : step ≡ try_of n header found = step_of _ step ends.0 in
-      let Claim = λ (now : Now LockPlace LockEnd). EndsFrom now steps end
+      let Claim = λ (now : Now LockPoint LockEnd). EndsFrom now steps end
       → From held n (read_of n header ∷ step ∷ steps) end in
       by_equal Claim found header (lock_next places (held ++ header ∷ [])) (missed_by held found)
       (λ same goes.
@@ -207,7 +207,7 @@ module _ {W : Type 0} (name : Place → W) (worker : ℕ) (places : List Place) 
       let n = length held in
       let found = step.found in
       let is : step ≡ read_of n found = step_of _ step ends.0 in
-      let Claim = λ (now : Now LockPlace LockEnd). EndsFrom now steps end → From held n (step ∷ steps) end in
+      let Claim = λ (now : Now LockPoint LockEnd). EndsFrom now steps end → From held n (step ∷ steps) end in
       let misses : IsLocked places n found ⊎ IsUnseen places seen n found → Claim (missed_by held found) =
       λ why goes. misses_here held found (step ∷ []) steps end within (inl (rw (← is) refl, why)) goes in
       by_test Claim (is_locked (form_at places n) found) (missed_by held found)

@@ -17,8 +17,8 @@ use Rattle.nam_verbs.proofs.HistoryLemmas as past
 use Rattle.nam_verbs.proofs.TestLemmas.{by_test, by_equal}
 use Rattle.nam_header.specs.Stamp.{sees, is_locked}
 use Rattle.nam_layout.specs.declared.field.Place.{Place}
-use Rattle.nam_calls.specs.declared.lock.LockPlace.{LockPlace}
-use Rattle.nam_calls.specs.declared.lock.LockPlace.TheVariants.{Peek, Seize, GiveBack}
+use Rattle.nam_calls.specs.declared.lock.LockPoint.{LockPoint}
+use Rattle.nam_calls.specs.declared.lock.LockPoint.TheVariants.{Peek, Seize, GiveBack}
 use Rattle.nam_calls.specs.declared.lock.LockEnd.{LockEnd}
 use Rattle.nam_calls.specs.declared.lock.LockEnd.TheVariants.{Held, Locked, Newer}
 use Rattle.nam_calls.specs.Lock.{lock_verb_by, lock_next, lock_after, lock_left, loss_of, give_back}
@@ -57,32 +57,32 @@ writes_more at (word ∷ words) nth zero last within is = let same : nth ≡ las
 writes_more at (word ∷ words) nth (suc given) last within is =
     rw (writes_more at words (nth + 1) given last (omega arith) (omega arith)) refl
 
--- 2. The steps that led to each place
+-- 2. The steps that led to each point
 
 module _ {W : Type 0} (name : Place → W) (worker : ℕ) (places : List Place) (seen : List ℕ) where
-  abbrev verb : LockPlace → VerbAt W
+  abbrev verb : LockPoint → VerbAt W
   verb = lock_verb_by name worker places
 
-  abbrev after : LockPlace → ℕ → Now LockPlace LockEnd
+  abbrev after : LockPoint → ℕ → Now LockPoint LockEnd
   after = lock_after places seen
 
-  abbrev left : LockPlace → ℕ
+  abbrev left : LockPoint → ℕ
   left = lock_left places (length places)
 
-  abbrev call : Now LockPlace LockEnd → Running W LockPlace LockEnd
+  abbrev call : Now LockPoint LockEnd → Running W LockPoint LockEnd
   call state = record { address = λ w. 0; reach = 0; verb = verb; after = after; left = left; state = state }
 
-  abbrev machine : Now LockPlace LockEnd → Running Place LockPlace LockEnd
+  abbrev machine : Now LockPoint LockEnd → Running Place LockPoint LockEnd
   machine state = running (record { worker = worker; places = places; seen = seen; state = state })
 
   -- where it stands doesn't depend on the names of the headers
-  same_state : (now : Now LockPlace LockEnd) (words : List ℕ)
+  same_state : (now : Now LockPoint LockEnd) (words : List ℕ)
       → (after_words (call now) words).state ≡ (after_words (machine now) words).state
   same_state now [] = refl
   same_state (Over end) (word ∷ words) = same_state (Over end) words
   same_state (At at) (word ∷ words) = same_state (after at word) words
 
-  abbrev begins : Now LockPlace LockEnd
+  abbrev begins : Now LockPoint LockEnd
   begins = lock_next places []
 
   abbrev steps_so_far : List ℕ → List (Step W)
@@ -94,13 +94,13 @@ module _ {W : Type 0} (name : Place → W) (worker : ℕ) (places : List Place) 
   abbrev Given : List ℕ → ℕ → ℕ → List (Step W) → Type 0
   Given = GivenSoFar name worker places seen
 
-  abbrev Holds : LockPlace → List (Step W) → Type 0
+  abbrev Holds : LockPoint → List (Step W) → Type 0
   Holds = LocksSoFar name worker places seen
 
-  abbrev HoldsNow : Now LockPlace LockEnd → List (Step W) → Type 0
+  abbrev HoldsNow : Now LockPoint LockEnd → List (Step W) → Type 0
   HoldsNow = past.HoldsNow verb after (λ w. 0) 0 left Holds
 
-  abbrev step_at : LockPlace → ℕ → Step W
+  abbrev step_at : LockPoint → ℕ → Step W
   step_at = past.step_at verb after
 
   -- it goes on to give back, or has given back all
@@ -134,7 +134,7 @@ module _ {W : Type 0} (name : Place → W) (worker : ℕ) (places : List Place) 
       by_equal (λ now. HoldsNow now steps) (length held) (length places) (Over (Held held)) (At (Peek held))
       (λ last. tt) (λ more. (omega arith, free, is))
 
-  keeps : (at : LockPlace) (before : List (Step W)) → Holds at before → (found : ℕ)
+  keeps : (at : LockPoint) (before : List (Step W)) → Holds at before → (found : ℕ)
       → HoldsNow (after at found) (before ++ step_at at found ∷ [])
   keeps (Peek held) before holds found =
       let n = length held in
@@ -143,7 +143,7 @@ module _ {W : Type 0} (name : Place → W) (worker : ℕ) (places : List Place) 
       let are : steps ≡ locks held ++ step ∷ [] = ap (λ all. all ++ step ∷ []) holds.2 in
       let form = form_at places n in
       let back = give_back places held 0 found in
-      let Claim = λ (now : Now LockPlace LockEnd). HoldsNow now steps in
+      let Claim = λ (now : Now LockPoint LockEnd). HoldsNow now steps in
       by_test Claim (is_locked form found) back (if sees form seen found then At (Seize held found) else back)
       (λ taken. missed_holds held found (step ∷ []) steps holds.0 holds.1 (inl (refl, inl taken)) are)
       (λ unlocked.
@@ -188,7 +188,7 @@ module _ {W : Type 0} (name : Place → W) (worker : ℕ) (places : List Place) 
             ∙ append_assoc (locks held ++ so_far.last) so_far.back (step ∷ []);
       })
 
-  fits_now : (now : Now LockPlace LockEnd) (steps : List (Step W)) → HoldsNow now steps
+  fits_now : (now : Now LockPoint LockEnd) (steps : List (Step W)) → HoldsNow now steps
       → FitsNow (λ at. Holds at steps) now
   fits_now (At at) steps holds = holds
   fits_now (Over end) steps holds = tt
@@ -273,7 +273,7 @@ module _ {W : Type 0} (name : Place → W) (worker : ℕ) (places : List Place) 
   changed_end (Locked nth found) steps both = changed_missed nth found steps both.0
   changed_end (Newer nth found) steps both = changed_missed nth found steps both.0
 
-  changed_at : (at : LockPlace) (steps : List (Step W)) → Holds at steps
+  changed_at : (at : LockPoint) (steps : List (Step W)) → Holds at steps
       → ChangedSoFar name worker places (At at) steps
   changed_at (Peek held) steps holds =
       changed_locks held [] steps refl (holds.2 ∙ sym (append-nil (locks held)))
@@ -284,7 +284,7 @@ module _ {W : Type 0} (name : Place → W) (worker : ℕ) (places : List Place) 
       changed_by held given so_far.last so_far.back steps
       (stored_none (length held) found so_far.last so_far.missed) so_far.written so_far.steps_are
 
-  changed_now : (now : Now LockPlace LockEnd) (steps : List (Step W)) → HoldsNow now steps
+  changed_now : (now : Now LockPoint LockEnd) (steps : List (Step W)) → HoldsNow now steps
       → past.Leads verb after begins steps now → ChangedSoFar name worker places now steps
   changed_now (At at) steps holds leads = changed_at at steps holds
   changed_now (Over end) steps holds leads =

@@ -11,8 +11,8 @@ use Rattle.nam_verbs.specs.Falls.{FallsTo, Falls}
 use Rattle.nam_verbs.proofs.TestLemmas.{by_test}
 use Rattle.nam_header.specs.Stamp.{sees, is_locked}
 use Rattle.nam_layout.specs.declared.field.Place.{Place}
-use Rattle.nam_calls.specs.declared.lock.LockPlace.{LockPlace}
-use Rattle.nam_calls.specs.declared.lock.LockPlace.TheVariants.{Peek, Seize, GiveBack}
+use Rattle.nam_calls.specs.declared.lock.LockPoint.{LockPoint}
+use Rattle.nam_calls.specs.declared.lock.LockPoint.TheVariants.{Peek, Seize, GiveBack}
 use Rattle.nam_calls.specs.declared.lock.LockEnd.{LockEnd}
 use Rattle.nam_calls.specs.declared.lock.LockEnd.TheVariants.{Held, Locked, Newer}
 use Rattle.nam_calls.specs.Lock.{nth_place, lock_next, lock_after, lock_left, loss_of, give_back}
@@ -24,10 +24,10 @@ use Rattle.nam_lock.specs.TakenLaw.{stored, exchanges}
 -- 1. Locks
 
 module _ (worker : ℕ) (places : List Place) (seen : List ℕ) where
-  abbrev call : Now LockPlace LockEnd → Running Place LockPlace LockEnd
+  abbrev call : Now LockPoint LockEnd → Running Place LockPoint LockEnd
   call state = running (record { worker = worker; places = places; seen = seen; state = state })
 
-  abbrev taken_after : Now LockPlace LockEnd → List ℕ → ℕ
+  abbrev taken_after : Now LockPoint LockEnd → List ℕ → ℕ
   taken_after state words = taken_by (after_words (call state) words).state
 
   back_takes : (held : List ℕ) (given found : ℕ) → taken_by (give_back places held given found) ≡ length held
@@ -45,12 +45,12 @@ module _ (worker : ℕ) (places : List Place) (seen : List ℕ) where
       (λ last. refl) (λ more. refl)
 
   -- one word more
-  word_takes : (at : LockPlace) (found : ℕ)
+  word_takes : (at : LockPoint) (found : ℕ)
       → taken_by (lock_after places seen at found) ≡ taken_by (At at) + stored (next_verb (call (At at))) found
   word_takes (Peek held) found =
       let form = (nth_place places (length held)).form in
       let back = give_back places held 0 found in
-      let Claim = λ (now : Now LockPlace LockEnd). taken_by now ≡ length held + 0 in
+      let Claim = λ (now : Now LockPoint LockEnd). taken_by now ≡ length held + 0 in
       let returned : Claim back = back_takes held 0 found ∙ omega arith in
       by_test Claim (is_locked form found) back (if sees form seen found then At (Seize held found) else back)
       (λ taken. returned)
@@ -58,7 +58,7 @@ module _ (worker : ℕ) (places : List Place) (seen : List ℕ) where
       by_test Claim (sees form seen found) (At (Seize held found)) back (λ visible. omega arith) (λ unseen. returned))
   word_takes (Seize held header) found =
       let more = held ++ header ∷ [] in
-      let Claim = λ (now : Now LockPlace LockEnd). taken_by now ≡ length held + (if found == header then 1 else 0) in
+      let Claim = λ (now : Now LockPoint LockEnd). taken_by now ≡ length held + (if found == header then 1 else 0) in
       by_test Claim (found == header) (lock_next places more) (give_back places held 0 found)
       (λ same. next_takes more ∙ length-append held (header ∷ []) ∙ rw same refl)
       (λ other. back_takes held 0 found ∙ rw other (omega arith))
@@ -69,7 +69,7 @@ module _ (worker : ℕ) (places : List Place) (seen : List ℕ) where
   ended_takes end [] = omega arith
   ended_takes end (word ∷ words) = ended_takes end words ∙ omega arith
 
-  words_take : (words : List ℕ) (state : Now LockPlace LockEnd)
+  words_take : (words : List ℕ) (state : Now LockPoint LockEnd)
       → taken_after state words ≡ taken_by state + exchanges (call state) words
   words_take [] state = omega arith
   words_take (word ∷ words) (At at) =
@@ -83,15 +83,15 @@ module _ (worker : ℕ) (places : List Place) (seen : List ℕ) where
 -- 2. Verbs to come, where nothing follows the locks
 
 module _ (places : List Place) where
-  abbrev LockFalls : ℕ → Now LockPlace LockEnd → Type 0
+  abbrev LockFalls : ℕ → Now LockPoint LockEnd → Type 0
   LockFalls = Falls (LockFits (length places)) (LockEnds (length places)) (lock_left places (length places))
 
-  ends_fall : (after : LockEnd → ℕ) (n : ℕ) (now : Now LockPlace LockEnd)
+  ends_fall : (after : LockEnd → ℕ) (n : ℕ) (now : Now LockPoint LockEnd)
       → FallsTo (LockFits (length places)) (LockEnds (length places)) (lock_left places (length places)) after n now
       → LockFalls n now
   ends_fall after n (At at) falls = falls
   ends_fall after n (Over end) falls = (falls.0, omega (arith, falls.1))
 
-  pub word_falls : (seen : List ℕ) (found : ℕ) (at : LockPlace) → LockFits (length places) at
+  pub word_falls : (seen : List ℕ) (found : ℕ) (at : LockPoint) → LockFits (length places) at
       → LockFalls (lock_left places (length places) at) (lock_after places seen at found)
   word_falls seen found at fits = ends_fall _ _ _ (lock_falls places (length places) (omega arith) seen at found fits)

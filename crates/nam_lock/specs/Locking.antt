@@ -4,7 +4,7 @@ use Rattle.nam_verbs.specs.declared.now.Now.{Now}
 use Rattle.nam_verbs.specs.declared.now.Now.TheVariants.{At, Over}
 use Rattle.nam_verbs.specs.Running.{Running}
 use Rattle.nam_layout.specs.declared.field.Place.{Place}
-use Rattle.nam_calls.specs.declared.lock.LockPlace.{LockPlace}
+use Rattle.nam_calls.specs.declared.lock.LockPoint.{LockPoint}
 use Rattle.nam_calls.specs.declared.lock.LockEnd.{LockEnd}
 use Rattle.nam_calls.specs.declared.lock.LockEnd.TheVariants.{Held, Locked, Newer}
 use Rattle.nam_calls.specs.Lock.{lock_verb_by, lock_next, lock_after, lock_left, taken}
@@ -15,14 +15,14 @@ pub record Locking : Type 0 where
   pub worker : ℕ
   pub places : List Place
   pub seen : List ℕ
-  pub state : Now LockPlace LockEnd
+  pub state : Now LockPoint LockEnd
 
 -- a new locking, which has ended where there are no records
 abbrev pub locking : ℕ → List Place → List ℕ → Locking
 locking worker places seen = record { worker = worker; places = places; seen = seen; state = lock_next places [] }
 
 -- the same as a running call, whose words are the headers of the places, and which nothing follows but giving back
-abbrev pub running : Locking → Running Place LockPlace LockEnd
+abbrev pub running : Locking → Running Place LockPoint LockEnd
 running a = record {
   address = header_address;
   reach = headers_end a.places;
@@ -33,7 +33,7 @@ running a = record {
 }
 
 -- how many locks were taken so far, those that are given back among them
-abbrev pub taken_by : Now LockPlace LockEnd → ℕ
+abbrev pub taken_by : Now LockPoint LockEnd → ℕ
 taken_by (At place) = length (taken place)
 taken_by (Over (Held held)) = length held
 taken_by (Over (Locked nth found)) = nth

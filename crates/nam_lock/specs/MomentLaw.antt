@@ -9,8 +9,8 @@ use Rattle.nam_verbs.specs.Steps.{Step, saw, writes_of, verbs_of}
 use Rattle.nam_verbs.specs.SoFar.{steps_from, steps_by}
 use Rattle.nam_layout.specs.declared.field.Field.{Field}
 use Rattle.nam_layout.specs.declared.field.Place.{Place}
-use Rattle.nam_calls.specs.declared.lock.LockPlace.{LockPlace}
-use Rattle.nam_calls.specs.declared.lock.LockPlace.TheVariants.{Peek, Seize, GiveBack}
+use Rattle.nam_calls.specs.declared.lock.LockPoint.{LockPoint}
+use Rattle.nam_calls.specs.declared.lock.LockPoint.TheVariants.{Peek, Seize, GiveBack}
 use Rattle.nam_calls.specs.declared.lock.LockEnd.{LockEnd}
 use Rattle.nam_calls.specs.declared.lock.LockEnd.TheVariants.{Held, Locked, Newer}
 use Rattle.nam_calls.specs.Lock.{header_field, lock_verb, lock_after, lock_next, taken}
@@ -18,7 +18,7 @@ use Rattle.nam_header.specs.Stamp.{with_lock}
 use Rattle.nam_lock.specs.Locking.{locking, running}
 use Rattle.nam_lock.specs.LockingLaw.{form_at, IsFree, AreFree, header_of, locks_from, ReadsTaken, LosesExchange}
 
--- 1. The steps that led to a place
+-- 1. The steps that led to a point
 
 module _ {W : Type 0} (name : Place → W) (worker : ℕ) (places : List Place) (seen : List ℕ) where
   -- The records were free and were locked in order under these headers, the next one was missed by the word found, and
@@ -34,7 +34,7 @@ module _ {W : Type 0} (name : Place → W) (worker : ℕ) (places : List Place) 
     pub steps_are : steps ≡ (locks_from name places worker 0 held ++ last) ++ back
 
   -- the locks that were taken so far, and what was done after the last of them
-  abbrev pub LocksSoFar : LockPlace → List (Step W) → Type 0
+  abbrev pub LocksSoFar : LockPoint → List (Step W) → Type 0
   LocksSoFar (Peek held) steps =
       (length held < length places) × AreFree places seen 0 held × (steps ≡ locks_from name places worker 0 held)
   LocksSoFar (Seize held header) steps =
@@ -101,13 +101,13 @@ module _ {W : Type 0} (name : Place → W) (worker : ℕ) (places : List Place) 
   IsChanged held given steps = all_stored steps ≡ locked_from 0 held ++ unlocked_from 0 (take given held)
 
   -- how many headers were written back
-  abbrev pub given_back : LockPlace → ℕ
+  abbrev pub given_back : LockPoint → ℕ
   given_back (Peek held) = 0
   given_back (Seize held header) = 0
   given_back (GiveBack held given found) = given
 
   -- an end without locks has given back each of them
-  abbrev pub ChangedSoFar : Now LockPlace LockEnd → List (Step W) → Type 0
+  abbrev pub ChangedSoFar : Now LockPoint LockEnd → List (Step W) → Type 0
   ChangedSoFar (At at) steps = IsChanged (taken at) (given_back at) steps
   ChangedSoFar (Over (Held held)) steps = IsChanged held 0 steps
   ChangedSoFar (Over (Locked nth found)) steps = (held : List ℕ) × (length held ≡ nth) × IsChanged held nth steps

@@ -12,7 +12,7 @@ ghost use Rattle.nam_lock.specs.Headers.{header_address, headers_end};
 ghost use Rattle.nam_lock.specs.Locking.{locking, running, taken_by};
 
 use lists::ShortList;
-use nam_calls::{LockEnd, LockPlace};
+use nam_calls::{LockEnd, LockPoint};
 use nam_catalog::Form;
 use nam_header::{is_locked, sees, with_lock};
 use nam_layout::Place;
@@ -22,27 +22,27 @@ use std::marker::Model;
 use std::mem::replace;
 
 /// Where a locking begins, if there are records.
-pub fn lock_begin() -> LockPlace
+pub fn lock_begin() -> LockPoint
     ensures { result ≡ lock_begin }
 {
-    LockPlace::Peek {
+    LockPoint::Peek {
         held: ShortList::new(),
     }
 }
 
-/// The verb that stands at a place.
+/// The verb that stands at a point.
 #[tactic(auto, using(crate::proofs::HeadersLemmas::is_below_end))]
-pub fn lock_verb(worker: u32, places: &[Place], at: &LockPlace) -> Verb
+pub fn lock_verb(worker: u32, places: &[Place], at: &LockPoint) -> Verb
     requires worker { worker ≤ 16 }
     requires at { LockFits (length places.now) at.now }
     ensures value { result ≡ verb_by header_address (lock_verb_by (λ place. place) worker places.now at.now) }
     ensures within { address_of result < headers_end places.now }
 {
     match at {
-        LockPlace::Peek { held } => Verb::Read {
+        LockPoint::Peek { held } => Verb::Read {
             at: places[held.len()].header_at,
         },
-        LockPlace::Seize { held, header } => {
+        LockPoint::Seize { held, header } => {
             let place = places[held.len()];
             Verb::Exchange {
                 at: place.header_at,
@@ -50,7 +50,7 @@ pub fn lock_verb(worker: u32, places: &[Place], at: &LockPlace) -> Verb
                 word: with_lock(place.form, worker, *header),
             }
         }
-        LockPlace::GiveBack { held, given, .. } => Verb::Write {
+        LockPoint::GiveBack { held, given, .. } => Verb::Write {
             at: places[*given as usize].header_at,
             word: *held.at(*given as usize),
         },
@@ -74,25 +74,25 @@ fn give_back(
     held: ShortList<u64, 16>,
     given: u32,
     found: u64,
-) -> Now<LockPlace, LockEnd>
+) -> Now<LockPoint, LockEnd>
     requires { length held < length places.now }
     ensures { result ≡ give_back places.now held given found }
 {
     if given as usize == held.len() {
         Now::Over(loss_of(places[held.len()].form, given, found))
     } else {
-        Now::At(LockPlace::GiveBack { held, given, found })
+        Now::At(LockPoint::GiveBack { held, given, found })
     }
 }
 
 /// Goes on with the next record, or ends with all locks.
-fn lock_next(places: &[Place], held: ShortList<u64, 16>) -> Now<LockPlace, LockEnd>
+fn lock_next(places: &[Place], held: ShortList<u64, 16>) -> Now<LockPoint, LockEnd>
     ensures { result ≡ lock_next places.now held }
 {
     if held.len() == places.len() {
         Now::Over(LockEnd::Held(held))
     } else {
-        Now::At(LockPlace::Peek { held })
+        Now::At(LockPoint::Peek { held })
     }
 }
 
@@ -100,26 +100,26 @@ fn lock_next(places: &[Place], held: ShortList<u64, 16>) -> Now<LockPlace, LockE
 pub fn lock_after(
     places: &[Place],
     seen: &Snapshot,
-    at: LockPlace,
+    at: LockPoint,
     found: u64,
-) -> Now<LockPlace, LockEnd>
+) -> Now<LockPoint, LockEnd>
     requires most { length places.now ≤ 16 }
     requires at { LockFits (length places.now) at }
     ensures { result ≡ lock_after places.now seen.now at found }
 {
     match at {
-        LockPlace::Peek { held } => {
+        LockPoint::Peek { held } => {
             let form = places[held.len()].form;
             if is_locked(form, found) || !sees(form, seen, found) {
                 give_back(places, held, 0, found)
             } else {
-                Now::At(LockPlace::Seize {
+                Now::At(LockPoint::Seize {
                     held,
                     header: found,
                 })
             }
         }
-        LockPlace::Seize { mut held, header } => {
+        LockPoint::Seize { mut held, header } => {
             if found == header {
                 held.push(header);
                 lock_next(places, held)
@@ -127,12 +127,12 @@ pub fn lock_after(
                 give_back(places, held, 0, found)
             }
         }
-        LockPlace::GiveBack { held, given, found } => give_back(places, held, given + 1, found),
+        LockPoint::GiveBack { held, given, found } => give_back(places, held, given + 1, found),
     }
 }
 
-/// A number of verbs that are to come from a place at the most, where no more than `rest` follow the last lock.
-pub fn lock_left(places: &[Place], rest: u64, at: &LockPlace) -> u64
+/// A number of verbs that are to come from a point at the most, where no more than `rest` follow the last lock.
+pub fn lock_left(places: &[Place], rest: u64, at: &LockPoint) -> u64
     requires most { length places.now ≤ 16 }
     requires rest { rest < 2 ^ 32 }
     requires at { LockFits (length places.now) at.now }
@@ -140,9 +140,9 @@ pub fn lock_left(places: &[Place], rest: u64, at: &LockPlace) -> u64
 {
     let records = places.len() as u64;
     match at {
-        LockPlace::Peek { held } => 2 * (records - held.len() as u64) + rest,
-        LockPlace::Seize { held, .. } => 2 * (records - held.len() as u64) - 1 + rest,
-        LockPlace::GiveBack { held, given, .. } => held.len() as u64 - *given as u64,
+        LockPoint::Peek { held } => 2 * (records - held.len() as u64) + rest,
+        LockPoint::Seize { held, .. } => 2 * (records - held.len() as u64) - 1 + rest,
+        LockPoint::GiveBack { held, given, .. } => held.len() as u64 - *given as u64,
     }
 }
 
@@ -153,7 +153,7 @@ pub struct LockAll {
     worker: u32,
     places: ShortList<Place, 16>,
     seen: Snapshot,
-    state: Now<LockPlace, LockEnd>,
+    state: Now<LockPoint, LockEnd>,
 }
 
 impl Model for LockAll {
@@ -195,9 +195,9 @@ impl LockAll {
         ensures { result ≡ taken_by self.now.state }
     {
         match &self.state {
-            Now::At(LockPlace::Peek { held })
-            | Now::At(LockPlace::Seize { held, .. })
-            | Now::At(LockPlace::GiveBack { held, .. })
+            Now::At(LockPoint::Peek { held })
+            | Now::At(LockPoint::Seize { held, .. })
+            | Now::At(LockPoint::GiveBack { held, .. })
             | Now::Over(LockEnd::Held(held)) => held.len() as u32,
             Now::Over(LockEnd::Locked { nth, .. } | LockEnd::Newer { nth, .. }) => *nth,
         }
@@ -209,21 +209,21 @@ impl Machine for LockAll {
 
     type Word = Place;
 
-    type Place = LockPlace;
+    type Point = LockPoint;
 
     type End = LockEnd;
 
     ghost running = { running };
 
-    fn state(&self) -> &Now<LockPlace, LockEnd> {
+    fn state(&self) -> &Now<LockPoint, LockEnd> {
         &self.state
     }
 
-    fn verb_from(&self, place: &LockPlace) -> Verb {
+    fn verb_from(&self, place: &LockPoint) -> Verb {
         lock_verb(self.worker, self.places.as_slice(), place)
     }
 
-    fn left_from(&self, place: &LockPlace) -> u64 {
+    fn left_from(&self, place: &LockPoint) -> u64 {
         lock_left(self.places.as_slice(), self.places.len() as u64, place)
     }
 

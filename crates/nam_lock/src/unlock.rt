@@ -106,7 +106,7 @@ impl Machine for UnlockAll {
 
     type Word = Place;
 
-    type Place = u32;
+    type Point = u32;
 
     type End = ();
 

@@ -18,15 +18,15 @@ use Rattle.nam_layout.specs.PlaceFits.{FitsCells}
 use Rattle.nam_layout.specs.Place.{slot_of, known_address, place_end, cells_end, later}
 use Rattle.nam_layout.specs.declared.field.Field.{Field}
 use Rattle.nam_layout.specs.declared.field.Field.TheVariants as field
-use Rattle.nam_calls.specs.declared.overflow.ClaimPlace.{ClaimPlace}
-use Rattle.nam_calls.specs.declared.overflow.ClaimPlace.TheVariants.{ClaimLook}
+use Rattle.nam_calls.specs.declared.overflow.ClaimPoint.{ClaimPoint}
+use Rattle.nam_calls.specs.declared.overflow.ClaimPoint.TheVariants.{ClaimLook}
 use Rattle.nam_calls.specs.declared.overflow.ClaimEnd.{ClaimEnd}
-use Rattle.nam_calls.specs.declared.overflow.FillPlace.{FillPlace}
+use Rattle.nam_calls.specs.declared.overflow.FillPoint.{FillPoint}
 use Rattle.nam_calls.specs.declared.overflow.Version.{Version}
-use Rattle.nam_calls.specs.declared.mover.MovePlace.{MovePlace}
-use Rattle.nam_calls.specs.declared.mover.MovePlace.TheVariants.{MoveCount, MoveHead, MoveEnding, MoveClaim}
-use Rattle.nam_calls.specs.declared.mover.MovePlace.TheVariants.{MoveWords, MoveFill, MoveAgain, MoveFull, MoveFlag}
-use Rattle.nam_calls.specs.declared.mover.MovePlace.TheVariants.{MoveBack}
+use Rattle.nam_calls.specs.declared.mover.MovePoint.{MovePoint}
+use Rattle.nam_calls.specs.declared.mover.MovePoint.TheVariants.{MoveCount, MoveHead, MoveEnding, MoveClaim}
+use Rattle.nam_calls.specs.declared.mover.MovePoint.TheVariants.{MoveWords, MoveFill, MoveAgain, MoveFull, MoveFlag}
+use Rattle.nam_calls.specs.declared.mover.MovePoint.TheVariants.{MoveBack}
 use Rattle.nam_calls.specs.declared.mover.MoveAnswer.{MoveAnswer}
 use Rattle.nam_calls.specs.declared.mover.MoveAnswer.TheVariants.{Nothing}
 use Rattle.nam_calls.specs.Overflow.{claim_verb, claim_after, fill_after, fill_begin}
@@ -34,7 +34,7 @@ use Rattle.nam_calls.specs.Mover.{move_verb, move_after, move_left, on_claim, on
 use Rattle.nam_calls.specs.declared.overflow.ClaimEnd.TheVariants as claim
 use Rattle.nam_overflow.proofs.ClaimLemmas.{claimed_by, claims_by}
 use Rattle.nam_mover.specs.Move.{moving, running, claimed_in}
-use Rattle.nam_mover.specs.MoveLaw.{looked, dated}
+use Rattle.nam_mover.specs.MoveLaw.{look_steps, end_steps}
 use Rattle.nam_mover.specs.ClaimedLaw.{HasTaken}
 
 -- the word that the second of the steps found
@@ -44,24 +44,24 @@ second_found (first ∷ []) = 0
 second_found (first ∷ second ∷ steps) = second.found
 
 module _ (place : Place) (cells : Cells) (room : FitsCells cells) where
-  abbrev pub ClaimLeads : Now ClaimPlace ClaimEnd → List (Step Field) → Now ClaimPlace ClaimEnd → Type 0
+  abbrev pub ClaimLeads : Now ClaimPoint ClaimEnd → List (Step Field) → Now ClaimPoint ClaimEnd → Type 0
   ClaimLeads = past.Leads (claim_verb cells) (claim_after cells)
 
   -- the steps took a cell for the version of this header, and it is this one
   abbrev pub Took : ℕ → ℕ → List (Step Field) → Type 0
   Took header cell steps = (taken : HasTaken place cells (stamp_in place.form header) steps) × (taken.cell ≡ cell)
 
-  -- the steps that led to each place
-  abbrev pub Holds : MovePlace → List (Step Field) → Type 0
+  -- the steps that led to each point
+  abbrev pub Holds : MovePoint → List (Step Field) → Type 0
   Holds MoveCount steps = steps ≡ []
   Holds (MoveHead slot) steps =
       (count : ℕ) × (slot ≡ slot_of place count) × (steps ≡ saw (field.Count place.row) count ∷ [])
   Holds (MoveEnding slot header) steps =
       (count : ℕ) × (slot ≡ slot_of place count) × (is_moved place.form header ≡ false)
-      × (steps ≡ looked place cells count header)
+      × (steps ≡ look_steps place cells count header)
   Holds (MoveClaim slot header ending at) steps =
       (count : ℕ) × (claims : List (Step Field)) × (is_moved place.form header ≡ false)
-      × (steps ≡ dated place cells count header ending ++ claims)
+      × (steps ≡ end_steps place cells count header ending ++ claims)
       × ClaimLeads (At (ClaimLook 0)) claims (At at)
   Holds (MoveWords slot header ending cell tag got) steps = Took header cell steps
   Holds (MoveFill slot header cell tag version at) steps = Took header cell steps
@@ -70,11 +70,11 @@ module _ (place : Place) (cells : Cells) (room : FitsCells cells) where
   Holds (MoveFlag slot header) steps = HasTaken place cells (stamp_in place.form header) steps
   Holds (MoveBack header cell tag) steps = Took header cell steps
 
-  abbrev pub HoldsNow : Now MovePlace MoveAnswer → List (Step Field) → Type 0
+  abbrev pub HoldsNow : Now MovePoint MoveAnswer → List (Step Field) → Type 0
   HoldsNow = past.HoldsNow (move_verb place cells) (move_after place cells) (known_address place cells 0)
       (later (place_end place) (cells_end cells)) (move_left place cells) Holds
 
-  -- 1. Each place comes from the one before
+  -- 1. Each point comes from the one before
 
   abbrev taken_longer : (stamp : Stamp) (steps more : List (Step Field)) → HasTaken place cells stamp steps
       → HasTaken place cells stamp (steps ++ more)
@@ -90,7 +90,7 @@ module _ (place : Place) (cells : Cells) (room : FitsCells cells) where
     claimed = t.claimed;
     stamp_is = t.stamp_is;
     steps_are = ap (λ all. all ++ more) t.steps_are
-        ∙ append_assoc (dated place cells t.count t.header t.ending ++ t.claims) t.later more;
+        ∙ append_assoc (end_steps place cells t.count t.header t.ending ++ t.claims) t.later more;
   }
 
   took_longer : (header cell : ℕ) (steps more : List (Step Field)) → Took header cell steps
@@ -98,9 +98,9 @@ module _ (place : Place) (cells : Cells) (room : FitsCells cells) where
   took_longer header cell steps more took = (taken_longer (stamp_in place.form header) steps more took.0, took.1)
 
   on_claim_keeps : (slot header ending count : ℕ) → is_moved place.form header ≡ false
-      → (now : Now ClaimPlace ClaimEnd) (claims : List (Step Field))
+      → (now : Now ClaimPoint ClaimEnd) (claims : List (Step Field))
       → ClaimLeads (At (ClaimLook 0)) claims now
-      → HoldsNow (on_claim cells slot header ending now) (dated place cells count header ending ++ claims)
+      → HoldsNow (on_claim cells slot header ending now) (end_steps place cells count header ending ++ claims)
   on_claim_keeps slot header ending count unmoved (At at) claims leads = (count, claims, unmoved, refl, leads)
   on_claim_keeps slot header ending count unmoved (Over claim.NoRoom) claims leads = tt
   on_claim_keeps slot header ending count unmoved (Over (claim.Claimed cell tag)) claims leads = (
@@ -122,16 +122,16 @@ module _ (place : Place) (cells : Cells) (room : FitsCells cells) where
     refl,
   )
 
-  on_fill_keeps : (slot header cell tag : ℕ) (version : Version) (now : Now FillPlace (Unit {0}))
+  on_fill_keeps : (slot header cell tag : ℕ) (version : Version) (now : Now FillPoint (Unit {0}))
       (steps : List (Step Field))
       → Took header cell steps → HoldsNow (on_fill slot header cell tag version now) steps
   on_fill_keeps slot header cell tag version (At at) steps taken = taken
   on_fill_keeps slot header cell tag version (Over done) steps taken = taken
 
-  abbrev step_at : MovePlace → ℕ → Step Field
+  abbrev step_at : MovePoint → ℕ → Step Field
   step_at = past.step_at (move_verb place cells) (move_after place cells)
 
-  keeps : (at : MovePlace) (before : List (Step Field)) → Holds at before → (found : ℕ)
+  keeps : (at : MovePoint) (before : List (Step Field)) → Holds at before → (found : ℕ)
       → HoldsNow (move_after place cells at found) (before ++ step_at at found ∷ [])
   keeps MoveCount before holds found = (found, refl, rw holds refl)
   keeps (MoveHead slot) before holds found =
@@ -141,7 +141,7 @@ module _ (place : Place) (cells : Cells) (room : FitsCells cells) where
   keeps (MoveEnding slot header) before holds found = (holds.0, [], holds.2, rw (holds.3, holds.1) refl, refl)
   keeps (MoveClaim slot header ending at) before holds found =
       let step = step_at (MoveClaim slot header ending at) found in
-      let first = dated place cells holds.0 header ending in
+      let first = end_steps place cells holds.0 header ending in
       let all : before ++ step ∷ [] ≡ first ++ (holds.1 ++ step ∷ []) = ap (λ steps. steps ++ step ∷ []) holds.3
       ∙ append_assoc first holds.1 (step ∷ []) in
       rw all (on_claim_keeps slot header ending holds.0 holds.2 (claim_after cells at found) (holds.1 ++ step ∷ [])
@@ -169,9 +169,9 @@ module _ (place : Place) (cells : Cells) (room : FitsCells cells) where
   keeps (MoveFlag slot header) before holds found = tt
   keeps (MoveBack header cell tag) before holds found = tt
 
-  -- 2. What a place says of its claim, and what its steps do
+  -- 2. What a point says of its claim, and what its steps do
 
-  abbrev IsClaimed : Stamp → Now MovePlace MoveAnswer → List (Step Field) → Type 0
+  abbrev IsClaimed : Stamp → Now MovePoint MoveAnswer → List (Step Field) → Type 0
   IsClaimed stamp now steps = IsNone (end_now now) × HasTaken place cells stamp steps
 
   same_stamp : (header : ℕ) (stamp : Stamp) (steps : List (Step Field))
@@ -180,7 +180,7 @@ module _ (place : Place) (cells : Cells) (room : FitsCells cells) where
   same_stamp header stamp steps taken is =
       let same : stamp_in place.form header ≡ stamp = cc in subst (λ s. HasTaken place cells s steps) same taken
 
-  taken_by : (now : Now MovePlace MoveAnswer) (steps : List (Step Field)) (stamp : Stamp) → HoldsNow now steps
+  taken_by : (now : Now MovePoint MoveAnswer) (steps : List (Step Field)) (stamp : Stamp) → HoldsNow now steps
       → claimed_in place now ≡ Some stamp
       → IsClaimed stamp now steps
   taken_by (Over end) steps stamp holds is = absurd (cc)
@@ -204,7 +204,7 @@ module _ (place : Place) (cells : Cells) (room : FitsCells cells) where
       let same : t.header ≡ u.header = ap second_found (sym t.steps_are ∙ u.steps_are) in
       ap Some (t.stamp_is ∙ ap (stamp_in place.form) same ∙ sym u.stamp_is)
 
-  by_taken : (now : Now MovePlace MoveAnswer) (steps : List (Step Field)) (stamp : Stamp) → HoldsNow now steps
+  by_taken : (now : Now MovePoint MoveAnswer) (steps : List (Step Field)) (stamp : Stamp) → HoldsNow now steps
       → IsClaimed stamp now steps
       → claimed_in place now ≡ Some stamp
   by_taken (Over end) steps stamp holds is = let none = is.0 in absurd (cc)

@@ -21,13 +21,13 @@ use Rattle.nam_layout.specs.Place.{slot_of}
 use Rattle.nam_layout.specs.declared.field.Field.{Field}
 use Rattle.nam_layout.specs.declared.field.Field.TheVariants as field
 use Rattle.nam_calls.specs.declared.overflow.ClaimEnd.{ClaimEnd}
-use Rattle.nam_calls.specs.declared.overflow.ClaimPlace.TheVariants.{ClaimLook}
-use Rattle.nam_calls.specs.declared.overflow.FillPlace.TheVariants.{FillOwner}
+use Rattle.nam_calls.specs.declared.overflow.ClaimPoint.TheVariants.{ClaimLook}
+use Rattle.nam_calls.specs.declared.overflow.FillPoint.TheVariants.{FillOwner}
 use Rattle.nam_calls.specs.declared.overflow.Version.{Version}
-use Rattle.nam_calls.specs.declared.mover.MovePlace.{MovePlace}
-use Rattle.nam_calls.specs.declared.mover.MovePlace.TheVariants.{MoveCount, MoveEnding, MoveClaim}
-use Rattle.nam_calls.specs.declared.mover.MovePlace.TheVariants.{MoveWords, MoveFill, MoveAgain, MoveFull}
-use Rattle.nam_calls.specs.declared.mover.MovePlace.TheVariants.{MoveBack}
+use Rattle.nam_calls.specs.declared.mover.MovePoint.{MovePoint}
+use Rattle.nam_calls.specs.declared.mover.MovePoint.TheVariants.{MoveCount, MoveEnding, MoveClaim}
+use Rattle.nam_calls.specs.declared.mover.MovePoint.TheVariants.{MoveWords, MoveFill, MoveAgain, MoveFull}
+use Rattle.nam_calls.specs.declared.mover.MovePoint.TheVariants.{MoveBack}
 use Rattle.nam_calls.specs.declared.mover.MoveAnswer.{MoveAnswer}
 use Rattle.nam_calls.specs.declared.mover.MoveAnswer.TheVariants.{Moved, Back, Nothing, NoRoom}
 use Rattle.nam_calls.specs.Overflow.{claim_verb, claim_after, fill_verb, fill_after, fill_begin}
@@ -37,10 +37,10 @@ use Rattle.nam_overflow.proofs.ClaimLemmas.{claimed_by, claims_by, lost_by, lose
 use Rattle.nam_overflow.proofs.FillLemmas.{fills}
 use Rattle.nam_overflow.specs.ClaimLaw.{CellLost, CellTaken}
 use Rattle.nam_overflow.specs.FillLaw.{fill_verbs}
-use Rattle.nam_mover.specs.MoveLaw.{looked, dated, copy_steps, WasMoved, NoCell, Copied, WasCopied, WasGivenBack}
+use Rattle.nam_mover.specs.MoveLaw.{look_steps, end_steps, copy_steps, WasMoved, NoCell, Copied, WasCopied, WasGivenBack}
 
 module _ (place : Place) (cells : Cells) (fits : FitsPlace place) (room : FitsCells cells) where
-  abbrev EndsFrom : Now MovePlace MoveAnswer → List (Step Field) → MoveAnswer → Type 0
+  abbrev EndsFrom : Now MovePoint MoveAnswer → List (Step Field) → MoveAnswer → Type 0
   EndsFrom now steps end = Ends (move_verb place cells) (move_after place cells) now steps end
 
   -- what the steps of a move say of its end
@@ -152,7 +152,7 @@ module _ (place : Place) (cells : Cells) (fits : FitsPlace place) (room : FitsCe
       → (steps : List (Step Field)) (end : MoveAnswer)
       → EndsFrom (At (MoveFill (slot_of place count) header cell tag (version_of header ending words) fill_begin))
       steps end
-      → Did end (dated place cells count header ending ++ claims ++ saw_words
+      → Did end (end_steps place cells count header ending ++ claims ++ saw_words
       (field.SlotWord place.row (slot_of place count)) words ++ steps)
   part_fill count header ending cell tag claims words unmoved claimed whole steps end ends =
       let slot = slot_of place count in
@@ -167,7 +167,7 @@ module _ (place : Place) (cells : Cells) (fits : FitsPlace place) (room : FitsCe
       (fills cells cell place.row version place.width whole fits.least_width) parts.0 parts.2 parts.4).0 in
       let all = part_again count header ending cell tag claims words parts.0 unmoved claimed whole filled parts.1 end
       parts.5 in
-      let before = dated place cells count header ending ++ claims ++ saw_words (field.SlotWord place.row slot) words in
+      let before = end_steps place cells count header ending ++ claims ++ saw_words (field.SlotWord place.row slot) words in
       rw parts.3 (subst (Did end) (append_assoc before parts.0 parts.1) all)
 
   -- the slot's words, for the claimed cell
@@ -175,14 +175,14 @@ module _ (place : Place) (cells : Cells) (fits : FitsPlace place) (room : FitsCe
       → StopsAt (CellLost cells) (CellTaken cells cell tag) cells.cells claims
       → (steps : List (Step Field)) (end : MoveAnswer)
       → EndsFrom (At (MoveWords (slot_of place count) header ending cell tag [])) steps end
-      → Did end (dated place cells count header ending ++ claims ++ steps)
+      → Did end (end_steps place cells count header ending ++ claims ++ steps)
   part_words count header ending cell tag claims unmoved claimed steps end ends =
       let slot = slot_of place count in
       let all = words_read (move_verb place cells) (move_after place cells) (field.SlotWord place.row slot) place.width
       (MoveWords slot header ending cell tag)
       (λ words. At (MoveFill slot header cell tag (version_of header ending words) fill_begin)) (λ got. refl)
       (λ got word. if_in At _ _ _) fits.least_width steps end ends in
-      let before = dated place cells count header ending ++ claims in
+      let before = end_steps place cells count header ending ++ claims in
       rw all.2 (subst (Did end) (append_assoc before (saw_words (field.SlotWord place.row slot) all.0) all.1)
       (part_fill count header ending cell tag claims all.0 unmoved claimed all.3 all.1 end all.4))
 
@@ -192,7 +192,7 @@ module _ (place : Place) (cells : Cells) (fits : FitsPlace place) (room : FitsCe
       → Ends (claim_verb cells) (claim_after cells) (At (ClaimLook 0)) claims over
       → (steps : List (Step Field)) (end : MoveAnswer)
       → EndsFrom (on_claim cells (slot_of place count) header ending (Over over)) steps end
-      → Did end (dated place cells count header ending ++ claims ++ steps)
+      → Did end (end_steps place cells count header ending ++ claims ++ steps)
   claim_over count header ending claims (claim.Claimed cell tag) unmoved claimed steps end ends =
       part_words count header ending cell tag claims unmoved
       (claimed_by cells room.least_cells claims cell tag claimed) steps end ends
@@ -217,21 +217,21 @@ module _ (place : Place) (cells : Cells) (fits : FitsPlace place) (room : FitsCe
   part_claim : (count header ending : ℕ) → is_moved place.form header ≡ false
       → (steps : List (Step Field)) (end : MoveAnswer)
       → EndsFrom (At (MoveClaim (slot_of place count) header ending (ClaimLook 0))) steps end
-      → Did end (dated place cells count header ending ++ steps)
+      → Did end (end_steps place cells count header ending ++ steps)
   part_claim count header ending unmoved steps end ends =
       let slot = slot_of place count in
       let parts = part_ends (move_verb place cells) (move_after place cells) (claim_verb cells) (claim_after cells)
       (MoveClaim slot header ending)
       (on_claim cells slot header ending) (λ at. refl) (λ at. refl) (λ at found. refl) (At (ClaimLook 0)) steps end
       ends in
-      let before = dated place cells count header ending in
+      let before = end_steps place cells count header ending in
       rw parts.3 (subst (Did end) (append_assoc before parts.0 parts.1)
       (claim_over count header ending parts.0 parts.2 unmoved parts.4 parts.1 end parts.5))
 
   -- the slot's end, where its version wasn't moved
   part_end : (count header : ℕ) → is_moved place.form header ≡ false → (steps : List (Step Field)) (end : MoveAnswer)
       → EndsFrom (At (MoveEnding (slot_of place count) header)) steps end
-      → Did end (looked place cells count header ++ steps)
+      → Did end (look_steps place cells count header ++ steps)
   part_end count header unmoved [] end ends = absurd ends
   part_end count header unmoved (step ∷ steps) end ends =
       let is : step ≡ saw (field.SlotEnd place.row (slot_of place count)) step.found = step_of _ step ends.0 in
@@ -240,7 +240,7 @@ module _ (place : Place) (cells : Cells) (fits : FitsPlace place) (room : FitsCe
   -- where it was moved
   moved_before : (count header : ℕ) → is_moved place.form header ≡ true → (steps : List (Step Field)) (end : MoveAnswer)
       → EndsFrom (Over Nothing) steps end
-      → Did end (looked place cells count header ++ steps)
+      → Did end (look_steps place cells count header ++ steps)
   moved_before count header moved (step ∷ steps) end ends = absurd ends
   moved_before count header moved [] Nothing ends =
       record { count = count; header = header; moved = moved; steps_are = refl }
@@ -265,7 +265,7 @@ module _ (place : Place) (cells : Cells) (fits : FitsPlace place) (room : FitsCe
 
   -- 2. The other way round: from what was done to the steps
 
-  chosen : (test is : Bool) (a b : Now MovePlace MoveAnswer) (steps : List (Step Field)) (end : MoveAnswer) → test ≡ is
+  chosen : (test is : Bool) (a b : Now MovePoint MoveAnswer) (steps : List (Step Field)) (end : MoveAnswer) → test ≡ is
       → EndsFrom (if is then a else b) steps end
       → EndsFrom (if test then a else b) steps end
   chosen test is a b steps end same ends = rw same ends
@@ -273,7 +273,7 @@ module _ (place : Place) (cells : Cells) (fits : FitsPlace place) (room : FitsCe
   from_end : (count header ending : ℕ) (steps : List (Step Field)) (end : MoveAnswer)
       → is_moved place.form header ≡ false
       → EndsFrom (At (MoveClaim (slot_of place count) header ending (ClaimLook 0))) steps end
-      → EndsFrom (At MoveCount) (dated place cells count header ending ++ steps) end
+      → EndsFrom (At MoveCount) (end_steps place cells count header ending ++ steps) end
   from_end count header ending steps end unmoved ends = (
     refl,
     (
@@ -322,7 +322,7 @@ module _ (place : Place) (cells : Cells) (fits : FitsPlace place) (room : FitsCe
       → EndsFrom (At MoveCount) (copy ++ rest) end
   from_copy count header cell tag again copy rest end c ends =
       let slot = slot_of place count in
-      let first = dated place cells count header c.ending in
+      let first = end_steps place cells count header c.ending in
       let words = saw_words (field.SlotWord place.row slot) c.words in
       let last = saw (field.SlotHeader place.row slot) again in
       let grouped : copy ++ rest ≡ first ++ (c.claims ++ (words ++ (c.writes ++ last ∷ rest))) = rw (c.steps_are)

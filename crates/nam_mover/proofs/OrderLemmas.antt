@@ -19,12 +19,12 @@ use Rattle.nam_layout.specs.PlaceFits.{FitsPlace, FitsCells}
 use Rattle.nam_layout.specs.Place.{known_address, place_end, cells_end, later}
 use Rattle.nam_layout.specs.declared.field.Field.{Field}
 use Rattle.nam_layout.specs.declared.field.Field.TheVariants as field
-use Rattle.nam_calls.specs.declared.overflow.ClaimPlace.TheVariants.{ClaimLook, ClaimTake}
-use Rattle.nam_calls.specs.declared.overflow.FillPlace.TheVariants.{FillOwner, FillBegin, FillEnding, FillWord}
-use Rattle.nam_calls.specs.declared.mover.MovePlace.{MovePlace}
-use Rattle.nam_calls.specs.declared.mover.MovePlace.TheVariants.{MoveCount, MoveHead, MoveEnding, MoveClaim}
-use Rattle.nam_calls.specs.declared.mover.MovePlace.TheVariants.{MoveWords, MoveFill, MoveAgain, MoveFull, MoveFlag}
-use Rattle.nam_calls.specs.declared.mover.MovePlace.TheVariants.{MoveBack}
+use Rattle.nam_calls.specs.declared.overflow.ClaimPoint.TheVariants.{ClaimLook, ClaimTake}
+use Rattle.nam_calls.specs.declared.overflow.FillPoint.TheVariants.{FillOwner, FillBegin, FillEnding, FillWord}
+use Rattle.nam_calls.specs.declared.mover.MovePoint.{MovePoint}
+use Rattle.nam_calls.specs.declared.mover.MovePoint.TheVariants.{MoveCount, MoveHead, MoveEnding, MoveClaim}
+use Rattle.nam_calls.specs.declared.mover.MovePoint.TheVariants.{MoveWords, MoveFill, MoveAgain, MoveFull, MoveFlag}
+use Rattle.nam_calls.specs.declared.mover.MovePoint.TheVariants.{MoveBack}
 use Rattle.nam_calls.specs.declared.mover.MoveAnswer.{MoveAnswer}
 use Rattle.nam_calls.specs.declared.mover.MoveAnswer.TheVariants.{Moved}
 use Rattle.nam_calls.specs.Fits.{MoveFits}
@@ -67,7 +67,7 @@ module _ (place : Place) (cells : Cells) (fits : FitsPlace place) (room : FitsCe
     within = subst (λ c. IsOfCell cells c at) (sym took.1) is;
   }
 
-  write_at : (now : Now MovePlace MoveAnswer) (steps : List (Step Field)) → FitsNow (MoveFits place cells) now
+  write_at : (now : Now MovePoint MoveAnswer) (steps : List (Step Field)) → FitsNow (MoveFits place cells) now
       → HoldsNow place cells room now steps
       → (at : Field) (word : ℕ) → verb_at (move_verb place cells) now ≡ Some (WriteAt at word)
       → IsInTaken place cells at steps
@@ -100,7 +100,7 @@ module _ (place : Place) (cells : Cells) (fits : FitsPlace place) (room : FitsCe
       let same : at ≡ field.Tag cells.bucket cell = cc in
       rw same (in_taken header cell (field.Tag cells.bucket cell) steps holds (refl, refl))
 
-  abbrev MoveLeads : Now MovePlace MoveAnswer → List (Step Field) → Now MovePlace MoveAnswer → Type 0
+  abbrev MoveLeads : Now MovePoint MoveAnswer → List (Step Field) → Now MovePoint MoveAnswer → Type 0
   MoveLeads = past.Leads (move_verb place cells) (move_after place cells)
 
   -- any word that the exchange of the flag finds ends the move
@@ -129,7 +129,7 @@ module _ (place : Place) (cells : Cells) (fits : FitsPlace place) (room : FitsCe
         flag_is = cc;
       }
 
-  exchange_at : (now : Now MovePlace MoveAnswer) (steps : List (Step Field)) → FitsNow (MoveFits place cells) now
+  exchange_at : (now : Now MovePoint MoveAnswer) (steps : List (Step Field)) → FitsNow (MoveFits place cells) now
       → MoveLeads (At MoveCount) steps now
       → (at : Field) (expected new : ℕ) → verb_at (move_verb place cells) now ≡ Some (ExchangeAt at expected new)
       → TriesCell place cells at expected new ⊎ TriesFlag place cells at expected new steps

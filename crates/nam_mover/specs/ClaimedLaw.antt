@@ -12,7 +12,7 @@ use Rattle.nam_layout.specs.PlaceFits.{FitsPlace, FitsCells}
 use Rattle.nam_layout.specs.declared.field.Field.{Field}
 use Rattle.nam_overflow.specs.ClaimLaw.{CellLost, CellTaken}
 use Rattle.nam_mover.specs.Move.{moving, running, claimed_in}
-use Rattle.nam_mover.specs.MoveLaw.{dated}
+use Rattle.nam_mover.specs.MoveLaw.{end_steps}
 
 -- the first of these steps took a cell for the version in the slot, which wasn't moved and bears this stamp
 pub record HasTaken (place : Place) (cells : Cells) (stamp : Stamp) (steps : List (Step Field)) : Type 0 where
@@ -26,7 +26,7 @@ pub record HasTaken (place : Place) (cells : Cells) (stamp : Stamp) (steps : Lis
   pub unmoved : is_moved place.form header ≡ false
   pub claimed : StopsAt (CellLost cells) (CellTaken cells cell tag) cells.cells claims
   pub stamp_is : stamp ≡ stamp_in place.form header
-  pub steps_are : steps ≡ dated place cells count header ending ++ claims ++ later
+  pub steps_are : steps ≡ end_steps place cells count header ending ++ claims ++ later
 
 -- whatever words were found, a cell is claimed for a version exactly where the steps so far took one, and the call
 -- hasn't ended

@@ -8,7 +8,7 @@ use Rattle.nam_layout.specs.declared.field.Place.{Place}
 use Rattle.nam_layout.specs.declared.field.Cells.{Cells}
 use Rattle.nam_layout.specs.Place.{known_address, place_end, cells_end, later}
 use Rattle.nam_layout.specs.declared.field.Field.{Field}
-use Rattle.nam_calls.specs.declared.mover.MovePlace.{MovePlace}
+use Rattle.nam_calls.specs.declared.mover.MovePoint.{MovePoint}
 use Rattle.nam_calls.specs.declared.mover.MoveAnswer.{MoveAnswer}
 use Rattle.nam_calls.specs.Mover.{move_begin, move_verb, move_after, move_left, move_claimed}
 
@@ -16,14 +16,14 @@ use Rattle.nam_calls.specs.Mover.{move_begin, move_verb, move_after, move_left, 
 pub record Moving : Type 0 where
   pub place : Place
   pub cells : Cells
-  pub state : Now MovePlace MoveAnswer
+  pub state : Now MovePoint MoveAnswer
 
 -- a new move
 abbrev pub moving : Place → Cells → Moving
 moving place cells = record { place = place; cells = cells; state = At move_begin }
 
 -- the same as a running call
-abbrev pub running : Moving → Running Field MovePlace MoveAnswer
+abbrev pub running : Moving → Running Field MovePoint MoveAnswer
 running a = record {
   address = known_address a.place a.cells 0;
   reach = later (place_end a.place) (cells_end a.cells);
@@ -33,8 +33,8 @@ running a = record {
   state = a.state;
 }
 
--- the version for which a cell was claimed, at a place or after the end
-abbrev pub claimed_in : Place → Now MovePlace MoveAnswer → Option Stamp
+-- the version for which a cell was claimed, at a point or after the end
+abbrev pub claimed_in : Place → Now MovePoint MoveAnswer → Option Stamp
 claimed_in place (At at) = move_claimed place at
 claimed_in place (Over end) = None
 

@@ -21,18 +21,18 @@ use Rattle.nam_mover.specs.Move.{moving, running}
 
 module _ (place : Place) (cells : Cells) where
   -- the number of the record's current version was read, and the header of the slot that its next version needs
-  abbrev pub looked : ℕ → ℕ → List (Step Field)
-  looked count header =
+  abbrev pub look_steps : ℕ → ℕ → List (Step Field)
+  look_steps count header =
       saw (field.Count place.row) count ∷ saw (field.SlotHeader place.row (slot_of place count)) header ∷ []
 
   -- and after these the slot's end
-  abbrev pub dated : ℕ → ℕ → ℕ → List (Step Field)
-  dated count header ending = looked count header ++ saw (field.SlotEnd place.row (slot_of place count)) ending ∷ []
+  abbrev pub end_steps : ℕ → ℕ → ℕ → List (Step Field)
+  end_steps count header ending = look_steps count header ++ saw (field.SlotEnd place.row (slot_of place count)) ending ∷ []
 
   -- and after these the claims of a cell, the slot's words, and the writes of the cell
   abbrev pub copy_steps : ℕ → ℕ → ℕ → List (Step Field) → List ℕ → List (Step Field) → List (Step Field)
   copy_steps count header ending claims words writes =
-      dated count header ending ++ claims ++ saw_words (field.SlotWord place.row (slot_of place count)) words ++ writes
+      end_steps count header ending ++ claims ++ saw_words (field.SlotWord place.row (slot_of place count)) words ++ writes
 
   -- the try to set the slot's moved flag
   abbrev pub try_flag : ℕ → ℕ → VerbAt Field
@@ -44,7 +44,7 @@ module _ (place : Place) (cells : Cells) where
     pub count : ℕ
     pub header : ℕ
     pub moved : is_moved place.form header ≡ true
-    pub steps_are : steps ≡ looked count header
+    pub steps_are : steps ≡ look_steps count header
 
   -- the version wasn't moved, and each cell was found not free, or was lost
   pub record NoCell (steps : List (Step Field)) : Type 0 where
@@ -54,7 +54,7 @@ module _ (place : Place) (cells : Cells) where
     pub claims : List (Step Field)
     pub unmoved : is_moved place.form header ≡ false
     pub lost : Stretches (CellLost cells) 0 cells.cells claims
-    pub steps_are : steps ≡ dated count header ending ++ claims
+    pub steps_are : steps ≡ end_steps count header ending ++ claims
 
   -- A version that wasn't moved was copied from its slot into a cell that was claimed for it: the slot's words were
   -- read; the row, the version's header, its end and these words were written into the cell; and then the slot's

@@ -1,6 +1,6 @@
 //! The move of an old version from its slot into a cell, so that the record's next version can take the slot.
 //!
-//! `Move` is one call, as functions on its places and as a machine: it looks at the one slot that the record's next
+//! `Move` is one call, as functions on its points and as a machine: it looks at the one slot that the record's next
 //! version needs, claims a cell, copies the version there, says by the tag that the cell is full, and only then sets
 //! the slot's moved flag. Whatever words its verbs find, `move_law` says exactly how it ends and what it did;
 //! `order_law` what it has done before a write and before the flag, at each moment; `claimed_law` for which version

@@ -1,15 +1,15 @@
-//! The places of a move.
+//! The points of a move.
 
 ghost use Rattle.std.specs.Prelude.{◌≡◌, ◌<◌, ◌≤◌, IsSome, if◌then◌else◌};
 ghost use Rattle.nam_verbs.specs.Verb.{address_of};
 ghost use Rattle.nam_verbs.specs.VerbAt.{verb_by};
 ghost use Rattle.nam_layout.specs.Place.{known_address, place_end, cells_end, later};
 ghost use Rattle.nam_layout.specs.PlaceFits.{FitsPlace, FitsCells};
-ghost use Rattle.nam_calls.specs.declared.mover.MovePlace.TheVariants.{MoveFull, MoveBack};
+ghost use Rattle.nam_calls.specs.declared.mover.MovePoint.TheVariants.{MoveFull, MoveBack};
 ghost use Rattle.nam_calls.specs.Mover.{move_begin, move_verb, move_after, move_left, move_claimed, on_claim, on_fill};
 ghost use Rattle.nam_calls.specs.Fits.{MoveFits};
 
-use nam_calls::{ClaimEnd, ClaimPlace, FillPlace, MoveAnswer, MovePlace, Version};
+use nam_calls::{ClaimEnd, ClaimPoint, FillPoint, MoveAnswer, MovePoint, Version};
 use nam_header::{Tag, is_moved, stamp_in, with_moved, without_moved};
 use nam_layout::{Cells, Place};
 use nam_overflow::{
@@ -19,14 +19,14 @@ use nam_verbs::{Now, Verb};
 use si_model::{Stamp, Value};
 
 /// Where a move begins: at the number of the current version.
-pub fn move_begin() -> MovePlace
+pub fn move_begin() -> MovePoint
     ensures { result ≡ move_begin }
 {
-    MovePlace::MoveCount
+    MovePoint::MoveCount
 }
 
-/// The verb that stands at a place.
-pub fn move_verb(place: &Place, cells: &Cells, at: &MovePlace) -> Verb
+/// The verb that stands at a point.
+pub fn move_verb(place: &Place, cells: &Cells, at: &MovePoint) -> Verb
     requires place { FitsPlace place.now }
     requires cells { FitsCells cells.now }
     requires at { MoveFits place.now cells.now at.now }
@@ -34,36 +34,36 @@ pub fn move_verb(place: &Place, cells: &Cells, at: &MovePlace) -> Verb
     ensures within { address_of result < later (place_end place.now) (cells_end cells.now) }
 {
     match at {
-        MovePlace::MoveCount => Verb::Read { at: place.count_at },
-        MovePlace::MoveHead { slot } => Verb::Read {
+        MovePoint::MoveCount => Verb::Read { at: place.count_at },
+        MovePoint::MoveHead { slot } => Verb::Read {
             at: place.slot_header(*slot),
         },
-        MovePlace::MoveEnding { slot, .. } => Verb::Read {
+        MovePoint::MoveEnding { slot, .. } => Verb::Read {
             at: place.slot_end(*slot),
         },
-        MovePlace::MoveClaim { at, .. } => claim_verb(cells, at),
-        MovePlace::MoveWords { slot, got, .. } => Verb::Read {
+        MovePoint::MoveClaim { at, .. } => claim_verb(cells, at),
+        MovePoint::MoveWords { slot, got, .. } => Verb::Read {
             at: place.slot_word(*slot, got.len() as u32),
         },
-        MovePlace::MoveFill {
+        MovePoint::MoveFill {
             cell,
             version,
             at,
             ..
         } => fill_verb(cells, *cell, place.row, version, at),
-        MovePlace::MoveAgain { slot, .. } => Verb::Read {
+        MovePoint::MoveAgain { slot, .. } => Verb::Read {
             at: place.slot_header(*slot),
         },
-        MovePlace::MoveFull { cell, tag, .. } => Verb::Write {
+        MovePoint::MoveFull { cell, tag, .. } => Verb::Write {
             at: cells.tag(*cell),
             word: Tag(*tag).full().0,
         },
-        MovePlace::MoveFlag { slot, header } => Verb::Exchange {
+        MovePoint::MoveFlag { slot, header } => Verb::Exchange {
             at: place.slot_header(*slot),
             expect: *header,
             word: with_moved(*header),
         },
-        MovePlace::MoveBack { cell, tag, .. } => Verb::Write {
+        MovePoint::MoveBack { cell, tag, .. } => Verb::Write {
             at: cells.tag(*cell),
             word: Tag(*tag).freed().0,
         },
@@ -76,18 +76,18 @@ fn on_claim(
     slot: u32,
     header: u64,
     ending: u64,
-    now: Now<ClaimPlace, ClaimEnd>,
-) -> Now<MovePlace, MoveAnswer>
+    now: Now<ClaimPoint, ClaimEnd>,
+) -> Now<MovePoint, MoveAnswer>
     ensures { result ≡ on_claim cells.now slot header ending now }
 {
     match now {
-        Now::At(at) => Now::At(MovePlace::MoveClaim {
+        Now::At(at) => Now::At(MovePoint::MoveClaim {
             slot,
             header,
             ending,
             at,
         }),
-        Now::Over(ClaimEnd::Claimed { cell, tag }) => Now::At(MovePlace::MoveWords {
+        Now::Over(ClaimEnd::Claimed { cell, tag }) => Now::At(MovePoint::MoveWords {
             slot,
             header,
             ending,
@@ -108,12 +108,12 @@ fn on_fill(
     cell: u32,
     tag: u64,
     version: Version,
-    now: Now<FillPlace, ()>,
-) -> Now<MovePlace, MoveAnswer>
+    now: Now<FillPoint, ()>,
+) -> Now<MovePoint, MoveAnswer>
     ensures { result ≡ on_fill slot header cell tag version now }
 {
     match now {
-        Now::At(at) => Now::At(MovePlace::MoveFill {
+        Now::At(at) => Now::At(MovePoint::MoveFill {
             slot,
             header,
             cell,
@@ -121,7 +121,7 @@ fn on_fill(
             version,
             at,
         }),
-        Now::Over(()) => Now::At(MovePlace::MoveAgain {
+        Now::Over(()) => Now::At(MovePoint::MoveAgain {
             slot,
             header,
             cell,
@@ -132,49 +132,49 @@ fn on_fill(
 
 // The cell is said to be full where the slot's header is the same, and else is given back: another worker has moved the
 // version, and the words that were read may be those of the slot's next one.
-fn after_look(slot: u32, header: u64, cell: u32, tag: u64, same: bool) -> MovePlace
+fn after_look(slot: u32, header: u64, cell: u32, tag: u64, same: bool) -> MovePoint
     ensures { result ≡ (if same then MoveFull slot header cell tag else MoveBack header cell tag) }
 {
     if same {
-        MovePlace::MoveFull {
+        MovePoint::MoveFull {
             slot,
             header,
             cell,
             tag,
         }
     } else {
-        MovePlace::MoveBack { header, cell, tag }
+        MovePoint::MoveBack { header, cell, tag }
     }
 }
 
-/// What follows the word that the verb of a place found.
+/// What follows the word that the verb of a point found.
 pub fn move_after(
     place: &Place,
     cells: &Cells,
-    at: MovePlace,
+    at: MovePoint,
     found: u64,
-) -> Now<MovePlace, MoveAnswer>
+) -> Now<MovePoint, MoveAnswer>
     requires place { FitsPlace place.now }
     requires cells { FitsCells cells.now }
     requires at { MoveFits place.now cells.now at }
     ensures { result ≡ move_after place.now cells.now at found }
 {
     match at {
-        MovePlace::MoveCount => {
+        MovePoint::MoveCount => {
             let slot = place.slot_of(found);
-            Now::At(MovePlace::MoveHead { slot })
+            Now::At(MovePoint::MoveHead { slot })
         }
-        MovePlace::MoveHead { slot } => {
+        MovePoint::MoveHead { slot } => {
             if is_moved(place.form, found) {
                 return Now::Over(MoveAnswer::Nothing);
             }
             let header = found;
-            Now::At(MovePlace::MoveEnding { slot, header })
+            Now::At(MovePoint::MoveEnding { slot, header })
         }
-        MovePlace::MoveEnding { slot, header } => {
+        MovePoint::MoveEnding { slot, header } => {
             on_claim(cells, slot, header, found, Now::At(claim_begin()))
         }
-        MovePlace::MoveClaim {
+        MovePoint::MoveClaim {
             slot,
             header,
             ending,
@@ -184,20 +184,20 @@ pub fn move_after(
     }
 }
 
-// The same at the places where a cell is claimed.
+// The same at the points where a cell is claimed.
 fn after_claim(
     place: &Place,
     cells: &Cells,
-    at: MovePlace,
+    at: MovePoint,
     found: u64,
-) -> Now<MovePlace, MoveAnswer>
+) -> Now<MovePoint, MoveAnswer>
     requires place { FitsPlace place.now }
     requires at { MoveFits place.now cells.now at }
     requires claimed { IsSome (move_claimed place.now at) }
     ensures { result ≡ move_after place.now cells.now at found }
 {
     match at {
-        MovePlace::MoveWords {
+        MovePoint::MoveWords {
             slot,
             header,
             ending,
@@ -207,7 +207,7 @@ fn after_claim(
         } => {
             got.push(found);
             if got.len() != place.width as usize {
-                return Now::At(MovePlace::MoveWords {
+                return Now::At(MovePoint::MoveWords {
                     slot,
                     header,
                     ending,
@@ -223,7 +223,7 @@ fn after_claim(
             };
             on_fill(slot, header, cell, tag, version, Now::At(fill_begin()))
         }
-        MovePlace::MoveFill {
+        MovePoint::MoveFill {
             slot,
             header,
             cell,
@@ -239,25 +239,25 @@ fn after_claim(
 }
 
 // The same once the cell is filled: no more than three verbs are to come.
-fn after_copy(place: &Place, cells: &Cells, at: MovePlace, found: u64) -> Now<MovePlace, MoveAnswer>
+fn after_copy(place: &Place, cells: &Cells, at: MovePoint, found: u64) -> Now<MovePoint, MoveAnswer>
     requires at { MoveFits place.now cells.now at }
     requires few { move_left place.now cells.now at ≤ 3 }
     ensures { result ≡ move_after place.now cells.now at found }
 {
     match at {
-        MovePlace::MoveAgain {
+        MovePoint::MoveAgain {
             slot,
             header,
             cell,
             tag,
         } => Now::At(after_look(slot, header, cell, tag, found == header)),
         // The cell is full before the flag is set: from then on the slot may be overwritten.
-        MovePlace::MoveFull { slot, header, .. } => Now::At(MovePlace::MoveFlag { slot, header }),
+        MovePoint::MoveFull { slot, header, .. } => Now::At(MovePoint::MoveFlag { slot, header }),
         // Where the exchange was lost, another worker has moved the version.
-        MovePlace::MoveFlag { header, .. } => Now::Over(MoveAnswer::Moved {
+        MovePoint::MoveFlag { header, .. } => Now::Over(MoveAnswer::Moved {
             stamp: stamp_in(place.form, header),
         }),
-        MovePlace::MoveBack { header, .. } => Now::Over(MoveAnswer::Back {
+        MovePoint::MoveBack { header, .. } => Now::Over(MoveAnswer::Back {
             stamp: stamp_in(place.form, header),
         }),
         _ => unreachable!(),
@@ -265,25 +265,25 @@ fn after_copy(place: &Place, cells: &Cells, at: MovePlace, found: u64) -> Now<Mo
 }
 
 /// The stamp of the version for which a cell was claimed, and none before one was.
-pub fn move_claimed(place: &Place, at: &MovePlace) -> Option<Stamp>
+pub fn move_claimed(place: &Place, at: &MovePoint) -> Option<Stamp>
     ensures { result ≡ move_claimed place.now at.now }
 {
     match at {
-        MovePlace::MoveCount
-        | MovePlace::MoveHead { .. }
-        | MovePlace::MoveEnding { .. }
-        | MovePlace::MoveClaim { .. } => None,
-        MovePlace::MoveWords { header, .. }
-        | MovePlace::MoveFill { header, .. }
-        | MovePlace::MoveAgain { header, .. }
-        | MovePlace::MoveFull { header, .. }
-        | MovePlace::MoveFlag { header, .. }
-        | MovePlace::MoveBack { header, .. } => Some(stamp_in(place.form, *header)),
+        MovePoint::MoveCount
+        | MovePoint::MoveHead { .. }
+        | MovePoint::MoveEnding { .. }
+        | MovePoint::MoveClaim { .. } => None,
+        MovePoint::MoveWords { header, .. }
+        | MovePoint::MoveFill { header, .. }
+        | MovePoint::MoveAgain { header, .. }
+        | MovePoint::MoveFull { header, .. }
+        | MovePoint::MoveFlag { header, .. }
+        | MovePoint::MoveBack { header, .. } => Some(stamp_in(place.form, *header)),
     }
 }
 
-/// A number of verbs that are to come from a place at the most.
-pub fn move_left(place: &Place, cells: &Cells, at: &MovePlace) -> u64
+/// A number of verbs that are to come from a point at the most.
+pub fn move_left(place: &Place, cells: &Cells, at: &MovePoint) -> u64
     requires place { FitsPlace place.now }
     requires cells { FitsCells cells.now }
     requires at { MoveFits place.now cells.now at.now }
@@ -292,14 +292,14 @@ pub fn move_left(place: &Place, cells: &Cells, at: &MovePlace) -> u64
     let width = place.width as u64;
     let claim = 2 * cells.cells as u64;
     match at {
-        MovePlace::MoveCount => claim + 2 * width + 9,
-        MovePlace::MoveHead { .. } => claim + 2 * width + 8,
-        MovePlace::MoveEnding { .. } => claim + 2 * width + 7,
-        MovePlace::MoveClaim { at, .. } => claim_left(cells, at) + 2 * width + 6,
-        MovePlace::MoveWords { got, .. } => width - got.len() as u64 + width + 6,
-        MovePlace::MoveFill { at, .. } => fill_left(place.width, at) + 3,
-        MovePlace::MoveAgain { .. } => 3,
-        MovePlace::MoveFull { .. } => 2,
-        MovePlace::MoveFlag { .. } | MovePlace::MoveBack { .. } => 1,
+        MovePoint::MoveCount => claim + 2 * width + 9,
+        MovePoint::MoveHead { .. } => claim + 2 * width + 8,
+        MovePoint::MoveEnding { .. } => claim + 2 * width + 7,
+        MovePoint::MoveClaim { at, .. } => claim_left(cells, at) + 2 * width + 6,
+        MovePoint::MoveWords { got, .. } => width - got.len() as u64 + width + 6,
+        MovePoint::MoveFill { at, .. } => fill_left(place.width, at) + 3,
+        MovePoint::MoveAgain { .. } => 3,
+        MovePoint::MoveFull { .. } => 2,
+        MovePoint::MoveFlag { .. } | MovePoint::MoveBack { .. } => 1,
     }
 }

@@ -6,7 +6,7 @@ ghost use Rattle.nam_layout.specs.PlaceFits.{FitsPlace, FitsCells};
 ghost use Rattle.nam_mover.specs.Move.{moving, running, claimed_now};
 
 use crate::place::{move_after, move_begin, move_claimed, move_left, move_verb};
-use nam_calls::{MoveAnswer, MovePlace};
+use nam_calls::{MoveAnswer, MovePoint};
 use nam_layout::{Cells, Field, Place};
 use nam_verbs::{Machine, Now, Verb};
 use si_model::Stamp;
@@ -21,7 +21,7 @@ use std::mem::replace;
 pub struct Move {
     place: Place,
     cells: Cells,
-    state: Now<MovePlace, MoveAnswer>,
+    state: Now<MovePoint, MoveAnswer>,
 }
 
 impl Model for Move {
@@ -70,21 +70,21 @@ impl Machine for Move {
 
     type Word = Field;
 
-    type Place = MovePlace;
+    type Point = MovePoint;
 
     type End = MoveAnswer;
 
     ghost running = { running };
 
-    fn state(&self) -> &Now<MovePlace, MoveAnswer> {
+    fn state(&self) -> &Now<MovePoint, MoveAnswer> {
         &self.state
     }
 
-    fn verb_from(&self, place: &MovePlace) -> Verb {
+    fn verb_from(&self, place: &MovePoint) -> Verb {
         move_verb(&self.place, &self.cells, place)
     }
 
-    fn left_from(&self, place: &MovePlace) -> u64 {
+    fn left_from(&self, place: &MovePoint) -> u64 {
         move_left(&self.place, &self.cells, place)
     }
 

@@ -12,15 +12,15 @@ use Rattle.nam_header.specs.Tag.{is_free, written}
 use Rattle.nam_layout.specs.declared.field.Cells.{Cells}
 use Rattle.nam_layout.specs.declared.field.Field.{Field}
 use Rattle.nam_layout.specs.declared.field.Field.TheVariants as field
-use Rattle.nam_calls.specs.declared.overflow.ClaimPlace.{ClaimPlace}
-use Rattle.nam_calls.specs.declared.overflow.ClaimPlace.TheVariants.{ClaimLook, ClaimTake}
+use Rattle.nam_calls.specs.declared.overflow.ClaimPoint.{ClaimPoint}
+use Rattle.nam_calls.specs.declared.overflow.ClaimPoint.TheVariants.{ClaimLook, ClaimTake}
 use Rattle.nam_calls.specs.declared.overflow.ClaimEnd.{ClaimEnd}
 use Rattle.nam_calls.specs.declared.overflow.ClaimEnd.TheVariants.{Claimed, NoRoom}
 use Rattle.nam_calls.specs.Overflow.{claim_verb, claim_after, claim_next}
 use Rattle.nam_overflow.specs.ClaimLaw.{CellLost, not_free, exchange_lost, CellTaken}
 
 module _ (cells : Cells) (some : 0 < cells.cells) where
-  abbrev EndsFrom : Now ClaimPlace ClaimEnd → List (Step Field) → ClaimEnd → Type 0
+  abbrev EndsFrom : Now ClaimPoint ClaimEnd → List (Step Field) → ClaimEnd → Type 0
   EndsFrom now steps end = Ends (claim_verb cells) (claim_after cells) now steps end
 
   -- the cell ends the claim so
@@ -75,7 +75,7 @@ module _ (cells : Cells) (some : 0 < cells.cells) where
 
   -- The other way round: what each test says, put together.
 
-  chosen : (test : Bool) (is : Bool) (a b : Now ClaimPlace ClaimEnd) (steps : List (Step Field)) (end : ClaimEnd)
+  chosen : (test : Bool) (is : Bool) (a b : Now ClaimPoint ClaimEnd) (steps : List (Step Field)) (end : ClaimEnd)
       → test ≡ is
       → EndsFrom (if is then a else b) steps end → EndsFrom (if test then a else b) steps end
   chosen test is a b steps end same ends = rw same ends

@@ -6,10 +6,10 @@ use Rattle.nam_verbs.proofs.TakenLemmas.{holds_always}
 use Rattle.nam_catalog.specs.declared.bounds.TheConstants.{MOST_WIDTH}
 use Rattle.nam_layout.specs.declared.field.Cells.{Cells}
 use Rattle.nam_layout.specs.Known.{IsOfCells}
-use Rattle.nam_calls.specs.declared.overflow.ClaimPlace.{ClaimPlace}
-use Rattle.nam_calls.specs.declared.overflow.ClaimPlace.TheVariants.{ClaimLook, ClaimTake}
-use Rattle.nam_calls.specs.declared.overflow.FillPlace.{FillPlace}
-use Rattle.nam_calls.specs.declared.overflow.FillPlace.TheVariants.{FillOwner, FillBegin, FillEnding, FillWord}
+use Rattle.nam_calls.specs.declared.overflow.ClaimPoint.{ClaimPoint}
+use Rattle.nam_calls.specs.declared.overflow.ClaimPoint.TheVariants.{ClaimLook, ClaimTake}
+use Rattle.nam_calls.specs.declared.overflow.FillPoint.{FillPoint}
+use Rattle.nam_calls.specs.declared.overflow.FillPoint.TheVariants.{FillOwner, FillBegin, FillEnding, FillWord}
 use Rattle.nam_calls.specs.declared.overflow.Version.{Version}
 use Rattle.nam_calls.specs.Overflow.{cell_verb, claim_verb, fill_verb}
 use Rattle.nam_calls.specs.Fits.{CellFits, SearchEnds, ClaimFits, ClaimEnds, FillFits}
@@ -24,12 +24,12 @@ use Rattle.nam_overflow.specs.FillLaw.{FillFieldLaw}
 
 module _ (cells : Cells) where
   -- without a place, which claims and fillings don't need
-  claim_field : (at : ClaimPlace) → ClaimFits cells at → IsOfCells cells (target (claim_verb cells at))
+  claim_field : (at : ClaimPoint) → ClaimFits cells at → IsOfCells cells (target (claim_verb cells at))
   claim_field (ClaimLook cell) here = (refl, here)
   claim_field (ClaimTake cell tag) here = (refl, here)
 
   fill_field : (cell owner : ℕ) (version : Version) → cell < cells.cells → length version.value ≤ MOST_WIDTH
-      → (at : FillPlace) → FillFits (length version.value) at
+      → (at : FillPoint) → FillFits (length version.value) at
       → IsOfCells cells (target (fill_verb cells cell owner version at))
   fill_field cell owner version within most FillOwner here = (refl, within)
   fill_field cell owner version within most FillBegin here = (refl, within)

@@ -7,7 +7,7 @@ use Rattle.nam_verbs.proofs.WritingLemmas.{writes_words}
 use Rattle.nam_layout.specs.declared.field.Cells.{Cells}
 use Rattle.nam_layout.specs.declared.field.Field.TheVariants as field
 use Rattle.nam_calls.specs.declared.overflow.Version.{Version}
-use Rattle.nam_calls.specs.declared.overflow.FillPlace.TheVariants.{FillOwner, FillWord}
+use Rattle.nam_calls.specs.declared.overflow.FillPoint.TheVariants.{FillOwner, FillWord}
 use Rattle.nam_calls.specs.Overflow.{fill_verb, fill_after}
 use Rattle.nam_overflow.specs.FillLaw.{fill_verbs}
 

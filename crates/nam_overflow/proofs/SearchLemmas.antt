@@ -17,17 +17,17 @@ use Rattle.nam_layout.specs.declared.field.Cells.{Cells}
 use Rattle.nam_layout.specs.PlaceFits.{FitsPlace, FitsCells}
 use Rattle.nam_layout.specs.declared.field.Field.{Field}
 use Rattle.nam_layout.specs.declared.field.Field.TheVariants as field
-use Rattle.nam_calls.specs.declared.overflow.CellPlace.{CellPlace}
-use Rattle.nam_calls.specs.declared.overflow.CellPlace.TheVariants.{CellTag, CellOwner, CellBegin, CellEnding}
-use Rattle.nam_calls.specs.declared.overflow.CellPlace.TheVariants.{CellWords, CellAgain}
+use Rattle.nam_calls.specs.declared.overflow.CellPoint.{CellPoint}
+use Rattle.nam_calls.specs.declared.overflow.CellPoint.TheVariants.{CellTag, CellOwner, CellBegin, CellEnding}
+use Rattle.nam_calls.specs.declared.overflow.CellPoint.TheVariants.{CellWords, CellAgain}
 use Rattle.nam_calls.specs.declared.ring.SearchEnd.{SearchEnd}
 use Rattle.nam_calls.specs.declared.ring.SearchEnd.TheVariants.{Found, NotThere}
 use Rattle.nam_calls.specs.Overflow.{cell_verb, cell_after, next_cell}
-use Rattle.nam_overflow.specs.SearchLaw.{HasSeen, owned, dated, looked, CellEnded, by_tag, by_owner, by_header}
+use Rattle.nam_overflow.specs.SearchLaw.{HasSeen, owner_steps, end_steps, look_steps, CellEnded, by_tag, by_owner, by_header}
 use Rattle.nam_overflow.specs.SearchLaw.{by_end, by_change, CellGives}
 
 module _ (cells : Cells) (place : Place) (room : FitsCells cells) (fits : FitsPlace place) (seen : List ℕ) where
-  abbrev EndsFrom : Now CellPlace SearchEnd → List (Step Field) → SearchEnd → Type 0
+  abbrev EndsFrom : Now CellPoint SearchEnd → List (Step Field) → SearchEnd → Type 0
   EndsFrom now steps end = Ends (cell_verb cells) (cell_after cells place seen) now steps end
 
   -- the cell ends the search so
@@ -51,7 +51,7 @@ module _ (cells : Cells) (place : Place) (room : FitsCells cells) (fits : FitsPl
       → length words ≡ place.width → (steps : List (Step Field)) (end : SearchEnd)
       → EndsFrom (Over (Found (value_of header words))) steps end
       → Stops end cell
-      (looked cells place seen cell tag header ending words ++ saw (field.Tag cells.bucket cell) tag ∷ steps)
+      (look_steps cells place seen cell tag header ending words ++ saw (field.Tag cells.bucket cell) tag ∷ steps)
   gives cell tag header ending words shows newest whole [] NotThere ends = absurd (cc)
   gives cell tag header ending words shows newest whole [] (Found value) ends = record {
     tag = tag;
@@ -71,12 +71,12 @@ module _ (cells : Cells) (place : Place) (room : FitsCells cells) (fits : FitsPl
       → sees place.form seen ending ≡ false
       → length words ≡ place.width → (steps : List (Step Field)) (end : SearchEnd)
       → EndsFrom (At (CellAgain cell tag header words)) steps end
-      → Parts cell (looked cells place seen cell tag header ending words ++ steps) end
+      → Parts cell (look_steps cells place seen cell tag header ending words ++ steps) end
   part_again cell tag header ending words shows newest whole [] end ends = absurd ends
   part_again cell tag header ending words shows newest whole (step ∷ steps) end ends =
       let again = step.found in
       let is : step ≡ saw (field.Tag cells.bucket cell) again = step_of _ step ends.0 in
-      let before = looked cells place seen cell tag header ending words in
+      let before = look_steps cells place seen cell tag header ending words in
       by_equal (λ now. EndsFrom now steps end → Parts cell (before ++ step ∷ steps) end) again tag
       (Over (Found (value_of header words)))
       (next_cell cells cell)
@@ -94,7 +94,7 @@ module _ (cells : Cells) (place : Place) (room : FitsCells cells) (fits : FitsPl
   part_words : (cell tag header ending : ℕ) → HasSeen cells place seen tag header
       → sees place.form seen ending ≡ false → (steps : List (Step Field))
       (end : SearchEnd) → EndsFrom (At (CellWords cell tag header [])) steps end
-      → Parts cell (dated cells place seen cell tag header ending ++ steps) end
+      → Parts cell (end_steps cells place seen cell tag header ending ++ steps) end
   part_words cell tag header ending shows newest steps end ends =
       let all =
       words_read (cell_verb cells) (cell_after cells place seen) (field.CellWord cells.bucket cell) place.width
@@ -106,12 +106,12 @@ module _ (cells : Cells) (place : Place) (room : FitsCells cells) (fits : FitsPl
   -- the cell's end, after its header
   part_end : (cell tag header : ℕ) → HasSeen cells place seen tag header → (steps : List (Step Field)) (end : SearchEnd)
       → EndsFrom (At (CellEnding cell tag header)) steps end
-      → Parts cell (owned cells place seen cell tag ++ saw (field.Begin cells.bucket cell) header ∷ steps) end
+      → Parts cell (owner_steps cells place seen cell tag ++ saw (field.Begin cells.bucket cell) header ∷ steps) end
   part_end cell tag header shows [] end ends = absurd ends
   part_end cell tag header shows (step ∷ steps) end ends =
       let ending = step.found in
       let is : step ≡ saw (field.End cells.bucket cell) ending = step_of _ step ends.0 in
-      let before = owned cells place seen cell tag ++ saw (field.Begin cells.bucket cell) header ∷ [] in
+      let before = owner_steps cells place seen cell tag ++ saw (field.Begin cells.bucket cell) header ∷ [] in
       by_test (λ now. EndsFrom now steps end → Parts cell (before ++ step ∷ steps) end) (sees place.form seen ending)
       (next_cell cells cell) (At (CellWords cell tag header []))
       (λ test goes. inr (before ++ step ∷ [], steps, refl, by_end tag header ending shows test (rw (← is) refl), goes))
@@ -121,12 +121,12 @@ module _ (cells : Cells) (place : Place) (room : FitsCells cells) (fits : FitsPl
   -- the cell's header, after its owner
   part_header : (cell tag : ℕ) → is_full tag ≡ true → (steps : List (Step Field)) (end : SearchEnd)
       → EndsFrom (At (CellBegin cell tag)) steps end
-      → Parts cell (owned cells place seen cell tag ++ steps) end
+      → Parts cell (owner_steps cells place seen cell tag ++ steps) end
   part_header cell tag full [] end ends = absurd ends
   part_header cell tag full (step ∷ steps) end ends =
       let header = step.found in
       let is : step ≡ saw (field.Begin cells.bucket cell) header = step_of _ step ends.0 in
-      let before = owned cells place seen cell tag in
+      let before = owner_steps cells place seen cell tag in
       by_test (λ now. EndsFrom now steps end → Parts cell (before ++ step ∷ steps) end) (sees place.form seen header)
       (At (CellEnding cell tag header)) (next_cell cells cell)
       (λ test goes. rw is (part_end cell tag header (record { full = full; visible = test }) steps end goes))
@@ -163,7 +163,7 @@ module _ (cells : Cells) (place : Place) (room : FitsCells cells) (fits : FitsPl
 
   -- The other way round: what each test says, put together.
 
-  chosen : (test : Bool) (is : Bool) (a b : Now CellPlace SearchEnd) (steps : List (Step Field)) (end : SearchEnd)
+  chosen : (test : Bool) (is : Bool) (a b : Now CellPoint SearchEnd) (steps : List (Step Field)) (end : SearchEnd)
       → test ≡ is
       → EndsFrom (if is then a else b) steps end → EndsFrom (if test then a else b) steps end
   chosen test is a b steps end same ends = rw same ends
@@ -179,7 +179,7 @@ module _ (cells : Cells) (place : Place) (room : FitsCells cells) (fits : FitsPl
 
   from_owner : (cell tag : ℕ) (steps : List (Step Field)) (end : SearchEnd) → is_full tag ≡ true
       → EndsFrom (At (CellBegin cell tag)) steps end
-      → EndsFrom (At (CellTag cell)) (owned cells place seen cell tag ++ steps) end
+      → EndsFrom (At (CellTag cell)) (owner_steps cells place seen cell tag ++ steps) end
   from_owner cell tag steps end full ends =
       from_tag cell tag (saw (field.Owner cells.bucket cell) place.row ∷ steps) end full (
         refl,
@@ -191,7 +191,7 @@ module _ (cells : Cells) (place : Place) (room : FitsCells cells) (fits : FitsPl
       → HasSeen cells place seen tag header
       → EndsFrom (At (CellEnding cell tag header)) steps end
       → EndsFrom (At (CellTag cell))
-      (owned cells place seen cell tag ++ saw (field.Begin cells.bucket cell) header ∷ steps) end
+      (owner_steps cells place seen cell tag ++ saw (field.Begin cells.bucket cell) header ∷ steps) end
   from_header cell tag header steps end shows ends =
       from_owner cell tag (saw (field.Begin cells.bucket cell) header ∷ steps) end shows.full (
         refl,
@@ -203,7 +203,7 @@ module _ (cells : Cells) (place : Place) (room : FitsCells cells) (fits : FitsPl
       → HasSeen cells place seen tag header
       → sees place.form seen ending ≡ false → length words ≡ place.width
       → EndsFrom (At (CellAgain cell tag header words)) steps end
-      → EndsFrom (At (CellTag cell)) (looked cells place seen cell tag header ending words ++ steps) end
+      → EndsFrom (At (CellTag cell)) (look_steps cells place seen cell tag header ending words ++ steps) end
   from_words cell tag header ending words steps end shows newest whole ends =
       from_header cell tag header
       (saw (field.End cells.bucket cell) ending ∷ saw_words (field.CellWord cells.bucket cell) words
@@ -241,7 +241,7 @@ module _ (cells : Cells) (place : Place) (room : FitsCells cells) (fits : FitsPl
             end test ends,
       ))
   passed_cell cell first rest end (by_change tag header ending words again shows newest whole other is) ends =
-      let before = looked cells place seen cell tag header ending words in
+      let before = look_steps cells place seen cell tag header ending words in
       let last = saw (field.Tag cells.bucket cell) again in
       rw is (subst (λ steps. EndsFrom (At (CellTag cell)) steps end) (sym (append_assoc before (last ∷ []) rest))
       (from_words cell tag header ending words (last ∷ rest) end shows newest whole (

@@ -10,7 +10,7 @@ use Rattle.nam_layout.specs.PlaceFits.{FitsCells}
 use Rattle.nam_layout.specs.Place.{cell_address, cells_end}
 use Rattle.nam_layout.specs.declared.field.Field.{Field}
 use Rattle.nam_calls.specs.declared.overflow.Version.{Version}
-use Rattle.nam_calls.specs.declared.overflow.FillPlace.{FillPlace}
+use Rattle.nam_calls.specs.declared.overflow.FillPoint.{FillPoint}
 use Rattle.nam_calls.specs.Overflow.{fill_begin, fill_verb, fill_after, fill_left}
 use Rattle.nam_calls.specs.Fits.{FillFits}
 
@@ -20,17 +20,17 @@ pub record Filling : Type 0 where
   pub cell : ℕ
   pub owner : ℕ
   pub version : Version
-  pub state : Now FillPlace (Unit {0})
+  pub state : Now FillPoint (Unit {0})
 
 -- the cell is one of the bucket's, and the version has as many words as a position can have
-pub record FillingFits (cells : Cells) (cell : ℕ) (version : Version) (state : Now FillPlace (Unit {0})) : Type 0 where
+pub record FillingFits (cells : Cells) (cell : ℕ) (version : Version) (state : Now FillPoint (Unit {0})) : Type 0 where
   pub bucket : FitsCells cells
   pub within : cell < cells.cells
   pub least : 1 ≤ length version.value
   pub most : length version.value ≤ MOST_WIDTH
   pub at : FitsNow (FillFits (length version.value)) state
 
-abbrev pub filling_at : Cells → ℕ → ℕ → Version → Now FillPlace (Unit {0}) → Filling
+abbrev pub filling_at : Cells → ℕ → ℕ → Version → Now FillPoint (Unit {0}) → Filling
 filling_at cells cell owner version state =
     record { cells = cells; cell = cell; owner = owner; version = version; state = state }
 
@@ -40,7 +40,7 @@ filling cells cell owner begin ending words =
     filling_at cells cell owner record { begin = begin; «end» = ending; value = words } (At fill_begin)
 
 -- the same as a running call
-abbrev pub running : Filling → Running Field FillPlace (Unit {0})
+abbrev pub running : Filling → Running Field FillPoint (Unit {0})
 running a = record {
   address = cell_address a.cells;
   reach = cells_end a.cells;

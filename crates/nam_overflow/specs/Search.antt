@@ -8,7 +8,7 @@ use Rattle.nam_layout.specs.declared.field.Cells.{Cells}
 use Rattle.nam_layout.specs.Place.{cell_address, cells_end}
 use Rattle.nam_layout.specs.declared.field.Field.{Field}
 use Rattle.nam_calls.specs.declared.ring.SearchEnd.{SearchEnd}
-use Rattle.nam_calls.specs.declared.overflow.CellPlace.{CellPlace}
+use Rattle.nam_calls.specs.declared.overflow.CellPoint.{CellPoint}
 use Rattle.nam_calls.specs.Overflow.{cell_begin, cell_verb, cell_after, cell_left}
 
 -- a search of cells for the version of a row that a snapshot sees, and where it stands
@@ -16,14 +16,14 @@ pub record Searching : Type 0 where
   pub cells : Cells
   pub place : Place
   pub seen : List ℕ
-  pub state : Now CellPlace SearchEnd
+  pub state : Now CellPoint SearchEnd
 
 -- a new search
 abbrev pub searching : Cells → Place → List ℕ → Searching
 searching cells place seen = record { cells = cells; place = place; seen = seen; state = At cell_begin }
 
 -- the same as a running call
-abbrev pub running : Searching → Running Field CellPlace SearchEnd
+abbrev pub running : Searching → Running Field CellPoint SearchEnd
 running a = record {
   address = cell_address a.cells;
   reach = cells_end a.cells;

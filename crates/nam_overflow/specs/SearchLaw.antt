@@ -23,18 +23,18 @@ module _ (cells : Cells) (place : Place) (seen : List ℕ) where
     pub visible : sees place.form seen header ≡ true
 
   -- the cell's tag was read, and that the row owns it
-  abbrev pub owned : ℕ → ℕ → List (Step Field)
-  owned cell tag = saw (field.Tag cells.bucket cell) tag ∷ saw (field.Owner cells.bucket cell) place.row ∷ []
+  abbrev pub owner_steps : ℕ → ℕ → List (Step Field)
+  owner_steps cell tag = saw (field.Tag cells.bucket cell) tag ∷ saw (field.Owner cells.bucket cell) place.row ∷ []
 
   -- after these the version's header and its end
-  abbrev pub dated : ℕ → ℕ → ℕ → ℕ → List (Step Field)
-  dated cell tag header ending =
-      owned cell tag ++ saw (field.Begin cells.bucket cell) header ∷ saw (field.End cells.bucket cell) ending ∷ []
+  abbrev pub end_steps : ℕ → ℕ → ℕ → ℕ → List (Step Field)
+  end_steps cell tag header ending =
+      owner_steps cell tag ++ saw (field.Begin cells.bucket cell) header ∷ saw (field.End cells.bucket cell) ending ∷ []
 
   -- and after these its words
-  abbrev pub looked : ℕ → ℕ → ℕ → ℕ → List ℕ → List (Step Field)
-  looked cell tag header ending words =
-      dated cell tag header ending ++ saw_words (field.CellWord cells.bucket cell) words
+  abbrev pub look_steps : ℕ → ℕ → ℕ → ℕ → List ℕ → List (Step Field)
+  look_steps cell tag header ending words =
+      end_steps cell tag header ending ++ saw_words (field.CellWord cells.bucket cell) words
 
   -- a cell was ended by a word found: by its tag, its owner, its header, its end, or by its tag read again
   pub data CellEnded (cell : ℕ) (steps : List (Step Field)) : Type 0 where
@@ -43,12 +43,12 @@ module _ (cells : Cells) (place : Place) (seen : List ℕ) where
         → steps ≡ saw (field.Tag cells.bucket cell) tag ∷ saw (field.Owner cells.bucket cell) owner ∷ []
         → CellEnded cell steps
     by_header : (tag header : ℕ) → is_full tag ≡ true → sees place.form seen header ≡ false
-        → steps ≡ owned cell tag ++ saw (field.Begin cells.bucket cell) header ∷ [] → CellEnded cell steps
+        → steps ≡ owner_steps cell tag ++ saw (field.Begin cells.bucket cell) header ∷ [] → CellEnded cell steps
     by_end : (tag header ending : ℕ) → HasSeen tag header → sees place.form seen ending ≡ true
-        → steps ≡ dated cell tag header ending → CellEnded cell steps
+        → steps ≡ end_steps cell tag header ending → CellEnded cell steps
     by_change : (tag header ending : ℕ) (words : List ℕ) (again : ℕ) → HasSeen tag header
         → sees place.form seen ending ≡ false → length words ≡ place.width → again ≢ tag
-        → steps ≡ looked cell tag header ending words ++ saw (field.Tag cells.bucket cell) again ∷ []
+        → steps ≡ look_steps cell tag header ending words ++ saw (field.Tag cells.bucket cell) again ∷ []
         → CellEnded cell steps
 
   -- A cell has what the snapshot sees: its tag says that it is full, the row owns it, its header is visible, its end
@@ -63,7 +63,7 @@ module _ (cells : Cells) (place : Place) (seen : List ℕ) where
     pub newest : sees place.form seen ending ≡ false
     pub whole : length words ≡ place.width
     pub value_is : value ≡ (if is_deleted place.form header then None else Some words)
-    pub steps_are : steps ≡ looked cell tag header ending words ++ saw (field.Tag cells.bucket cell) tag ∷ []
+    pub steps_are : steps ≡ look_steps cell tag header ending words ++ saw (field.Tag cells.bucket cell) tag ∷ []
 
 -- found exactly where a cell has it, after each cell before it was ended by a word found
 abbrev pub FoundLaw : Type 0

@@ -10,7 +10,7 @@ ghost use Rattle.nam_calls.specs.Overflow.{claim_begin, claim_verb, claim_next, 
 ghost use Rattle.nam_calls.specs.Fits.{ClaimFits};
 ghost use Rattle.nam_overflow.specs.Claim.{claiming, running};
 
-use nam_calls::{ClaimEnd, ClaimPlace};
+use nam_calls::{ClaimEnd, ClaimPoint};
 use nam_header::Tag;
 use nam_layout::{Cells, Field};
 use nam_verbs::{Machine, Now, Verb};
@@ -18,24 +18,24 @@ use std::marker::Model;
 use std::mem::replace;
 
 /// Where a claim begins: at the first cell.
-pub fn claim_begin() -> ClaimPlace
+pub fn claim_begin() -> ClaimPoint
     ensures { result ≡ claim_begin }
 {
-    ClaimPlace::ClaimLook { cell: 0 }
+    ClaimPoint::ClaimLook { cell: 0 }
 }
 
-/// The verb that stands at a place.
-pub fn claim_verb(cells: &Cells, at: &ClaimPlace) -> Verb
+/// The verb that stands at a point.
+pub fn claim_verb(cells: &Cells, at: &ClaimPoint) -> Verb
     requires fits { FitsCells cells.now }
     requires at { ClaimFits cells.now at.now }
     ensures value { result ≡ verb_by (cell_address cells.now) (claim_verb cells.now at.now) }
     ensures within { address_of result < cells_end cells.now }
 {
     match at {
-        ClaimPlace::ClaimLook { cell } => Verb::Read {
+        ClaimPoint::ClaimLook { cell } => Verb::Read {
             at: cells.tag(*cell),
         },
-        ClaimPlace::ClaimTake { cell, tag } => Verb::Exchange {
+        ClaimPoint::ClaimTake { cell, tag } => Verb::Exchange {
             at: cells.tag(*cell),
             expect: *tag,
             // Neither free nor full, so that others pass the cell until it is filled.
@@ -44,7 +44,7 @@ pub fn claim_verb(cells: &Cells, at: &ClaimPlace) -> Verb
     }
 }
 
-fn claim_next(cells: &Cells, cell: u32) -> Now<ClaimPlace, ClaimEnd>
+fn claim_next(cells: &Cells, cell: u32) -> Now<ClaimPoint, ClaimEnd>
     requires fits { FitsCells cells.now }
     requires cell { cell < cells.now.cells }
     ensures { result ≡ claim_next cells.now cell }
@@ -52,25 +52,25 @@ fn claim_next(cells: &Cells, cell: u32) -> Now<ClaimPlace, ClaimEnd>
     if cell + 1 == cells.cells {
         Now::Over(ClaimEnd::NoRoom)
     } else {
-        Now::At(ClaimPlace::ClaimLook { cell: cell + 1 })
+        Now::At(ClaimPoint::ClaimLook { cell: cell + 1 })
     }
 }
 
-/// What follows the word that the verb of a place found.
-pub fn claim_after(cells: &Cells, at: ClaimPlace, found: u64) -> Now<ClaimPlace, ClaimEnd>
+/// What follows the word that the verb of a point found.
+pub fn claim_after(cells: &Cells, at: ClaimPoint, found: u64) -> Now<ClaimPoint, ClaimEnd>
     requires fits { FitsCells cells.now }
     requires at { ClaimFits cells.now at }
     ensures { result ≡ claim_after cells.now at found }
 {
     match at {
-        ClaimPlace::ClaimLook { cell } => {
+        ClaimPoint::ClaimLook { cell } => {
             if Tag(found).is_free() {
-                Now::At(ClaimPlace::ClaimTake { cell, tag: found })
+                Now::At(ClaimPoint::ClaimTake { cell, tag: found })
             } else {
                 claim_next(cells, cell)
             }
         }
-        ClaimPlace::ClaimTake { cell, tag } => {
+        ClaimPoint::ClaimTake { cell, tag } => {
             if found == tag {
                 Now::Over(ClaimEnd::Claimed {
                     cell,
@@ -83,15 +83,15 @@ pub fn claim_after(cells: &Cells, at: ClaimPlace, found: u64) -> Now<ClaimPlace,
     }
 }
 
-/// A number of verbs that are to come from a place at the most.
-pub fn claim_left(cells: &Cells, at: &ClaimPlace) -> u64
+/// A number of verbs that are to come from a point at the most.
+pub fn claim_left(cells: &Cells, at: &ClaimPoint) -> u64
     requires fits { FitsCells cells.now }
     requires at { ClaimFits cells.now at.now }
     ensures { result ≡ claim_left cells.now at.now }
 {
     match at {
-        ClaimPlace::ClaimLook { cell } => (cells.cells - *cell - 1) as u64 * 2 + 2,
-        ClaimPlace::ClaimTake { cell, .. } => (cells.cells - *cell - 1) as u64 * 2 + 1,
+        ClaimPoint::ClaimLook { cell } => (cells.cells - *cell - 1) as u64 * 2 + 2,
+        ClaimPoint::ClaimTake { cell, .. } => (cells.cells - *cell - 1) as u64 * 2 + 1,
     }
 }
 
@@ -100,7 +100,7 @@ pub fn claim_left(cells: &Cells, at: &ClaimPlace) -> u64
 #[derive(Debug, Drop)]
 pub struct ClaimCell {
     cells: Cells,
-    state: Now<ClaimPlace, ClaimEnd>,
+    state: Now<ClaimPoint, ClaimEnd>,
 }
 
 impl Model for ClaimCell {
@@ -135,21 +135,21 @@ impl Machine for ClaimCell {
 
     type Word = Field;
 
-    type Place = ClaimPlace;
+    type Point = ClaimPoint;
 
     type End = ClaimEnd;
 
     ghost running = { running };
 
-    fn state(&self) -> &Now<ClaimPlace, ClaimEnd> {
+    fn state(&self) -> &Now<ClaimPoint, ClaimEnd> {
         &self.state
     }
 
-    fn verb_from(&self, place: &ClaimPlace) -> Verb {
+    fn verb_from(&self, place: &ClaimPoint) -> Verb {
         claim_verb(&self.cells, place)
     }
 
-    fn left_from(&self, place: &ClaimPlace) -> u64 {
+    fn left_from(&self, place: &ClaimPoint) -> u64 {
         claim_left(&self.cells, place)
     }
 

@@ -10,7 +10,7 @@ ghost use Rattle.nam_calls.specs.Overflow.{fill_begin, fill_verb, fill_after, fi
 ghost use Rattle.nam_calls.specs.Fits.{FillFits};
 ghost use Rattle.nam_overflow.specs.Fill.{filling, running};
 
-use nam_calls::{FillPlace, Version};
+use nam_calls::{FillPoint, Version};
 use nam_catalog::bounds::MOST_WIDTH;
 use nam_layout::{Cells, Field};
 use nam_verbs::{Machine, Now, Verb};
@@ -19,14 +19,14 @@ use std::marker::Model;
 use std::mem::replace;
 
 /// Where a filling begins: at the owner.
-pub fn fill_begin() -> FillPlace
+pub fn fill_begin() -> FillPoint
     ensures { result ≡ fill_begin }
 {
-    FillPlace::FillOwner
+    FillPoint::FillOwner
 }
 
-/// The verb that stands at a place: a write of the row that owns the cell, or of a word of the version.
-pub fn fill_verb(cells: &Cells, cell: u32, owner: u32, version: &Version, at: &FillPlace) -> Verb
+/// The verb that stands at a point: a write of the row that owns the cell, or of a word of the version.
+pub fn fill_verb(cells: &Cells, cell: u32, owner: u32, version: &Version, at: &FillPoint) -> Verb
     requires fits { FitsCells cells.now }
     requires cell { cell < cells.now.cells }
     requires words { length version.now.value ≤ MOST_WIDTH }
@@ -35,55 +35,55 @@ pub fn fill_verb(cells: &Cells, cell: u32, owner: u32, version: &Version, at: &F
     ensures within { address_of result < cells_end cells.now }
 {
     match at {
-        FillPlace::FillOwner => Verb::Write {
+        FillPoint::FillOwner => Verb::Write {
             at: cells.owner(cell),
             word: owner as u64,
         },
-        FillPlace::FillBegin => Verb::Write {
+        FillPoint::FillBegin => Verb::Write {
             at: cells.begin(cell),
             word: version.begin,
         },
-        FillPlace::FillEnding => Verb::Write {
+        FillPoint::FillEnding => Verb::Write {
             at: cells.end(cell),
             word: version.end,
         },
-        FillPlace::FillWord { nth } => Verb::Write {
+        FillPoint::FillWord { nth } => Verb::Write {
             at: cells.word(cell, *nth),
             word: *version.value.at(*nth as usize),
         },
     }
 }
 
-/// What follows the write of a place, where the version has so many words.
-pub fn fill_after(width: u32, at: FillPlace) -> Now<FillPlace, ()>
+/// What follows the write of a point, where the version has so many words.
+pub fn fill_after(width: u32, at: FillPoint) -> Now<FillPoint, ()>
     requires { FillFits width at }
     ensures { result ≡ fill_after width at }
 {
     match at {
-        FillPlace::FillOwner => Now::At(FillPlace::FillBegin),
-        FillPlace::FillBegin => Now::At(FillPlace::FillEnding),
-        FillPlace::FillEnding => Now::At(FillPlace::FillWord { nth: 0 }),
-        FillPlace::FillWord { nth } => {
+        FillPoint::FillOwner => Now::At(FillPoint::FillBegin),
+        FillPoint::FillBegin => Now::At(FillPoint::FillEnding),
+        FillPoint::FillEnding => Now::At(FillPoint::FillWord { nth: 0 }),
+        FillPoint::FillWord { nth } => {
             if nth + 1 == width {
                 Now::Over(())
             } else {
-                Now::At(FillPlace::FillWord { nth: nth + 1 })
+                Now::At(FillPoint::FillWord { nth: nth + 1 })
             }
         }
     }
 }
 
-/// How many verbs are to come from a place.
-pub fn fill_left(width: u32, at: &FillPlace) -> u64
+/// How many verbs are to come from a point.
+pub fn fill_left(width: u32, at: &FillPoint) -> u64
     requires { FillFits width at.now }
     ensures { result ≡ fill_left width at.now }
 {
     let width = width as u64;
     match at {
-        FillPlace::FillOwner => width + 3,
-        FillPlace::FillBegin => width + 2,
-        FillPlace::FillEnding => width + 1,
-        FillPlace::FillWord { nth } => width - *nth as u64,
+        FillPoint::FillOwner => width + 3,
+        FillPoint::FillBegin => width + 2,
+        FillPoint::FillEnding => width + 1,
+        FillPoint::FillWord { nth } => width - *nth as u64,
     }
 }
 
@@ -95,7 +95,7 @@ pub struct FillCell {
     cell: u32,
     owner: u32,
     version: Version,
-    state: Now<FillPlace, ()>,
+    state: Now<FillPoint, ()>,
 }
 
 impl Model for FillCell {
@@ -138,21 +138,21 @@ impl Machine for FillCell {
 
     type Word = Field;
 
-    type Place = FillPlace;
+    type Point = FillPoint;
 
     type End = ();
 
     ghost running = { running };
 
-    fn state(&self) -> &Now<FillPlace, ()> {
+    fn state(&self) -> &Now<FillPoint, ()> {
         &self.state
     }
 
-    fn verb_from(&self, place: &FillPlace) -> Verb {
+    fn verb_from(&self, place: &FillPoint) -> Verb {
         fill_verb(&self.cells, self.cell, self.owner, &self.version, place)
     }
 
-    fn left_from(&self, place: &FillPlace) -> u64 {
+    fn left_from(&self, place: &FillPoint) -> u64 {
         fill_left(self.version.value.len() as u32, place)
     }
 

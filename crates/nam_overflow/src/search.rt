@@ -9,13 +9,13 @@ ghost use Rattle.nam_verbs.specs.Running.{verbs_left};
 ghost use Rattle.nam_header.specs.Stamp.{is_deleted};
 ghost use Rattle.nam_layout.specs.Place.{cell_address, cells_end};
 ghost use Rattle.nam_layout.specs.PlaceFits.{FitsPlace, FitsCells};
-ghost use Rattle.nam_calls.specs.declared.overflow.CellPlace.TheVariants.{CellWords, CellAgain};
+ghost use Rattle.nam_calls.specs.declared.overflow.CellPoint.TheVariants.{CellWords, CellAgain};
 ghost use Rattle.nam_calls.specs.declared.ring.SearchEnd.TheVariants.{Found};
 ghost use Rattle.nam_calls.specs.Overflow.{cell_begin, cell_verb, next_cell, cell_after, cells_left, cell_left};
 ghost use Rattle.nam_calls.specs.Fits.{CellFits};
 ghost use Rattle.nam_overflow.specs.Search.{searching, running};
 
-use nam_calls::{CellPlace, SearchEnd};
+use nam_calls::{CellPoint, SearchEnd};
 use nam_catalog::Form;
 use nam_catalog::bounds::MOST_WIDTH;
 use nam_header::{Tag, is_deleted, sees};
@@ -26,14 +26,14 @@ use std::marker::Model;
 use std::mem::replace;
 
 /// Where a search begins: at the first cell.
-pub fn cell_begin() -> CellPlace
+pub fn cell_begin() -> CellPoint
     ensures { result ≡ cell_begin }
 {
-    CellPlace::CellTag { cell: 0 }
+    CellPoint::CellTag { cell: 0 }
 }
 
-/// The verb that stands at a place.
-pub fn cell_verb(cells: &Cells, place: &Place, at: &CellPlace) -> Verb
+/// The verb that stands at a point.
+pub fn cell_verb(cells: &Cells, place: &Place, at: &CellPoint) -> Verb
     requires cells { FitsCells cells.now }
     requires place { FitsPlace place.now }
     requires at { CellFits cells.now place.now at.now }
@@ -41,16 +41,16 @@ pub fn cell_verb(cells: &Cells, place: &Place, at: &CellPlace) -> Verb
     ensures within { address_of result < cells_end cells.now }
 {
     let at = match at {
-        CellPlace::CellTag { cell } | CellPlace::CellAgain { cell, .. } => cells.tag(*cell),
-        CellPlace::CellOwner { cell, .. } => cells.owner(*cell),
-        CellPlace::CellBegin { cell, .. } => cells.begin(*cell),
-        CellPlace::CellEnding { cell, .. } => cells.end(*cell),
-        CellPlace::CellWords { cell, got, .. } => cells.word(*cell, got.len() as u32),
+        CellPoint::CellTag { cell } | CellPoint::CellAgain { cell, .. } => cells.tag(*cell),
+        CellPoint::CellOwner { cell, .. } => cells.owner(*cell),
+        CellPoint::CellBegin { cell, .. } => cells.begin(*cell),
+        CellPoint::CellEnding { cell, .. } => cells.end(*cell),
+        CellPoint::CellWords { cell, got, .. } => cells.word(*cell, got.len() as u32),
     };
     Verb::Read { at }
 }
 
-fn next_cell(cells: &Cells, cell: u32) -> Now<CellPlace, SearchEnd>
+fn next_cell(cells: &Cells, cell: u32) -> Now<CellPoint, SearchEnd>
     requires fits { FitsCells cells.now }
     requires cell { cell < cells.now.cells }
     ensures { result ≡ next_cell cells.now cell }
@@ -58,12 +58,12 @@ fn next_cell(cells: &Cells, cell: u32) -> Now<CellPlace, SearchEnd>
     if cell + 1 == cells.cells {
         Now::Over(SearchEnd::NotThere)
     } else {
-        Now::At(CellPlace::CellTag { cell: cell + 1 })
+        Now::At(CellPoint::CellTag { cell: cell + 1 })
     }
 }
 
 // The cell is looked at further where its word passes, and else the next cell.
-fn going(cells: &Cells, cell: u32, passes: bool, further: CellPlace) -> Now<CellPlace, SearchEnd>
+fn going(cells: &Cells, cell: u32, passes: bool, further: CellPoint) -> Now<CellPoint, SearchEnd>
     requires fits { FitsCells cells.now }
     requires cell { cell < cells.now.cells }
     ensures { result ≡ (if passes then At further else next_cell cells.now cell) }
@@ -76,7 +76,7 @@ fn going(cells: &Cells, cell: u32, passes: bool, further: CellPlace) -> Now<Cell
 }
 
 // With one more of the cell's words, the next one follows, or the tag again.
-fn one_more(width: u32, cell: u32, tag: u64, header: u64, got: Value, found: u64) -> CellPlace
+fn one_more(width: u32, cell: u32, tag: u64, header: u64, got: Value, found: u64) -> CellPoint
     requires most { width ≤ MOST_WIDTH }
     requires got { length got < width }
     ensures { result ≡ until width (got ++ found ∷ []) (CellWords cell tag header) (CellAgain cell tag header) }
@@ -84,14 +84,14 @@ fn one_more(width: u32, cell: u32, tag: u64, header: u64, got: Value, found: u64
     let mut got = got;
     got.push(found);
     if got.len() == width as usize {
-        CellPlace::CellAgain {
+        CellPoint::CellAgain {
             cell,
             tag,
             header,
             value: got,
         }
     } else {
-        CellPlace::CellWords {
+        CellPoint::CellWords {
             cell,
             tag,
             header,
@@ -111,53 +111,53 @@ fn value_of(form: Form, header: u64, value: Value) -> SearchEnd
     }
 }
 
-/// What follows the word that the verb of a place found.
+/// What follows the word that the verb of a point found.
 pub fn cell_after(
     cells: &Cells,
     place: &Place,
     seen: &Snapshot,
-    at: CellPlace,
+    at: CellPoint,
     found: u64,
-) -> Now<CellPlace, SearchEnd>
+) -> Now<CellPoint, SearchEnd>
     requires cells { FitsCells cells.now }
     requires place { FitsPlace place.now }
     requires at { CellFits cells.now place.now at }
     ensures { result ≡ cell_after cells.now place.now seen.now at found }
 {
     match at {
-        CellPlace::CellTag { cell } => {
-            let further = CellPlace::CellOwner { cell, tag: found };
+        CellPoint::CellTag { cell } => {
+            let further = CellPoint::CellOwner { cell, tag: found };
             going(cells, cell, Tag(found).is_full(), further)
         }
-        CellPlace::CellOwner { cell, tag } => {
-            let further = CellPlace::CellBegin { cell, tag };
+        CellPoint::CellOwner { cell, tag } => {
+            let further = CellPoint::CellBegin { cell, tag };
             going(cells, cell, found == place.row as u64, further)
         }
-        CellPlace::CellBegin { cell, tag } => {
+        CellPoint::CellBegin { cell, tag } => {
             let header = found;
-            let further = CellPlace::CellEnding { cell, tag, header };
+            let further = CellPoint::CellEnding { cell, tag, header };
             going(cells, cell, sees(place.form, seen, found), further)
         }
-        CellPlace::CellEnding { cell, tag, header } => {
+        CellPoint::CellEnding { cell, tag, header } => {
             // A later version replaced this one within the snapshot.
             if sees(place.form, seen, found) {
                 return next_cell(cells, cell);
             }
             let got = Value::new();
-            Now::At(CellPlace::CellWords {
+            Now::At(CellPoint::CellWords {
                 cell,
                 tag,
                 header,
                 got,
             })
         }
-        CellPlace::CellWords {
+        CellPoint::CellWords {
             cell,
             tag,
             header,
             got,
         } => Now::At(one_more(place.width, cell, tag, header, got, found)),
-        CellPlace::CellAgain {
+        CellPoint::CellAgain {
             cell,
             tag,
             header,
@@ -180,8 +180,8 @@ fn cells_left(cells: &Cells, place: &Place, cell: u32) -> u64
     (cells.cells - cell - 1) as u64 * (place.width as u64 + 5)
 }
 
-/// A number of verbs that are to come from a place at the most.
-pub fn cell_left(cells: &Cells, place: &Place, at: &CellPlace) -> u64
+/// A number of verbs that are to come from a point at the most.
+pub fn cell_left(cells: &Cells, place: &Place, at: &CellPoint) -> u64
     requires cells { FitsCells cells.now }
     requires place { FitsPlace place.now }
     requires at { CellFits cells.now place.now at.now }
@@ -189,13 +189,13 @@ pub fn cell_left(cells: &Cells, place: &Place, at: &CellPlace) -> u64
 {
     let width = place.width as u64;
     match at {
-        CellPlace::CellTag { cell } => cells_left(cells, place, *cell) + (width + 5),
-        CellPlace::CellOwner { cell, .. } => cells_left(cells, place, *cell) + (width + 4),
-        CellPlace::CellBegin { cell, .. } => cells_left(cells, place, *cell) + (width + 3),
-        CellPlace::CellEnding { cell, .. } => cells_left(cells, place, *cell) + (width + 2),
-        CellPlace::CellWords { cell, got, .. } => cells_left(cells, place, *cell)
+        CellPoint::CellTag { cell } => cells_left(cells, place, *cell) + (width + 5),
+        CellPoint::CellOwner { cell, .. } => cells_left(cells, place, *cell) + (width + 4),
+        CellPoint::CellBegin { cell, .. } => cells_left(cells, place, *cell) + (width + 3),
+        CellPoint::CellEnding { cell, .. } => cells_left(cells, place, *cell) + (width + 2),
+        CellPoint::CellWords { cell, got, .. } => cells_left(cells, place, *cell)
             + (width - got.len() as u64 + 1),
-        CellPlace::CellAgain { cell, .. } => cells_left(cells, place, *cell) + 1,
+        CellPoint::CellAgain { cell, .. } => cells_left(cells, place, *cell) + 1,
     }
 }
 
@@ -207,7 +207,7 @@ pub struct SearchCells {
     cells: Cells,
     place: Place,
     seen: Snapshot,
-    state: Now<CellPlace, SearchEnd>,
+    state: Now<CellPoint, SearchEnd>,
 }
 
 impl Model for SearchCells {
@@ -245,21 +245,21 @@ impl Machine for SearchCells {
 
     type Word = Field;
 
-    type Place = CellPlace;
+    type Point = CellPoint;
 
     type End = SearchEnd;
 
     ghost running = { running };
 
-    fn state(&self) -> &Now<CellPlace, SearchEnd> {
+    fn state(&self) -> &Now<CellPoint, SearchEnd> {
         &self.state
     }
 
-    fn verb_from(&self, place: &CellPlace) -> Verb {
+    fn verb_from(&self, place: &CellPoint) -> Verb {
         cell_verb(&self.cells, &self.place, place)
     }
 
-    fn left_from(&self, place: &CellPlace) -> u64 {
+    fn left_from(&self, place: &CellPoint) -> u64 {
         cell_left(&self.cells, &self.place, place)
     }
 

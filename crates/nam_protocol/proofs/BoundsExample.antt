@@ -107,7 +107,7 @@ guard_bound_is = refl
 -- 5. Operations so far: a scan counts as the positions of its table
 
 abbrev counts_of : Open → ℕ × ℕ
-counts_of attempt = (attempt.ops , attempt.ops_so_far)
+counts_of attempt = (attempt.ops, attempt.ops_so_far)
 
 operations_so_far : option_map counts_of
     (after_calls small opened (Begin 1 1 ∷ Txn (Get 0 0) ∷ Scan 0 0 9 ∷ Txn (Put 0 0 (9 ∷ [])) ∷ [])).client.txn

@@ -14,7 +14,7 @@ use Rattle.si_model.specs.declared.op.Op.{Op}
 use Rattle.si_model.specs.declared.op.Op.TheVariants.{Get, Put, Add, Del, Need, Guard, Scan}
 use Rattle.si_model.specs.declared.log.Lock.{Lock}
 use Rattle.si_model.specs.Rows.{key_at}
-use Rattle.si_model.specs.Evaluation.{OpFits, guarded, key_written, keys_from, written_keys}
+use Rattle.si_model.specs.Evaluation.{OpFits, with_guard, key_written, keys_from, written_keys}
 use Rattle.si_model.specs.Answers.{lock_key}
 use Rattle.nam_verbs.proofs.TestLemmas.{by_test, by_equal}
 use Rattle.nam_catalog.specs.declared.shape.Table.{Table}
@@ -26,8 +26,8 @@ use Rattle.nam_protocol.specs.declared.txn.TxnAnswer.{TxnAnswer}
 use Rattle.nam_protocol.specs.declared.client.Answer.{Answer}
 use Rattle.nam_protocol.specs.declared.client.Open.{Open}
 use Rattle.nam_protocol.specs.declared.session.Job.{Job}
-use Rattle.nam_protocol.specs.declared.session.DriverPlace.{DriverPlace}
-use Rattle.nam_protocol.specs.declared.session.DriverPlace.TheVariants.{ToBegin, ToAsk, ToTidy, ToCollect}
+use Rattle.nam_protocol.specs.declared.session.DriverPoint.{DriverPoint}
+use Rattle.nam_protocol.specs.declared.session.DriverPoint.TheVariants.{ToBegin, ToAsk, ToTidy, ToCollect}
 use Rattle.nam_protocol.specs.declared.session.DriverState.{DriverState}
 use Rattle.nam_protocol.specs.Driver.{key_number, next_job, next_try, retried, tidying, on_full, keys_of_job, on_commit}
 use Rattle.nam_protocol.specs.Driver.{on_txn, on_begin, on_ask, on_tidy, place_taken}
@@ -35,7 +35,7 @@ use Rattle.nam_protocol.specs.AttemptLaw.{has_passed}
 use Rattle.nam_protocol.specs.Bound.{op_bound, ops_bound, tidy_bound, collect_bound}
 use Rattle.nam_protocol.specs.Left.{key_bound, keys_bound, commit_bound, try_bound, jobs_bound}
 use Rattle.nam_protocol.specs.Left.{after_call_bound, rest_bound}
-use Rattle.nam_protocol.specs.SessionFits.{OpenAsked, ops_of, JobFits, AreOfTables, TidiesFit, DriverPlaceFits}
+use Rattle.nam_protocol.specs.SessionFits.{OpenAsked, ops_of, JobFits, AreOfTables, TidiesFit, DriverPointFits}
 use Rattle.nam_protocol.specs.SessionFits.{DriverFits}
 use Rattle.nam_protocol.proofs.FallsKeys.{all_guarded}
 use Rattle.nam_protocol.proofs.RunsClient.{HasPassed, TxnAnswered, AskAnswered, TidyAnswered, IsAnswered}
@@ -79,7 +79,7 @@ module _ (shape : Shape) where
   ask_most ops (Some op) = op_bound shape op
 
   -- the call that is asked next
-  abbrev pub call_most : List Op → DriverPlace → ℕ
+  abbrev pub call_most : List Op → DriverPoint → ℕ
   call_most ops ToBegin = 2 * shape.workers
   call_most ops (ToAsk nth) = ask_most ops (slice_get ops nth)
   call_most ops (ToTidy keys nth again retry) = tidy_bound shape (key_number keys nth).table
@@ -91,14 +91,14 @@ module _ (shape : Shape) where
   pending driver (job ∷ jobs) = call_most job.ops driver.place + rest_bound shape driver (job ∷ jobs)
 
   -- how many calls may follow without a verb, the next one included
-  abbrev pub calls_from : List Op → DriverPlace → ℕ
+  abbrev pub calls_from : List Op → DriverPoint → ℕ
   calls_from ops ToBegin = 1
   calls_from ops (ToAsk nth) = length ops - nth + 2
   calls_from ops (ToTidy keys nth again retry) = 1
   calls_from ops (ToCollect bucket keys nth retry) = 1
 
   -- the same after an answer to that call
-  abbrev pub calls_after : List Op → DriverPlace → ℕ
+  abbrev pub calls_after : List Op → DriverPoint → ℕ
   calls_after ops (ToAsk nth) = length ops - nth + 1
   calls_after ops _ = length ops + 2
 
@@ -179,7 +179,7 @@ module _ (shape : Shape) where
 
   guarded_of_tables : (ks : List Key) (op : Op) (o : Option Key) → key_written op ≡ o
       → OpFits (widths_of shape.tables) op → AreOfTables shape ks
-      → AreOfTables shape (elim o [ None ↦ ks | Some key ↦ guarded ks key ])
+      → AreOfTables shape (elim o [ None ↦ ks | Some key ↦ with_guard ks key ])
   guarded_of_tables ks op None e f all = all
   guarded_of_tables ks op (Some key) e f all =
       all_guarded (λ k. IsTableOf shape k.table) ks key all (written_of_table op key f e)
@@ -189,13 +189,13 @@ module _ (shape : Shape) where
       → AreOfTables shape (keys_from key_written ks ops)
   written_of_tables ks [] fit all = all
   written_of_tables ks (op ∷ ops) fit all =
-      written_of_tables (elim (key_written op) [ None ↦ ks | Some key ↦ guarded ks key ]) ops fit.1
+      written_of_tables (elim (key_written op) [ None ↦ ks | Some key ↦ with_guard ks key ]) ops fit.1
       (guarded_of_tables ks op (key_written op) refl fit.0 all)
 
   -- 4. What the driver asks next
 
   -- of the next call it is known that its transaction has asked what comes before
-  abbrev pub AsksFrom : DriverPlace → List Op → Option Open → Type 0
+  abbrev pub AsksFrom : DriverPoint → List Op → Option Open → Type 0
   AsksFrom ToBegin ops txn = Unit {0}
   AsksFrom (ToAsk nth) ops txn = OpenAsked txn (take nth ops)
   AsksFrom (ToTidy keys nth again retry) ops txn = Unit {0}
@@ -240,9 +240,9 @@ module _ (shape : Shape) where
       few = c;
     }
 
-    -- the same job, where it goes on from a place
-    goes_at : (n calls nth : ℕ) (place : DriverPlace) → (1 ≤ nth) × (nth ≤ tries)
-        → DriverPlaceFits shape tries nth place
+    -- the same job, where it goes on from a point
+    goes_at : (n calls nth : ℕ) (place : DriverPoint) → (1 ≤ nth) × (nth ≤ tries)
+        → DriverPointFits shape tries nth place
         → AsksFrom place job.ops txn
         → call_most job.ops place
         + (after_call_bound shape job.ops place + (tries - nth) * try_bound shape job.ops
@@ -326,7 +326,7 @@ module _ (shape : Shape) where
     -- 5. An answer is taken
 
     -- what was to follow the call that was answered
-    abbrev follows : DriverPlace → ℕ
+    abbrev follows : DriverPoint → ℕ
     follows place =
         after_call_bound shape job.ops place + (tries - driver.nth) * try_bound shape job.ops
         + jobs_bound shape driver.policy rest
@@ -409,8 +409,8 @@ module _ (shape : Shape) where
           goes_at (follows (ToCollect bucket keys nth retry)) (length job.ops + 2) driver.nth
           (ToTidy keys nth true retry) (least, most) fits tt (omega arith) (omega arith)
 
-    pub takes : JobFits shape job → (place : DriverPlace) (end : Answer)
-        → DriverPlaceFits shape tries driver.nth place
+    pub takes : JobFits shape job → (place : DriverPoint) (end : Answer)
+        → DriverPointFits shape tries driver.nth place
         → IsAnswered shape place job.ops txn end
         → Goes (follows place) (calls_after job.ops place) (place_taken jobs driver place end)
     takes fit ToBegin end fits a = begin_goes end a

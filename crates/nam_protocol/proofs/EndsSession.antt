@@ -25,18 +25,18 @@ use Rattle.nam_protocol.specs.declared.txn.TxnCall.{TxnCall}
 use Rattle.nam_protocol.specs.declared.txn.TxnCall.TheVariants.{Get, Put, Add, Del, Need, Guard, Commit}
 use Rattle.nam_protocol.specs.declared.client.Call.TheVariants.{Begin, Txn, Scan, Tidy, Collect}
 use Rattle.nam_protocol.specs.declared.client.Answer.{Answer}
-use Rattle.nam_protocol.specs.declared.client.CallPlace.{CallPlace}
+use Rattle.nam_protocol.specs.declared.client.CallPoint.{CallPoint}
 use Rattle.nam_protocol.specs.declared.client.Open.{Open}
 use Rattle.nam_protocol.specs.declared.client.ClientState.{ClientState}
 use Rattle.nam_protocol.specs.declared.session.Job.{Job}
-use Rattle.nam_protocol.specs.declared.session.DriverPlace.{DriverPlace}
-use Rattle.nam_protocol.specs.declared.session.DriverPlace.TheVariants.{ToBegin, ToAsk, ToTidy, ToCollect}
+use Rattle.nam_protocol.specs.declared.session.DriverPoint.{DriverPoint}
+use Rattle.nam_protocol.specs.declared.session.DriverPoint.TheVariants.{ToBegin, ToAsk, ToTidy, ToCollect}
 use Rattle.nam_protocol.specs.declared.session.DriverState.{DriverState}
 use Rattle.nam_protocol.specs.declared.session.SessionState.{SessionState}
 use Rattle.nam_protocol.specs.Txn.{ask_op}
 use Rattle.nam_protocol.specs.Commit.{ask_commit}
 use Rattle.nam_protocol.specs.Telling.{new_client, stepped}
-use Rattle.nam_protocol.specs.Client.{counted, ask_txn, ask_scan, client_ask, verb_of, call_after, after_call, client_after}
+use Rattle.nam_protocol.specs.Client.{with_call, ask_txn, ask_scan, client_ask, verb_of, call_after, after_call, client_after}
 use Rattle.nam_protocol.specs.CutClient.{client_cut}
 use Rattle.nam_protocol.specs.Driver.{new_driver, call_of, op_call, key_number, place_call, job_call, driver_next}
 use Rattle.nam_protocol.specs.Driver.{driver_take}
@@ -47,8 +47,8 @@ use Rattle.nam_protocol.specs.Left.{left_of, client_left, commit_bound, try_boun
 use Rattle.nam_protocol.specs.Left.{rest_bound, session_left}
 use Rattle.nam_protocol.specs.AttemptLaw.{HasAsked}
 use Rattle.nam_protocol.specs.TxnFits.{TxnCallFits, txn_call_bound}
-use Rattle.nam_protocol.specs.ClientFits.{NowFits, CallPlaceFits, ClientFits, open_bound}
-use Rattle.nam_protocol.specs.SessionFits.{OpenAsked, NowRuns, is_running, ops_of, JobFits, DriverPlaceFits, DriverFits}
+use Rattle.nam_protocol.specs.ClientFits.{NowFits, CallPointFits, ClientFits, open_bound}
+use Rattle.nam_protocol.specs.SessionFits.{OpenAsked, NowRuns, is_running, ops_of, JobFits, DriverPointFits, DriverFits}
 use Rattle.nam_protocol.specs.SessionFits.{SessionFits}
 use Rattle.nam_protocol.specs.EndsLaw.{FitsWithin, SettlesLaw, SessionCutLaw}
 use Rattle.nam_protocol.proofs.FallsKeys.{all_at}
@@ -94,24 +94,24 @@ calls_suffice (j ∷ jobs) zero job e =
 calls_suffice (j ∷ jobs) (suc n) job e = let l = calls_suffice jobs n job e in omega arith
 
 module _ (shape : Shape) where
-  calls_start : (ops : List Op) (place : DriverPlace) → 1 ≤ calls_from shape ops place
+  calls_start : (ops : List Op) (place : DriverPoint) → 1 ≤ calls_from shape ops place
   calls_start ops ToBegin = omega arith
   calls_start ops (ToAsk nth) = omega arith
   calls_start ops (ToTidy keys nth again retry) = omega arith
   calls_start ops (ToCollect bucket keys nth retry) = omega arith
 
-  calls_after_most : (ops : List Op) (place : DriverPlace) → calls_after shape ops place ≤ length ops + 2
+  calls_after_most : (ops : List Op) (place : DriverPoint) → calls_after shape ops place ≤ length ops + 2
   calls_after_most ops ToBegin = omega arith
   calls_after_most ops (ToAsk nth) = omega arith
   calls_after_most ops (ToTidy keys nth again retry) = omega arith
   calls_after_most ops (ToCollect bucket keys nth retry) = omega arith
 
   -- where a call was answered, no more calls follow than these
-  abbrev pub Few : List Op → DriverPlace → ℕ → Option (Now CallPlace Answer) → Type 0
+  abbrev pub Few : List Op → DriverPoint → ℕ → Option (Now CallPoint Answer) → Type 0
   Few ops place calls (Some (Over end)) = calls_after shape ops place ≤ calls
   Few ops place calls _ = Unit {0}
 
-  few_any : (ops : List Op) (place : DriverPlace) (calls : ℕ) (now : Option (Now CallPlace Answer))
+  few_any : (ops : List Op) (place : DriverPoint) (calls : ℕ) (now : Option (Now CallPoint Answer))
       → calls_after shape ops place ≤ calls → Few ops place calls now
   few_any ops place calls None l = tt
   few_any ops place calls (Some (At at)) l = tt
@@ -125,7 +125,7 @@ module _ (shape : Shape) where
 
   module _ (limits : FitsLimits shape) (client : ClientState) (fits : ClientFits shape client) (ops : List Op) where
     -- the client after the call: it fits, with no more verbs to come than the call takes
-    pub record Asked (place : DriverPlace) (calls : ℕ) (after : ClientState) : Type 0 where
+    pub record Asked (place : DriverPoint) (calls : ℕ) (after : ClientState) : Type 0 where
       pub stands : ClientFits shape after
       pub within : client_left shape after ≤ call_most shape ops place
       pub does : ClientDoes shape place ops after
@@ -207,19 +207,19 @@ module _ (shape : Shape) where
       asks_op : (o : Op) → slice_get ops nth ≡ Some o → OpFits (widths_of shape.tables) o
           → Asked (ToAsk nth) calls (client_ask shape client (call_of o))
       asks_op (op.Get t k) here f = asks_txn (op.Get t k) (Get t k) here (f, refl) (λ attempt. omega arith)
-          (λ attempt a. does_op (op.Get t k) here attempt (counted attempt (Get t k)) a)
+          (λ attempt a. does_op (op.Get t k) here attempt (with_call attempt (Get t k)) a)
       asks_op (op.Put t k v) here f = asks_txn (op.Put t k v) (Put t k v) here (f, refl) (λ attempt. omega arith)
-          (λ attempt a. does_op (op.Put t k v) here attempt (counted attempt (Put t k v)) a)
+          (λ attempt a. does_op (op.Put t k v) here attempt (with_call attempt (Put t k v)) a)
       asks_op (op.Add t k i up by) here f =
           asks_txn (op.Add t k i up by) (Add t k i up by) here (f, refl) (λ attempt. omega arith)
-          (λ attempt a. does_op (op.Add t k i up by) here attempt (counted attempt (Add t k i up by)) a)
+          (λ attempt a. does_op (op.Add t k i up by) here attempt (with_call attempt (Add t k i up by)) a)
       asks_op (op.Del t k) here f = asks_txn (op.Del t k) (Del t k) here (f, refl) (λ attempt. omega arith)
-          (λ attempt a. does_op (op.Del t k) here attempt (counted attempt (Del t k)) a)
+          (λ attempt a. does_op (op.Del t k) here attempt (with_call attempt (Del t k)) a)
       asks_op (op.Need t k i least) here f =
           asks_txn (op.Need t k i least) (Need t k i least) here (f, refl) (λ attempt. omega arith)
-          (λ attempt a. does_op (op.Need t k i least) here attempt (counted attempt (Need t k i least)) a)
+          (λ attempt a. does_op (op.Need t k i least) here attempt (with_call attempt (Need t k i least)) a)
       asks_op (op.Guard t k) here f = asks_txn (op.Guard t k) (Guard t k) here (f, refl) (λ attempt. omega arith)
-          (λ attempt a. does_op (op.Guard t k) here attempt (counted attempt (Guard t k)) a)
+          (λ attempt a. does_op (op.Guard t k) here attempt (with_call attempt (Guard t k)) a)
       asks_op (op.Scan t low high) here f =
           let e = length-map shape.tables (λ (t : Table). t.width) in
           let l = f.0 in
@@ -231,7 +231,7 @@ module _ (shape : Shape) where
       asks_next (Some o) here fit =
           asks_op o here (nth_holds (OpFits (widths_of shape.tables)) ops nth o fit here)
 
-    pub asks : (txn try tries : ℕ) (place : DriverPlace) (calls : ℕ) → DriverPlaceFits shape tries try place
+    pub asks : (txn try tries : ℕ) (place : DriverPoint) (calls : ℕ) → DriverPointFits shape tries try place
         → AsksFrom shape place ops client.txn
         → AllByRecursion (OpFits (widths_of shape.tables)) ops
         → calls_from shape ops place ≤ suc calls
@@ -307,7 +307,7 @@ module _ (shape : Shape) where
         record { client = fits; jobs = jobs; driver = g.fits; asks = g.asks; rests = ap is_running e }
 
     goes_on : (client : ClientState) (calls : ℕ) → Suffices calls → ClientFits shape client
-        → (now : Option (Now CallPlace Answer)) → client.call ≡ now
+        → (now : Option (Now CallPoint Answer)) → client.call ≡ now
         → NowDoes shape session.driver.place job.ops client.txn now
         → Few job.ops session.driver.place calls now
         → FitsWithin shape (client_left shape client + rest_here) (elim (answer_now now) [
@@ -334,14 +334,14 @@ module _ (shape : Shape) where
 
   -- 5. Calls are asked until one takes a verb
 
-  -- a client with no call at a place
-  not_running : (place : DriverPlace) (ops : List Op) (txn : Option Open) (now : Option (Now CallPlace Answer))
+  -- a client with no call at a point
+  not_running : (place : DriverPoint) (ops : List Op) (txn : Option Open) (now : Option (Now CallPoint Answer))
       → is_running now ≡ false → NowRuns place ops txn now
   not_running place ops txn None e = tt
   not_running place ops txn (Some (At at)) e = absurd (false≢true (sym e))
   not_running place ops txn (Some (Over end)) e = tt
 
-  none_left : (client : ClientState) (now : Option (Now CallPlace Answer)) → is_running now ≡ false
+  none_left : (client : ClientState) (now : Option (Now CallPoint Answer)) → is_running now ≡ false
       → left_of shape client now ≡ 0
   none_left client None e = refl
   none_left client (Some (At at)) e = absurd (false≢true (sym e))
@@ -428,20 +428,20 @@ module _ (shape : Shape) where
 
     -- 7. A word is taken
 
-    verb_stands : (client : ClientState) (verb : VerbAt Field) (cut : Bool) (now : Option (Now CallPlace Answer))
+    verb_stands : (client : ClientState) (verb : VerbAt Field) (cut : Bool) (now : Option (Now CallPoint Answer))
         → (if cut then None else verb_of shape client now) ≡ Some verb
-        → (cut ≡ false) × ((at : CallPlace) × (now ≡ Some (At at)))
+        → (cut ≡ false) × ((at : CallPoint) × (now ≡ Some (At at)))
     verb_stands client verb true now e = absurd (cc)
     verb_stands client verb false None e = absurd (cc)
     verb_stands client verb false (Some (At at)) e = (refl, (at, refl))
     verb_stands client verb false (Some (Over end)) e = absurd (cc)
 
-    -- what is known of a session that takes a word: its call's place and its job, and what the client does then
+    -- what is known of a session that takes a word: its call's point and its job, and what the client does then
     pub record TakesWord (session : SessionState) (found : ℕ) : Type 0 where
-      pub at : CallPlace
+      pub at : CallPoint
       pub is : session.client.call ≡ Some (At at)
       pub uncut : session.client.cut ≡ false
-      pub place : CallPlaceFits shape session.client.txn at
+      pub place : CallPointFits shape session.client.txn at
       pub job : Job
       pub here : slice_get session.jobs session.driver.job ≡ Some job
       pub after : call_after shape session.client at found ≡ client_after shape session.client found
@@ -458,13 +458,13 @@ module _ (shape : Shape) where
         let at = stands.1.0 in
         let is = stands.1.1 in
         let some = some_of (slice_get session.jobs driver.job) (sym fits.stands ∙ ap is_running is) in
-        let place : CallPlaceFits shape session.client.txn at =
+        let place : CallPointFits shape session.client.txn at =
         subst (NowFits shape session.client.txn) is fits.client.2 in
         let runs = subst (NowRuns driver.place (ops_of (slice_get session.jobs driver.job)) session.client.txn) is fits.runs
         in
         let runs_here = subst (λ o. NowRuns driver.place (ops_of o) session.client.txn (Some (At at))) some.1 runs in
         let after : call_after shape session.client at found ≡ client_after shape session.client found =
-        ap (λ (now : Option (Now CallPlace Answer)). after_call shape session.client now found) (sym is) in
+        ap (λ (now : Option (Now CallPoint Answer)). after_call shape session.client now found) (sym is) in
         let does = word_does shape limits some.0.ops session.client fits.client.1 found driver.place at place runs_here in
         record {
           at = at;
@@ -499,7 +499,7 @@ module _ (shape : Shape) where
 
 -- 8. Sessions are settled, and nothing is to come of one that was cut
 
-verb_runs : (shape : Shape) (client : ClientState) (now : Option (Now CallPlace Answer))
+verb_runs : (shape : Shape) (client : ClientState) (now : Option (Now CallPoint Answer))
     → is_some (verb_of shape client now) ≡ is_running now
 verb_runs shape client None = refl
 verb_runs shape client (Some (At at)) = refl

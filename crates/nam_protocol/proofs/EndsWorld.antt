@@ -33,7 +33,7 @@ use Rattle.nam_protocol.proofs.EndsSession.{nth_holds, new_session_ends, session
 -- 1. One session of a world's
 
 module _ (shape : Shape) where
-  -- a session takes the place of another
+  -- a session takes the point of another
   set_fits : (sessions : List SessionState) (k : ℕ) (session : SessionState)
       → AllByRecursion (SessionFits shape) sessions → SessionFits shape session
       → AllByRecursion (SessionFits shape) (slice_set sessions k session)

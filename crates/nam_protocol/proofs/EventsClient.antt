@@ -11,13 +11,13 @@ use Rattle.nam_verbs.specs.declared.now.Now.{Now}
 use Rattle.nam_verbs.specs.declared.now.Now.TheVariants.{At, Over}
 use Rattle.nam_catalog.specs.declared.shape.Shape.{Shape}
 use Rattle.nam_layout.specs.Place.{place_of, bucket_of, cells_of, cells_by}
-use Rattle.nam_vector.specs.declared.snap.SnapPlace.{SnapPlace}
+use Rattle.nam_vector.specs.declared.snap.SnapPoint.{SnapPoint}
 use Rattle.nam_vector.specs.declared.snap.SnapEnd.{SnapEnd}
 use Rattle.nam_vector.specs.Snap.{snap_after}
 use Rattle.nam_vector.specs.declared.snap.SnapEnd.TheVariants as snap_end
 use Rattle.nam_calls.specs.declared.index.FindEnd.{FindEnd}
-use Rattle.nam_calls.specs.declared.horizon.CollectPlace.{CollectPlace}
-use Rattle.nam_calls.specs.declared.mover.MovePlace.{MovePlace}
+use Rattle.nam_calls.specs.declared.horizon.CollectPoint.{CollectPoint}
+use Rattle.nam_calls.specs.declared.mover.MovePoint.{MovePoint}
 use Rattle.nam_calls.specs.declared.mover.MoveAnswer.{MoveAnswer}
 use Rattle.nam_calls.specs.Words.{path_of}
 use Rattle.nam_calls.specs.Index.{find_after}
@@ -28,18 +28,18 @@ use Rattle.nam_calls.specs.declared.index.FindEnd.TheVariants as found_key
 use Rattle.nam_calls.specs.declared.mover.MoveAnswer.TheVariants as move_end
 use Rattle.nam_protocol.specs.Txn.{Stepped}
 use Rattle.nam_protocol.specs.declared.txn.TxnCall.{TxnCall}
-use Rattle.nam_protocol.specs.declared.txn.TxnPlace.{TxnPlace}
-use Rattle.nam_protocol.specs.declared.txn.TxnPlace.TheVariants.{Committing}
-use Rattle.nam_protocol.specs.declared.txn.CommitPlace.TheVariants.{Freeing}
+use Rattle.nam_protocol.specs.declared.txn.TxnPoint.{TxnPoint}
+use Rattle.nam_protocol.specs.declared.txn.TxnPoint.TheVariants.{Committing}
+use Rattle.nam_protocol.specs.declared.txn.CommitPoint.TheVariants.{Freeing}
 use Rattle.nam_protocol.specs.declared.txn.TxnAnswer.{TxnAnswer}
-use Rattle.nam_protocol.specs.declared.scan.ScanPlace.{ScanPlace}
+use Rattle.nam_protocol.specs.declared.scan.ScanPoint.{ScanPoint}
 use Rattle.nam_protocol.specs.declared.scan.ScanAnswer.{ScanAnswer}
 use Rattle.nam_protocol.specs.declared.client.Call.{Call}
 use Rattle.nam_protocol.specs.declared.client.Call.TheVariants.{Begin, Txn, Scan, Tidy, Collect}
 use Rattle.nam_protocol.specs.declared.client.Answer.{Answer}
-use Rattle.nam_protocol.specs.declared.client.CallPlace.{CallPlace}
-use Rattle.nam_protocol.specs.declared.client.CallPlace.TheVariants.{Beginning, InTxn, Scanning, Seeking, Moving}
-use Rattle.nam_protocol.specs.declared.client.CallPlace.TheVariants.{Snapping, Collecting}
+use Rattle.nam_protocol.specs.declared.client.CallPoint.{CallPoint}
+use Rattle.nam_protocol.specs.declared.client.CallPoint.TheVariants.{Beginning, InTxn, Scanning, Seeking, Moving}
+use Rattle.nam_protocol.specs.declared.client.CallPoint.TheVariants.{Snapping, Collecting}
 use Rattle.nam_protocol.specs.declared.client.Open.{Open}
 use Rattle.nam_protocol.specs.declared.client.ClientState.{ClientState}
 use Rattle.nam_protocol.specs.Operations.{own_value}
@@ -47,11 +47,11 @@ use Rattle.nam_protocol.specs.TxnCalls.{txn_ask, txn_after, taken_at, taken_now}
 use Rattle.nam_protocol.specs.Scan.{scan_skip, scan_read, scan_after, position_of}
 use Rattle.nam_protocol.specs.Log.{with_locks}
 use Rattle.nam_protocol.specs.Telling.{new_locks, on_call, stepped}
-use Rattle.nam_protocol.specs.ScanCall.{gathered, on_skip, on_scan}
-use Rattle.nam_protocol.specs.Client.{counted, ask_txn, ask_scan, client_ask, on_begin, on_seek, on_move, on_snap}
+use Rattle.nam_protocol.specs.ScanCall.{with_gathered, on_skip, on_scan}
+use Rattle.nam_protocol.specs.Client.{with_call, ask_txn, ask_scan, client_ask, on_begin, on_seek, on_move, on_snap}
 use Rattle.nam_protocol.specs.Client.{on_collect, take_txn, take_scan, call_after, after_call}
 use Rattle.nam_protocol.specs.CutClient.{cut_in_txn, cut_open, left_open, cut_move, closed_call}
-use Rattle.nam_protocol.specs.ClientFits.{CallPlaceFits, OpenPlaceFits}
+use Rattle.nam_protocol.specs.ClientFits.{CallPointFits, OpenPointFits}
 use Rattle.nam_protocol.specs.ClientEvents.{ClientLists, NeedsOpen, closing, ClientEventsLaw}
 use Rattle.nam_protocol.specs.declared.txn.TxnAnswer.TheVariants as txn_answer
 use Rattle.nam_protocol.specs.declared.scan.ScanAnswer.TheVariants as scan_answer
@@ -65,7 +65,7 @@ module _ (n : ℕ) where
   -- 2. Calls of a transaction
 
   module _ (client : ClientState) (within : length client.log.events ≤ n) (attempt : Open) where
-    on_call_lists : (now : Now TxnPlace TxnAnswer) → ClientLists n true (on_call client attempt now)
+    on_call_lists : (now : Now TxnPoint TxnAnswer) → ClientLists n true (on_call client attempt now)
     on_call_lists (At place) = (within, refl)
     on_call_lists (Over (txn_answer.Value value)) = (omega arith, refl)
     on_call_lists (Over txn_answer.Written) = (omega arith, refl)
@@ -91,9 +91,9 @@ module _ (n : ℕ) where
       (record attempt { locks = attempt.locks + length locks; state = step.state }) step.call
 
   module _ (shape : Shape) where
-    take_txn_lists : (client : ClientState) → length client.log.events ≤ n → (opened : Option Open) (at : TxnPlace)
+    take_txn_lists : (client : ClientState) → length client.log.events ≤ n → (opened : Option Open) (at : TxnPoint)
         (found : ℕ)
-        → OpenPlaceFits shape opened at
+        → OpenPointFits shape opened at
         → ClientLists n (is_some opened) (take_txn shape client at opened found)
     take_txn_lists client within None at found p = absurd p
     take_txn_lists client within (Some attempt) at found p =
@@ -104,7 +104,7 @@ module _ (n : ℕ) where
     gathered_lists : (P : Log → Option Open → Type 0) (client : ClientState) (position key : ℕ)
         (value : Option (List ℕ))
         → P client.log client.txn
-        → P (gathered client position key value).log (gathered client position key value).txn
+        → P (with_gathered client position key value).log (with_gathered client position key value).txn
     gathered_lists P client position key None p = p
     gathered_lists P client position key (Some value) p = p
 
@@ -112,7 +112,7 @@ module _ (n : ℕ) where
     Stands log txn = (length log.events ≤ n) × (is_some txn ≡ true)
 
     module _ (attempt : Open) (table low high : ℕ) where
-      on_skip_lists : (client : ClientState) → Stands client.log client.txn → (now : Now ScanPlace ScanAnswer)
+      on_skip_lists : (client : ClientState) → Stands client.log client.txn → (now : Now ScanPoint ScanAnswer)
           → ClientLists n true (on_skip client attempt table low high now)
       on_skip_lists client s (At place) = s
       on_skip_lists client s (Over end) = (let l = s.0 in omega arith, refl)
@@ -120,19 +120,19 @@ module _ (n : ℕ) where
       skipped_lists : (client : ClientState) → Stands client.log client.txn → (position key : ℕ)
           (value : Option (List ℕ))
           → ClientLists n true
-          (on_skip (gathered client position key value) attempt table low high (scan_skip shape table position))
+          (on_skip (with_gathered client position key value) attempt table low high (scan_skip shape table position))
       skipped_lists client s position key value =
-          on_skip_lists (gathered client position key value) (gathered_lists Stands client position key value s)
+          on_skip_lists (with_gathered client position key value) (gathered_lists Stands client position key value s)
           (scan_skip shape table position)
 
       on_scan_lists : (client : ClientState) → Stands client.log client.txn → (position : ℕ)
-          (now : Now ScanPlace ScanAnswer)
+          (now : Now ScanPoint ScanAnswer)
           → ClientLists n true (on_scan shape client attempt table low high position now)
       on_scan_lists client s position (At place) = s
       on_scan_lists client s position (Over (scan_answer.Key key)) =
           let own = key_at table key in
           either (ClientLists n true) (writes_key attempt.state.writes own)
-          (on_skip (gathered client position key (own_value attempt.state.writes own)) attempt table low high
+          (on_skip (with_gathered client position key (own_value attempt.state.writes own)) attempt table low high
           (scan_skip shape table position))
           (on_skip client attempt table low high (scan_read position key))
           (skipped_lists client s position key (own_value attempt.state.writes own))
@@ -144,7 +144,7 @@ module _ (n : ℕ) where
           (one_event n client.log.events _ s.0, refl)
       on_scan_lists client s position (Over scan_answer.Astray) = (one_event n client.log.events _ s.0, refl)
 
-    take_scan_lists : (client : ClientState) → length client.log.events ≤ n → (table low high : ℕ) (at : ScanPlace)
+    take_scan_lists : (client : ClientState) → length client.log.events ≤ n → (table low high : ℕ) (at : ScanPoint)
         (opened : Option Open) (found : ℕ)
         → is_some client.txn ≡ true → is_some opened ≡ true
         → ClientLists n true (take_scan shape client table low high at opened found)
@@ -159,7 +159,7 @@ module _ (n : ℕ) where
       abbrev Lists : ClientState → Type 0
       Lists after = ClientLists n (is_some client.txn) after
 
-      on_begin_lists : (txn nth : ℕ) (now : Now SnapPlace SnapEnd) → Lists (on_begin shape client txn nth now)
+      on_begin_lists : (txn nth : ℕ) (now : Now SnapPoint SnapEnd) → Lists (on_begin shape client txn nth now)
       on_begin_lists txn nth (At place) = (within, refl)
       on_begin_lists txn nth (Over (snap_end.Done seen)) = (omega arith, refl)
       on_begin_lists txn nth (Over (snap_end.Again worker first second)) =
@@ -170,7 +170,7 @@ module _ (n : ℕ) where
       on_seek_lists table key (Over (found_key.At position)) = (within, refl)
       on_seek_lists table key (Over found_key.Absent) = (omega arith, refl)
 
-      on_move_lists : (table key position bucket : ℕ) (now : Now MovePlace MoveAnswer)
+      on_move_lists : (table key position bucket : ℕ) (now : Now MovePoint MoveAnswer)
           → Lists (on_move shape client table key position bucket now)
       on_move_lists table key position bucket (At place) = (within, refl)
       on_move_lists table key position bucket (Over (move_end.Moved stamp)) =
@@ -181,19 +181,19 @@ module _ (n : ℕ) where
       on_move_lists table key position bucket (Over (move_end.NoRoom full)) =
           (one_event n client.log.events _ within, refl)
 
-      on_snap_lists : (bucket : ℕ) (now : Now SnapPlace SnapEnd) → Lists (on_snap shape client bucket now)
+      on_snap_lists : (bucket : ℕ) (now : Now SnapPoint SnapEnd) → Lists (on_snap shape client bucket now)
       on_snap_lists bucket (At place) = (within, refl)
       on_snap_lists bucket (Over (snap_end.Done seen)) = (within, refl)
       on_snap_lists bucket (Over (snap_end.Again worker first second)) = (one_event n client.log.events _ within, refl)
 
-      on_collect_lists : (bucket prefix : ℕ) (seen : List ℕ) (now : Now CollectPlace (List ℕ))
+      on_collect_lists : (bucket prefix : ℕ) (seen : List ℕ) (now : Now CollectPoint (List ℕ))
           → Lists (on_collect shape client bucket prefix seen now)
       on_collect_lists bucket prefix seen (At place) = (within, refl)
       on_collect_lists bucket prefix seen (Over known) = (one_event n client.log.events _ within, refl)
 
       -- 5. A word is taken
 
-      pub word_lists : (place : CallPlace) (found : ℕ) → CallPlaceFits shape client.txn place
+      pub word_lists : (place : CallPoint) (found : ℕ) → CallPointFits shape client.txn place
           → Lists (call_after shape client place found)
       word_lists (Beginning txn nth at) found p = on_begin_lists txn nth (snap_after shape.workers at found)
       word_lists (InTxn at) found p = take_txn_lists client within client.txn at found p
@@ -215,7 +215,7 @@ module _ (n : ℕ) where
           → ClientLists n true (ask_txn shape client call opened)
       ask_txn_lists call None some = absurd (false≢true some)
       ask_txn_lists call (Some attempt) some =
-          stepped_lists client within (counted attempt call) 0 (txn_ask shape attempt.state call)
+          stepped_lists client within (with_call attempt call) 0 (txn_ask shape attempt.state call)
 
       ask_scan_lists : (table low high : ℕ) (opened : Option Open) → IsSome opened
           → ClientLists n true (ask_scan shape client table low high opened)
@@ -247,12 +247,12 @@ up_to_two events a = let one = length-append events (a ∷ []) in omega arith
 one_more : (events : List Event) (a : Event) → length (events ++ a ∷ []) ≤ length events + 1
 one_more events a = one_event (length events) events a (omega arith)
 
-cut_in_txn_lists : (client : ClientState) (attempt : Open) (at : TxnPlace)
+cut_in_txn_lists : (client : ClientState) (attempt : Open) (at : TxnPoint)
     → length (cut_in_txn client attempt at).log.events ≤ length client.log.events + 2
 cut_in_txn_lists client attempt (Committing (Freeing nth)) = two_events client.log.events _ _
 cut_in_txn_lists client attempt at = up_to_two client.log.events _
 
-cut_open_lists : (client : ClientState) (at : TxnPlace) (opened : Option Open)
+cut_open_lists : (client : ClientState) (at : TxnPoint) (opened : Option Open)
     → length (cut_open client at opened).log.events ≤ length client.log.events + 2
 cut_open_lists client at None = omega arith
 cut_open_lists client at (Some attempt) = cut_in_txn_lists client attempt at
@@ -272,7 +272,7 @@ cut_move_lists client table key bucket None = one_more client.log.events _
 cut_move_lists client table key bucket (Some stamp) = one_more client.log.events _
 
 module _ (shape : Shape) where
-  pub closed_lists : (client : ClientState) (now : Option (Now CallPlace Answer))
+  pub closed_lists : (client : ClientState) (now : Option (Now CallPoint Answer))
       → length (closed_call shape client now).log.events ≤ length client.log.events + closing client.txn now
   closed_lists client None = left_open_lists client client.txn
   closed_lists client (Some (Over end)) = left_open_lists client client.txn
@@ -290,7 +290,7 @@ module _ (shape : Shape) where
 pub client_events : ClientEventsLaw
 client_events shape = record {
   word = λ client place found e p.
-      subst (λ (now : Option (Now CallPlace Answer)). ClientLists (length client.log.events) (is_some client.txn)
+      subst (λ (now : Option (Now CallPoint Answer)). ClientLists (length client.log.events) (is_some client.txn)
       (after_call shape client now found)) (sym e)
       (word_lists (length client.log.events) shape client (omega arith) place found p);
   asked = λ client call some. ask_lists (length client.log.events) shape client (omega arith) call some;

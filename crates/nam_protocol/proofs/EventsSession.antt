@@ -18,16 +18,16 @@ use Rattle.nam_layout.specs.declared.field.Field.{Field}
 use Rattle.nam_calls.specs.Fits.{IsOf}
 use Rattle.nam_calls.proofs.FallsTests.{either}
 use Rattle.nam_protocol.specs.declared.txn.TxnAnswer.{TxnAnswer}
-use Rattle.nam_protocol.specs.declared.txn.TxnPlace.{TxnPlace}
+use Rattle.nam_protocol.specs.declared.txn.TxnPoint.{TxnPoint}
 use Rattle.nam_protocol.specs.declared.client.Answer.{Answer}
-use Rattle.nam_protocol.specs.declared.client.CallPlace.{CallPlace}
-use Rattle.nam_protocol.specs.declared.client.CallPlace.TheVariants.{Beginning, InTxn, Scanning, Seeking, Moving}
-use Rattle.nam_protocol.specs.declared.client.CallPlace.TheVariants.{Snapping, Collecting}
+use Rattle.nam_protocol.specs.declared.client.CallPoint.{CallPoint}
+use Rattle.nam_protocol.specs.declared.client.CallPoint.TheVariants.{Beginning, InTxn, Scanning, Seeking, Moving}
+use Rattle.nam_protocol.specs.declared.client.CallPoint.TheVariants.{Snapping, Collecting}
 use Rattle.nam_protocol.specs.declared.client.Open.{Open}
 use Rattle.nam_protocol.specs.declared.client.ClientState.{ClientState}
 use Rattle.nam_protocol.specs.declared.session.Job.{Job}
-use Rattle.nam_protocol.specs.declared.session.DriverPlace.{DriverPlace}
-use Rattle.nam_protocol.specs.declared.session.DriverPlace.TheVariants.{ToBegin, ToAsk, ToTidy, ToCollect}
+use Rattle.nam_protocol.specs.declared.session.DriverPoint.{DriverPoint}
+use Rattle.nam_protocol.specs.declared.session.DriverPoint.TheVariants.{ToBegin, ToAsk, ToTidy, ToCollect}
 use Rattle.nam_protocol.specs.declared.session.DriverState.{DriverState}
 use Rattle.nam_protocol.specs.declared.session.SessionState.{SessionState}
 use Rattle.nam_protocol.specs.Telling.{new_client}
@@ -58,7 +58,7 @@ use Rattle.nam_protocol.specs.declared.client.Answer.TheVariants as answer
 
 -- 1. The driver asks for a call of an open transaction
 
-abbrev is_asking : DriverPlace → Bool
+abbrev is_asking : DriverPoint → Bool
 is_asking (ToAsk nth) = true
 is_asking _ = false
 
@@ -142,7 +142,7 @@ module _ (shape : Shape) (jobs : List Job) (driver : DriverState) (ops : List Op
   collect_asks bucket keys nth retry (answer.Collected known) a = refl
   collect_asks bucket keys nth retry _ a = absurd a
 
-  asks_after : (place : DriverPlace) (end : Answer) → IsAnswered shape place ops txn end
+  asks_after : (place : DriverPoint) (end : Answer) → IsAnswered shape place ops txn end
       → AsksAs (is_open_after (is_asking place) end) (place_taken jobs driver place end)
   asks_after ToBegin end a = begin_asks end a
   asks_after (ToAsk nth) end a = ask_asks nth end a
@@ -151,7 +151,7 @@ module _ (shape : Shape) (jobs : List Job) (driver : DriverState) (ops : List Op
 
   -- 2. Each event is paid by the room of a call, or by the attempt that was open
 
-  abbrev IsPaid : Answer → DriverPlace → Room → Type 0
+  abbrev IsPaid : Answer → DriverPoint → Room → Type 0
   IsPaid end place room =
       listed end + one (is_open_after (is_asking place) end) ≤ room.attempts + room.tidies + one (is_asking place)
 
@@ -159,7 +159,7 @@ module _ (shape : Shape) (jobs : List Job) (driver : DriverState) (ops : List Op
   passed_or_listed true n = omega arith
   passed_or_listed false n = omega arith
 
-  is_paid : (txn_number try : ℕ) (place : DriverPlace) (end : Answer) → IsAnswered shape place ops txn end
+  is_paid : (txn_number try : ℕ) (place : DriverPoint) (end : Answer) → IsAnswered shape place ops txn end
       → IsPaid end place (call_room shape (place_call record { txn = txn_number; ops = ops } try place))
   is_paid t try ToBegin (answer.Begun prefix) a = omega arith
   is_paid t try ToBegin (answer.Again worker first second) a = omega arith
@@ -189,7 +189,7 @@ op_needs client (Some (op.Need t k f least)) some = some
 op_needs client (Some (op.Guard t k)) some = some
 op_needs client (Some (op.Scan t low high)) some = some
 
-needs_open : (shape : Shape) (client : ClientState) (ops : List Op) (txn_number try : ℕ) (place : DriverPlace)
+needs_open : (shape : Shape) (client : ClientState) (ops : List Op) (txn_number try : ℕ) (place : DriverPoint)
     → AsksFrom shape place ops client.txn
     → NeedsOpen client (place_call record { txn = txn_number; ops = ops } try place)
 needs_open shape client ops t try ToBegin asked = tt
@@ -238,7 +238,7 @@ module _ (shape : Shape) (limits : FitsLimits shape) (whole : ℕ) where
 
     -- the client has been asked, or has taken a word
     goes_on_holds : (client : ClientState) (calls : ℕ) → KeepsHolding calls → ClientFits shape client
-        → (now : Option (Now CallPlace Answer)) → client.call ≡ now
+        → (now : Option (Now CallPoint Answer)) → client.call ≡ now
         → NowDoes shape session.driver.place job.ops client.txn now
         → NowLists events (is_some session.client.txn) client.log.events client.txn now
         → Holds (elim (answer_now now) [
@@ -304,7 +304,7 @@ module _ (shape : Shape) (limits : FitsLimits shape) (whole : ℕ) where
 
   -- 4. The sessions that occur
 
-  asking_in_txn : (place : DriverPlace) (ops : List Op) (txn : Option Open) (at : TxnPlace)
+  asking_in_txn : (place : DriverPoint) (ops : List Op) (txn : Option Open) (at : TxnPoint)
       → PlaceRuns place ops txn (InTxn at) → is_asking place ≡ true
   asking_in_txn ToBegin ops txn at runs = absurd runs
   asking_in_txn (ToAsk nth) ops txn at runs = refl
@@ -316,7 +316,7 @@ module _ (shape : Shape) (limits : FitsLimits shape) (whole : ℕ) where
   one_at_most false = omega arith
 
   -- what closing the client lists is paid by the open attempt, and by one event
-  closing_paid : (place : DriverPlace) (ops : List Op) (txn : Option Open) (now : Option (Now CallPlace Answer))
+  closing_paid : (place : DriverPoint) (ops : List Op) (txn : Option Open) (now : Option (Now CallPoint Answer))
       → NowRuns place ops txn now
       → closing txn now ≤ one (is_asking place) + 1
   closing_paid place ops txn None runs = let l = one_at_most (is_some txn) in omega arith

@@ -8,7 +8,7 @@ use Rattle.si_model.specs.declared.row.Item.{Item}
 use Rattle.si_model.specs.declared.op.Op.{Op}
 use Rattle.si_model.specs.declared.op.Op.TheVariants.{Get, Put, Add, Del, Need, Guard, Scan}
 use Rattle.si_model.specs.Rows.{Rows, key_at, same_key, item_key, item_at, writes_key}
-use Rattle.si_model.specs.Evaluation.{field_of, with_field, changed, wrote, guarded, passes, writes_after, op_key}
+use Rattle.si_model.specs.Evaluation.{field_of, with_field, new_number, with_write, with_guard, passes, writes_after, op_key}
 use Rattle.si_model.specs.Evaluation.{guards_after, unwritten, key_written, key_guarded, ops_write, keys_from}
 use Rattle.si_model.specs.Evaluation.{written_keys, guard_keys}
 use Rattle.si_model.specs.EvaluationLaws.{writes_from}
@@ -20,9 +20,9 @@ use Rattle.nam_verbs.proofs.TestLemmas.{by_test}
 use Rattle.nam_catalog.specs.declared.shape.Shape.{Shape}
 use Rattle.nam_catalog.specs.Tables.{widths_of}
 use Rattle.nam_calls.specs.declared.index.FindEnd.{FindEnd}
-use Rattle.nam_calls.specs.declared.index.ClaimKeyPlace.{ClaimKeyPlace}
+use Rattle.nam_calls.specs.declared.index.ClaimKeyPoint.{ClaimKeyPoint}
 use Rattle.nam_calls.specs.declared.index.ClaimKeyEnd.{ClaimKeyEnd}
-use Rattle.nam_calls.specs.declared.reading.ReadPlace.{ReadPlace}
+use Rattle.nam_calls.specs.declared.reading.ReadPoint.{ReadPoint}
 use Rattle.nam_calls.specs.declared.reading.ReadingEnd.{ReadingEnd}
 use Rattle.nam_calls.specs.Index.{find_begin, claim_key_begin, find_after, claim_key_after}
 use Rattle.nam_calls.specs.Reading.{sight_of, read_after}
@@ -31,12 +31,12 @@ use Rattle.nam_calls.specs.declared.index.FindEnd.TheVariants as found_key
 use Rattle.nam_calls.specs.declared.index.ClaimKeyEnd.TheVariants as claimed_key
 use Rattle.nam_calls.specs.declared.reading.ReadingEnd.TheVariants as read_end
 use Rattle.nam_protocol.specs.declared.txn.TxnState.{TxnState}
-use Rattle.nam_protocol.specs.declared.txn.TxnPlace.{TxnPlace}
-use Rattle.nam_protocol.specs.declared.txn.TxnPlace.TheVariants.{Finding, Reading, Claiming, Committing}
+use Rattle.nam_protocol.specs.declared.txn.TxnPoint.{TxnPoint}
+use Rattle.nam_protocol.specs.declared.txn.TxnPoint.TheVariants.{Finding, Reading, Claiming, Committing}
 use Rattle.nam_protocol.specs.declared.txn.TxnAnswer.TheVariants.{Declined}
 use Rattle.nam_protocol.specs.Operations.{holding, own_value, read_of, value_in, answer_of}
 use Rattle.nam_protocol.specs.Operations.{op_path}
-use Rattle.nam_protocol.specs.Txn.{at, answered, with_op, with_own, ask_op, valued, on_find, on_read, record_of}
+use Rattle.nam_protocol.specs.Txn.{at, over, with_op, with_own, ask_op, on_value, on_find, on_read, record_of}
 use Rattle.nam_protocol.specs.Txn.{with_claim, on_claim}
 use Rattle.nam_protocol.specs.TxnCalls.{txn_after}
 use Rattle.nam_protocol.specs.Bound.{ops_bound, writes_bound, verb_bound}
@@ -45,7 +45,7 @@ use Rattle.nam_protocol.specs.AttemptLaw.{KeysAsked, HasAsked, has_passed, Answe
 
 -- 1. Keys
 
-map_wrote : (ws : List Item) (i : Item) → map item_key (wrote ws i) ≡ guarded (map item_key ws) (item_key i)
+map_wrote : (ws : List Item) (i : Item) → map item_key (with_write ws i) ≡ with_guard (map item_key ws) (item_key i)
 map_wrote [] i = refl
 map_wrote (w ∷ ws) i = elim (cases_Bool (same_key (item_key w) (item_key i))) [
   | inl same ↦ rw (same, same_key_says (item_key w) (item_key i) same) refl
@@ -55,9 +55,9 @@ map_wrote (w ∷ ws) i = elim (cases_Bool (same_key (item_key w) (item_key i))) 
 -- one more operation
 keys_more : (named : Op → Option Key) (ks : List Key) (ops : List Op) (op : Op)
     → keys_from named ks (ops ++ op ∷ []) ≡ elim
-    (named op) [ None ↦ keys_from named ks ops | Some key ↦ guarded (keys_from named ks ops) key ]
+    (named op) [ None ↦ keys_from named ks ops | Some key ↦ with_guard (keys_from named ks ops) key ]
 keys_more named ks [] op = refl
-keys_more named ks (o ∷ ops) op = keys_more named (elim (named o) [ None ↦ ks | Some key ↦ guarded ks key ]) ops op
+keys_more named ks (o ∷ ops) op = keys_more named (elim (named o) [ None ↦ ks | Some key ↦ with_guard ks key ]) ops op
 
 has_key : List Key → Key → Bool
 has_key [] key = false
@@ -105,18 +105,18 @@ module _ (ws : List Item) (gs : List Key) (ops : List Op) (asked : KeysAsked ws 
   }
 
   wrote_one : (op : Op) (i : Item) → key_written op ≡ Some (item_key i) → key_guarded op ≡ None
-      → KeysAsked (wrote ws i) gs (ops ++ op ∷ [])
+      → KeysAsked (with_write ws i) gs (ops ++ op ∷ [])
   wrote_one op i w g = record {
-    written = map_wrote ws i ∙ ap (λ ks. guarded ks (item_key i)) asked.written
+    written = map_wrote ws i ∙ ap (λ ks. with_guard ks (item_key i)) asked.written
         ∙ sym (rw w at (keys_more key_written [] ops op));
     guarded = asked.guarded ∙ sym (rw g at (keys_more key_guarded [] ops op));
   }
 
   guarded_one : (op : Op) (key : Key) → key_written op ≡ None → key_guarded op ≡ Some key
-      → KeysAsked ws (guarded gs key) (ops ++ op ∷ [])
+      → KeysAsked ws (with_guard gs key) (ops ++ op ∷ [])
   guarded_one op key w g = record {
     written = asked.written ∙ sym (rw w at (keys_more key_written [] ops op));
-    guarded = ap (λ ks. guarded ks key) asked.guarded ∙ sym (rw g at (keys_more key_guarded [] ops op));
+    guarded = ap (λ ks. with_guard ks key) asked.guarded ∙ sym (rw g at (keys_more key_guarded [] ops op));
   }
 
   one_more : (widths : List ℕ) (op : Op) (value : Option (List ℕ))
@@ -125,7 +125,7 @@ module _ (ws : List Item) (gs : List Key) (ops : List Op) (asked : KeysAsked ws 
   one_more widths (Put t k v) value = wrote_one (Put t k v) (item_at (key_at t k) (Some v)) refl refl
   one_more widths (Add t k f up by) value =
       wrote_one (Add t k f up by)
-      (item_at (key_at t k) (Some (with_field (slice_index widths t) value f (changed up (field_of value f) by))))
+      (item_at (key_at t k) (Some (with_field (slice_index widths t) value f (new_number up (field_of value f) by))))
       refl refl
   one_more widths (Del t k) value = wrote_one (Del t k) (item_at (key_at t k) None) refl refl
   one_more widths (Need t k f least) value = unchanged (Need t k f least) refl refl
@@ -155,18 +155,18 @@ passed_answer (Scan t low high) value = refl
 
 module _ (shape : Shape) where
   passed : (state : TxnState) (ops : List Op) (op : Op) (value : Option (List ℕ)) → HasAsked state (ops ++ op ∷ [])
-      → Asks ops op (answered state (answer_of op value))
+      → Asks ops op (over state (answer_of op value))
   passed state ops op value asked = subst (AnswerAsks state ops op) (sym (passed_answer op value)) asked
 
   module _ (state : TxnState) (ops : List Op) (op : Op) (asked : HasAsked state ops) where
-    valued_asks : (value : Option (List ℕ)) → Asks ops op (valued shape state op value)
+    valued_asks : (value : Option (List ℕ)) → Asks ops op (on_value shape state op value)
     valued_asks value =
         let state' = record state { read = read_of op value } in
         let claiming = at state' (Claiming op claim_key_begin) in
-        either (Asks ops op) (not (passes op (holding value))) (answered state' Declined)
-        (if op_claims op then claiming else answered state' (answer_of op value))
+        either (Asks ops op) (not (passes op (holding value))) (over state' Declined)
+        (if op_claims op then claiming else over state' (answer_of op value))
         asked
-        (by_test (Asks ops op) (op_claims op) claiming (answered state' (answer_of op value)) (λ e. asked)
+        (by_test (Asks ops op) (op_claims op) claiming (over state' (answer_of op value)) (λ e. asked)
         (λ e. passed state' ops op value (unclaimed state.writes state.guards ops asked op e)))
 
     on_find_asks : (now : Now ℕ FindEnd) → Asks ops op (on_find shape state op now)
@@ -174,13 +174,13 @@ module _ (shape : Shape) where
     on_find_asks (Over (found_key.At position)) = asked
     on_find_asks (Over found_key.Absent) = valued_asks None
 
-    on_read_asks : (position : ℕ) (now : Now ReadPlace ReadingEnd) → Asks ops op (on_read shape state op position now)
+    on_read_asks : (position : ℕ) (now : Now ReadPoint ReadingEnd) → Asks ops op (on_read shape state op position now)
     on_read_asks position (At place) = asked
     on_read_asks position (Over (read_end.Got value)) = valued_asks value
     on_read_asks position (Over (read_end.Passed worker entry horizon)) = asked
     on_read_asks position (Over read_end.Astray) = asked
 
-    on_claim_asks : (now : Now ClaimKeyPlace ClaimKeyEnd) → Asks ops op (on_claim shape state op now)
+    on_claim_asks : (now : Now ClaimKeyPoint ClaimKeyEnd) → Asks ops op (on_claim shape state op now)
     on_claim_asks (At place) = asked
     on_claim_asks (Over claimed_key.NoSpace) = asked
     on_claim_asks (Over (claimed_key.At position)) =
@@ -197,13 +197,13 @@ module _ (shape : Shape) where
         let claiming = at none (Claiming op claim_key_begin) in
         either (Asks ops op) (writes_key state.writes (op_key op)) (with_own shape state' op own)
         (if op_reads op then finding else claiming)
-        (either (Asks ops op) (not (passes op (holding own))) (answered state' Declined)
-        (answered (with_op shape state' op own) (answer_of op own))
+        (either (Asks ops op) (not (passes op (holding own))) (over state' Declined)
+        (over (with_op shape state' op own) (answer_of op own))
         asked (passed (with_op shape state' op own) ops op own
         (one_more state.writes state.guards ops asked (widths_of shape.tables) op own)))
         (either (Asks ops op) (op_reads op) finding claiming asked asked)
 
-  pub take_asks : (state : TxnState) (ops : List Op) (op : Op) (place : TxnPlace) (found : ℕ) → HasAsked state ops
+  pub take_asks : (state : TxnState) (ops : List Op) (op : Op) (place : TxnPoint) (found : ℕ) → HasAsked state ops
       → IsOfOp op place
       → Asks ops op (txn_after shape state place found)
   take_asks state ops op (Finding o passed) found asked e =

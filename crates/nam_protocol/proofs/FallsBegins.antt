@@ -23,10 +23,10 @@ use Rattle.nam_protocol.specs.declared.txn.Record.{Record}
 use Rattle.nam_protocol.specs.declared.txn.TxnState.{TxnState}
 use Rattle.nam_protocol.specs.declared.txn.TxnCall.{TxnCall}
 use Rattle.nam_protocol.specs.declared.txn.TxnCall.TheVariants.{Get, Put, Add, Del, Need, Guard, Commit}
-use Rattle.nam_protocol.specs.declared.txn.TxnPlace.TheVariants.{Committing}
-use Rattle.nam_protocol.specs.declared.txn.CommitPlace.TheVariants.{Locking}
+use Rattle.nam_protocol.specs.declared.txn.TxnPoint.TheVariants.{Committing}
+use Rattle.nam_protocol.specs.declared.txn.CommitPoint.TheVariants.{Locking}
 use Rattle.nam_protocol.specs.declared.txn.TxnAnswer.TheVariants.{ReadOnly, Spent}
-use Rattle.nam_protocol.specs.Txn.{at, answered}
+use Rattle.nam_protocol.specs.Txn.{at, over}
 use Rattle.nam_protocol.specs.Commit.{record_in, records_of, ask_commit}
 use Rattle.nam_protocol.specs.TxnCalls.{txn_ask}
 use Rattle.nam_protocol.specs.Bound.{installs_most, writes_bound, commit_left}
@@ -82,11 +82,11 @@ module _ (shape : Shape) (limits : FitsLimits shape) where
       let n = commit_bound shape state in
       let state' = record state { read = None; records = records_of state; held = []; counts = [] } in
       let none = record state { read = None } in
-      by_test (TxnBegins shape n) (length state.writes == 0) (answered none ReadOnly)
-      (if state.last == greatest_number shape.form then answered none Spent
+      by_test (TxnBegins shape n) (length state.writes == 0) (over none ReadOnly)
+      (if state.last == greatest_number shape.form then over none Spent
       else at state' (Committing (Locking lock_begin)))
       (λ e. (fits, tt))
-      (λ e. by_test (TxnBegins shape n) (state.last == greatest_number shape.form) (answered none Spent)
+      (λ e. by_test (TxnBegins shape n) (state.last == greatest_number shape.form) (over none Spent)
       (at state' (Committing (Locking lock_begin)))
       (λ f. (fits, tt))
       (λ f. let some : 1 ≤ length state.writes = grind (arith, nat_tests) in

@@ -10,14 +10,14 @@ use Rattle.nam_catalog.specs.declared.shape.Shape.{Shape}
 use Rattle.nam_catalog.specs.Fits.{FitsLimits}
 use Rattle.nam_layout.specs.Place.{place_of, cells_of, bucket_of, cells_by}
 use Rattle.nam_layout.proofs.LimitLemmas.{cells_within_limits}
-use Rattle.nam_vector.specs.declared.snap.SnapPlace.{SnapPlace}
-use Rattle.nam_vector.specs.declared.snap.SnapPlace.TheVariants.{First, Second}
+use Rattle.nam_vector.specs.declared.snap.SnapPoint.{SnapPoint}
+use Rattle.nam_vector.specs.declared.snap.SnapPoint.TheVariants.{First, Second}
 use Rattle.nam_vector.specs.declared.snap.SnapEnd.{SnapEnd}
 use Rattle.nam_vector.specs.Snap.{snap_after, snap_left, SnapFits}
 use Rattle.nam_vector.specs.declared.snap.SnapEnd.TheVariants as snap_end
 use Rattle.nam_calls.specs.declared.index.FindEnd.{FindEnd}
-use Rattle.nam_calls.specs.declared.horizon.CollectPlace.{CollectPlace}
-use Rattle.nam_calls.specs.declared.mover.MovePlace.{MovePlace}
+use Rattle.nam_calls.specs.declared.horizon.CollectPoint.{CollectPoint}
+use Rattle.nam_calls.specs.declared.mover.MovePoint.{MovePoint}
 use Rattle.nam_calls.specs.declared.mover.MoveAnswer.{MoveAnswer}
 use Rattle.nam_calls.specs.Words.{capacity_of, path_of}
 use Rattle.nam_calls.specs.Mover.{move_left}
@@ -32,35 +32,35 @@ use Rattle.nam_calls.proofs.FallsTables.{has_capacity, place_fits, width_is, buc
 use Rattle.nam_calls.specs.declared.index.FindEnd.TheVariants as found_key
 use Rattle.nam_calls.specs.declared.mover.MoveAnswer.TheVariants as move_end
 use Rattle.nam_protocol.specs.declared.txn.TxnState.{TxnState}
-use Rattle.nam_protocol.specs.declared.txn.TxnPlace.{TxnPlace}
+use Rattle.nam_protocol.specs.declared.txn.TxnPoint.{TxnPoint}
 use Rattle.nam_protocol.specs.declared.txn.TxnCall.{TxnCall}
 use Rattle.nam_protocol.specs.declared.txn.TxnCall.TheVariants.{Get, Put, Add, Del, Need, Guard, Commit}
 use Rattle.nam_protocol.specs.declared.txn.TxnAnswer.{TxnAnswer}
 use Rattle.nam_protocol.specs.Txn.{Stepped}
-use Rattle.nam_protocol.specs.declared.scan.ScanPlace.{ScanPlace}
-use Rattle.nam_protocol.specs.declared.scan.ScanPlace.TheVariants.{ScanKey, ScanRead}
+use Rattle.nam_protocol.specs.declared.scan.ScanPoint.{ScanPoint}
+use Rattle.nam_protocol.specs.declared.scan.ScanPoint.TheVariants.{ScanKey, ScanRead}
 use Rattle.nam_protocol.specs.declared.scan.ScanAnswer.{ScanAnswer}
 use Rattle.nam_protocol.specs.declared.client.Call.{Call}
 use Rattle.nam_protocol.specs.declared.client.Call.TheVariants.{Begin, Txn, Scan, Tidy, Collect}
 use Rattle.nam_protocol.specs.declared.client.Answer.{Answer}
-use Rattle.nam_protocol.specs.declared.client.CallPlace.{CallPlace}
-use Rattle.nam_protocol.specs.declared.client.CallPlace.TheVariants.{Beginning, InTxn, Scanning, Seeking, Moving}
-use Rattle.nam_protocol.specs.declared.client.CallPlace.TheVariants.{Snapping, Collecting}
+use Rattle.nam_protocol.specs.declared.client.CallPoint.{CallPoint}
+use Rattle.nam_protocol.specs.declared.client.CallPoint.TheVariants.{Beginning, InTxn, Scanning, Seeking, Moving}
+use Rattle.nam_protocol.specs.declared.client.CallPoint.TheVariants.{Snapping, Collecting}
 use Rattle.nam_protocol.specs.declared.client.Open.{Open}
 use Rattle.nam_protocol.specs.declared.client.ClientState.{ClientState}
 use Rattle.nam_protocol.specs.Operations.{own_value}
 use Rattle.nam_protocol.specs.TxnCalls.{txn_ask, txn_after, taken_at, taken_now}
 use Rattle.nam_protocol.specs.Log.{with_locks}
 use Rattle.nam_protocol.specs.Scan.{scan_skip, scan_read, position_of, positions_left, scan_left}
-use Rattle.nam_protocol.specs.Client.{counted, ask_txn, ask_scan, client_ask, on_begin, on_seek, on_move, on_snap}
+use Rattle.nam_protocol.specs.Client.{with_call, ask_txn, ask_scan, client_ask, on_begin, on_seek, on_move, on_snap}
 use Rattle.nam_protocol.specs.Client.{on_collect, take_txn, take_scan, call_after, after_call, client_after}
 use Rattle.nam_protocol.specs.Telling.{new_locks, on_answer, on_call, stepped}
-use Rattle.nam_protocol.specs.ScanCall.{gathered, on_skip, on_scan}
+use Rattle.nam_protocol.specs.ScanCall.{with_gathered, on_skip, on_scan}
 use Rattle.nam_protocol.specs.Left.{open_left, call_left, left_of, client_left}
 use Rattle.nam_protocol.specs.Bound.{txn_left, scan_bound}
-use Rattle.nam_protocol.specs.TxnFits.{Begins, StateFits, TxnPlaceFits, TxnFalls, TxnCallFits, ScanFits}
+use Rattle.nam_protocol.specs.TxnFits.{Begins, StateFits, TxnPointFits, TxnFalls, TxnCallFits, ScanFits}
 use Rattle.nam_protocol.specs.TxnFits.{txn_call_bound}
-use Rattle.nam_protocol.specs.ClientFits.{OpenFits, OpenPlaceFits, CallPlaceFits, NowFits, ClientFits, CallStands}
+use Rattle.nam_protocol.specs.ClientFits.{OpenFits, OpenPointFits, CallPointFits, NowFits, ClientFits, CallStands}
 use Rattle.nam_protocol.specs.ClientFits.{call_bound, open_bound}
 use Rattle.nam_protocol.proofs.FallsTxn.{txn_falls}
 use Rattle.nam_protocol.proofs.FallsBegins.{txn_begins}
@@ -75,10 +75,10 @@ module _ (workers : ℕ) (least : 1 ≤ workers) where
   SnapEnds (snap_end.Done seen) = length seen ≡ workers
   SnapEnds (snap_end.Again worker first second) = Unit {0}
 
-  abbrev SnapFalls : ℕ → Now SnapPlace SnapEnd → Type 0
+  abbrev SnapFalls : ℕ → Now SnapPoint SnapEnd → Type 0
   SnapFalls = Falls (SnapFits workers) SnapEnds (snap_left workers)
 
-  snap_falls : (at : SnapPlace) (found : ℕ) → SnapFits workers at
+  snap_falls : (at : SnapPoint) (found : ℕ) → SnapFits workers at
       → SnapFalls (snap_left workers at) (snap_after workers at found)
   snap_falls (First got) found l =
       one_more (λ place. SnapFalls (snap_left workers (First got)) (At place)) workers got found First
@@ -95,10 +95,10 @@ module _ (workers : ℕ) (least : 1 ≤ workers) where
 module _ (shape : Shape) (limits : FitsLimits shape) where
   -- 2. A client has taken a word, or has asked a call
 
-  -- the call is at a place or answered
-  abbrev NowFalls : ClientState → ℕ → Option (Now CallPlace Answer) → Type 0
+  -- the call is at a point or answered
+  abbrev NowFalls : ClientState → ℕ → Option (Now CallPoint Answer) → Type 0
   NowFalls client n None = ⊥
-  NowFalls client n (Some now) = Falls (CallPlaceFits shape client.txn) Any (call_left shape client) n now
+  NowFalls client n (Some now) = Falls (CallPointFits shape client.txn) Any (call_left shape client) n now
 
   abbrev ClientFalls : ℕ → ClientState → Type 0
   ClientFalls n client = IsOf shape.workers client.worker × OpenFits shape client.txn × NowFalls client n client.call
@@ -124,10 +124,10 @@ module _ (shape : Shape) (limits : FitsLimits shape) where
   on_answer_fits client attempt (txn_answer.Full lock) w f = (w, tt)
   on_answer_fits client attempt txn_answer.Astray w f = (w, tt)
 
-  on_call_falls : (client : ClientState) (attempt : Open) (n : ℕ) (now : Now TxnPlace TxnAnswer)
+  on_call_falls : (client : ClientState) (attempt : Open) (n : ℕ) (now : Now TxnPoint TxnAnswer)
       → IsOf shape.workers client.worker
       → StateFits shape attempt.state
-      → Falls (TxnPlaceFits shape attempt.state) Any (txn_left shape attempt.state) n now
+      → Falls (TxnPointFits shape attempt.state) Any (txn_left shape attempt.state) n now
       → ClientFalls n (on_call client attempt now)
   on_call_falls client attempt n (At place) w f h = (w, f, h)
   on_call_falls client attempt n (Over answer) w f h =
@@ -141,15 +141,15 @@ module _ (shape : Shape) (limits : FitsLimits shape) where
       on_call_falls (record client { log = with_locks client.log locks })
       (record attempt { locks = attempt.locks + length locks; state = step.state }) n step.call w h.0 h.1
 
-  begins_falls : (state : TxnState) (n : ℕ) (now : Now TxnPlace TxnAnswer)
-      → Begins (TxnPlaceFits shape state) Any (txn_left shape state) n now
-      → Falls (TxnPlaceFits shape state) Any (txn_left shape state) (n + 1) now
+  begins_falls : (state : TxnState) (n : ℕ) (now : Now TxnPoint TxnAnswer)
+      → Begins (TxnPointFits shape state) Any (txn_left shape state) n now
+      → Falls (TxnPointFits shape state) Any (txn_left shape state) (n + 1) now
   begins_falls state n (At place) h = (h.0, let m = h.1 in omega arith)
   begins_falls state n (Over answer) h = (h, omega arith)
 
-  take_txn_falls : (client : ClientState) (at : TxnPlace) (opened : Option Open) (found : ℕ)
+  take_txn_falls : (client : ClientState) (at : TxnPoint) (opened : Option Open) (found : ℕ)
       → IsOf shape.workers client.worker
-      → OpenFits shape opened → OpenPlaceFits shape opened at
+      → OpenFits shape opened → OpenPointFits shape opened at
       → ClientFalls (open_left shape opened at) (take_txn shape client at opened found)
   take_txn_falls client at None found w f p = absurd p
   take_txn_falls client at (Some attempt) found w f p =
@@ -160,7 +160,7 @@ module _ (shape : Shape) (limits : FitsLimits shape) where
 
   pub gathered_keeps : (P : ℕ → Option Open → Type 0) (client : ClientState) (position key : ℕ) (value : Option (List ℕ))
       → P client.worker client.txn
-      → P (gathered client position key value).worker (gathered client position key value).txn
+      → P (with_gathered client position key value).worker (with_gathered client position key value).txn
   gathered_keeps P client position key None p = p
   gathered_keeps P client position key (Some value) p = p
 
@@ -169,7 +169,7 @@ module _ (shape : Shape) (limits : FitsLimits shape) where
 
   module _ (attempt : Open) (fits : StateFits shape attempt.state) (table low high : ℕ)
       (is : IsTableOf shape table) where
-    on_skip_falls : (client : ClientState) (position n : ℕ) (now : Now ScanPlace ScanAnswer)
+    on_skip_falls : (client : ClientState) (position n : ℕ) (now : Now ScanPoint ScanAnswer)
         → Runs client.worker client.txn
         → ScanFalls shape limits table is position n now → ClientFalls n (on_skip client attempt table low high now)
     on_skip_falls client position n (At place) r h = (r.0, r.1, ((r.2, is, h.0), h.1))
@@ -179,13 +179,13 @@ module _ (shape : Shape) (limits : FitsLimits shape) where
         → position < capacity_of shape table
         → positions_left shape table (capacity_of shape table - position - 1) < n
         → ClientFalls n
-        (on_skip (gathered client position key value) attempt table low high (scan_skip shape table position))
+        (on_skip (with_gathered client position key value) attempt table low high (scan_skip shape table position))
     skipped client position key n value r l m =
-        on_skip_falls (gathered client position key value) position n _
+        on_skip_falls (with_gathered client position key value) position n _
         (gathered_keeps Runs client position key value r)
         (scan_skip_falls shape limits table is position n l m)
 
-    on_scan_falls : (client : ClientState) (position n : ℕ) (now : Now ScanPlace ScanAnswer)
+    on_scan_falls : (client : ClientState) (position n : ℕ) (now : Now ScanPoint ScanAnswer)
         → Runs client.worker client.txn
         → position < capacity_of shape table
         → ScanFalls shape limits table is position n now
@@ -194,7 +194,7 @@ module _ (shape : Shape) (limits : FitsLimits shape) where
     on_scan_falls client position n (Over (scan_answer.Key key)) r l h =
         let own = key_at table key in
         either (ClientFalls n) (writes_key attempt.state.writes own)
-        (on_skip (gathered client position key (own_value attempt.state.writes own)) attempt table low high
+        (on_skip (with_gathered client position key (own_value attempt.state.writes own)) attempt table low high
         (scan_skip shape table position))
         (on_skip client attempt table low high (scan_read position key))
         (skipped client position key n (own_value attempt.state.writes own) r l (let m = h.1 in omega arith))
@@ -206,11 +206,11 @@ module _ (shape : Shape) (limits : FitsLimits shape) where
     on_scan_falls client position n (Over (scan_answer.TooOld worker entry horizon)) r l h = (r.0, tt, (tt, h.1))
     on_scan_falls client position n (Over scan_answer.Astray) r l h = (r.0, tt, (tt, h.1))
 
-  scan_within : (table : ℕ) (at : ScanPlace) → ScanFits shape table at → position_of at < capacity_of shape table
+  scan_within : (table : ℕ) (at : ScanPoint) → ScanFits shape table at → position_of at < capacity_of shape table
   scan_within table (ScanKey position) l = l
   scan_within table (ScanRead position key at) l = l.0
 
-  take_scan_falls : (client : ClientState) (table low high : ℕ) (at : ScanPlace) (opened : Option Open) (found : ℕ)
+  take_scan_falls : (client : ClientState) (table low high : ℕ) (at : ScanPoint) (opened : Option Open) (found : ℕ)
       → Runs client.worker client.txn
       → Runs client.worker opened
       → IsTableOf shape table → ScanFits shape table at
@@ -223,7 +223,7 @@ module _ (shape : Shape) (limits : FitsLimits shape) where
   -- 5. The other calls
 
   module _ (client : ClientState) (w : IsOf shape.workers client.worker) (f : OpenFits shape client.txn) where
-    on_begin_falls : (txn nth n : ℕ) (now : Now SnapPlace SnapEnd) → SnapFalls shape.workers limits.least_workers n now
+    on_begin_falls : (txn nth n : ℕ) (now : Now SnapPoint SnapEnd) → SnapFalls shape.workers limits.least_workers n now
         → ClientFalls n (on_begin shape client txn nth now)
     on_begin_falls txn nth n (At place) h = (w, f, h)
     on_begin_falls txn nth n (Over (snap_end.Done seen)) h =
@@ -238,7 +238,7 @@ module _ (shape : Shape) (limits : FitsLimits shape) where
         let e = width_is shape limits table position is h.0 in (w, f, ((is, h.0, tt), let m = h.1 in omega arith))
     on_seek_falls table key n (Over found_key.Absent) is h = (w, f, (tt, omega arith))
 
-    on_snap_falls : (bucket n : ℕ) (now : Now SnapPlace SnapEnd) → bucket < shape.buckets
+    on_snap_falls : (bucket n : ℕ) (now : Now SnapPoint SnapEnd) → bucket < shape.buckets
         → SnapFalls shape.workers limits.least_workers n now
         → ClientFalls (n + collect_most shape) (on_snap shape client bucket now)
     on_snap_falls bucket n (At place) l h = (w, f, ((l, h.0), let m = h.1 in omega arith))
@@ -246,7 +246,7 @@ module _ (shape : Shape) (limits : FitsLimits shape) where
         let e = limits.least_workers in (w, f, ((l, h.0, e), let m = h.1 in omega arith))
     on_snap_falls bucket n (Over (snap_end.Again worker first second)) l h = (w, f, (tt, omega arith))
 
-    move_goes : (table key position n : ℕ) (now : Now MovePlace MoveAnswer) → IsTableOf shape table
+    move_goes : (table key position n : ℕ) (now : Now MovePoint MoveAnswer) → IsTableOf shape table
         → position < capacity_of shape table
         → Falls (MoveFits (place_of shape table position) (cells_by shape (place_of shape table position))) Any
         (move_left (place_of shape table position) (cells_by shape (place_of shape table position))) n now
@@ -258,7 +258,7 @@ module _ (shape : Shape) (limits : FitsLimits shape) where
     move_goes table key position n (Over move_end.Nothing) is l h = (w, f, (tt, h.1))
     move_goes table key position n (Over (move_end.NoRoom bucket)) is l h = (w, f, (tt, h.1))
 
-    collect_goes : (bucket prefix : ℕ) (seen : List ℕ) (n : ℕ) (now : Now CollectPlace (List ℕ))
+    collect_goes : (bucket prefix : ℕ) (seen : List ℕ) (n : ℕ) (now : Now CollectPoint (List ℕ))
         → bucket < shape.buckets
         → length seen ≡ shape.workers
         → Falls (CollectFits (cells_of shape bucket) shape.workers) (CollectEnds shape.workers)
@@ -267,9 +267,9 @@ module _ (shape : Shape) (limits : FitsLimits shape) where
     collect_goes bucket prefix seen n (At at) l e h = (w, f, ((l, e, h.0), h.1))
     collect_goes bucket prefix seen n (Over known) l e h = (w, f, (tt, h.1))
 
-  pub call_falls : (client : ClientState) (place : CallPlace) (found : ℕ) → IsOf shape.workers client.worker
+  pub call_falls : (client : ClientState) (place : CallPoint) (found : ℕ) → IsOf shape.workers client.worker
       → OpenFits shape client.txn
-      → CallPlaceFits shape client.txn place
+      → CallPointFits shape client.txn place
       → ClientFalls (call_left shape client place) (call_after shape client place found)
   call_falls client (Beginning txn nth at) found w f p =
       on_begin_falls client w f txn nth _ _ (snap_falls shape.workers limits.least_workers at found p)
@@ -292,7 +292,7 @@ module _ (shape : Shape) (limits : FitsLimits shape) where
 
   -- 6. A word is taken
 
-  taken : (client : ClientState) (n : ℕ) (call : Option (Now CallPlace Answer)) → NowFalls client n call
+  taken : (client : ClientState) (n : ℕ) (call : Option (Now CallPoint Answer)) → NowFalls client n call
       → NowFits shape client.txn call × (left_of shape client call < n)
   taken client n None h = absurd h
   taken client n (Some (At place)) h = h
@@ -306,13 +306,13 @@ module _ (shape : Shape) (limits : FitsLimits shape) where
   left_within : (client : ClientState) (n : ℕ) → left_of shape client client.call ≤ n → client_left shape client ≤ n
   left_within client n l = unless_cut client.cut (left_of shape client client.call) n l
 
-  pub client_falls : (client : ClientState) (place : CallPlace) (found : ℕ) → ClientFits shape client
+  pub client_falls : (client : ClientState) (place : CallPoint) (found : ℕ) → ClientFits shape client
       → client.cut ≡ false
       → client.call ≡ Some (At place)
       → ClientFits shape (client_after shape client found)
       × (client_left shape (client_after shape client found) < client_left shape client)
   client_falls client place found fits runs e =
-      let is : CallPlaceFits shape client.txn place = subst (NowFits shape client.txn) e fits.2 in
+      let is : CallPointFits shape client.txn place = subst (NowFits shape client.txn) e fits.2 in
       let goes_on : client_left shape client ≡ left_of shape client client.call =
       ap (λ (cut : Bool). if cut then 0 else left_of shape client client.call) runs in
       let same : client_left shape client ≡ call_left shape client place = goes_on ∙ ap (left_of shape client) e in
@@ -322,7 +322,7 @@ module _ (shape : Shape) (limits : FitsLimits shape) where
       let within = left_within after (left_of shape after after.call) (omega arith) in
       let less : client_left shape after < call_left shape client place = let m = t.1 in omega arith in
       let goes : client_after shape client found ≡ after =
-      ap (λ (call : Option (Now CallPlace Answer)). after_call shape client call found) e in
+      ap (λ (call : Option (Now CallPoint Answer)). after_call shape client call found) e in
       subst (λ (c : ClientState). ClientFits shape c × (client_left shape c < client_left shape client)) (sym goes)
       ((h.0, h.1, t.0), rw same less)
 
@@ -354,15 +354,15 @@ module _ (shape : Shape) (limits : FitsLimits shape) where
       → StateFits shape attempt.state
       → TxnCallFits shape call
       → ClientBegins (txn_call_bound shape attempt.state call)
-      (stepped client (counted attempt call) 0 (txn_ask shape attempt.state call))
-  counted_falls client (Get t k) attempt w f c = ask_falls client (Get t k) (counted attempt (Get t k)) w f c
-  counted_falls client (Put t k v) attempt w f c = ask_falls client (Put t k v) (counted attempt (Put t k v)) w f c
+      (stepped client (with_call attempt call) 0 (txn_ask shape attempt.state call))
+  counted_falls client (Get t k) attempt w f c = ask_falls client (Get t k) (with_call attempt (Get t k)) w f c
+  counted_falls client (Put t k v) attempt w f c = ask_falls client (Put t k v) (with_call attempt (Put t k v)) w f c
   counted_falls client (Add t k i up by) attempt w f c =
-      ask_falls client (Add t k i up by) (counted attempt (Add t k i up by)) w f c
-  counted_falls client (Del t k) attempt w f c = ask_falls client (Del t k) (counted attempt (Del t k)) w f c
+      ask_falls client (Add t k i up by) (with_call attempt (Add t k i up by)) w f c
+  counted_falls client (Del t k) attempt w f c = ask_falls client (Del t k) (with_call attempt (Del t k)) w f c
   counted_falls client (Need t k i least) attempt w f c =
-      ask_falls client (Need t k i least) (counted attempt (Need t k i least)) w f c
-  counted_falls client (Guard t k) attempt w f c = ask_falls client (Guard t k) (counted attempt (Guard t k)) w f c
+      ask_falls client (Need t k i least) (with_call attempt (Need t k i least)) w f c
+  counted_falls client (Guard t k) attempt w f c = ask_falls client (Guard t k) (with_call attempt (Guard t k)) w f c
   counted_falls client Commit attempt w f c = ask_falls client Commit attempt w f c
 
   ask_txn_falls : (client : ClientState) (call : TxnCall) (opened : Option Open) → IsSome opened

@@ -12,13 +12,13 @@ use Rattle.nam_catalog.specs.declared.shape.Shape.{Shape}
 use Rattle.nam_catalog.specs.Fits.{FitsLimits}
 use Rattle.nam_layout.specs.declared.field.Place.{Place}
 use Rattle.nam_layout.specs.PlaceFits.{FitsPlace}
-use Rattle.nam_calls.specs.declared.record.InstallPlace.{InstallPlace}
-use Rattle.nam_calls.specs.declared.record.InstallPlace.TheVariants.{InstallWord, InstallCount}
-use Rattle.nam_calls.specs.declared.ring.SlotPlace.{SlotPlace}
+use Rattle.nam_calls.specs.declared.record.InstallPoint.{InstallPoint}
+use Rattle.nam_calls.specs.declared.record.InstallPoint.TheVariants.{InstallWord, InstallCount}
+use Rattle.nam_calls.specs.declared.ring.SlotPoint.{SlotPoint}
 use Rattle.nam_calls.specs.declared.ring.SlotEnd.{SlotEnd}
 use Rattle.nam_calls.specs.declared.ring.SlotEnd.TheVariants.{Free, NotMoved}
-use Rattle.nam_calls.specs.declared.ring.CopyPlace.{CopyPlace}
-use Rattle.nam_calls.specs.declared.lock.LockPlace.{LockPlace}
+use Rattle.nam_calls.specs.declared.ring.CopyPoint.{CopyPoint}
+use Rattle.nam_calls.specs.declared.lock.LockPoint.{LockPoint}
 use Rattle.nam_calls.specs.declared.lock.LockEnd.{LockEnd}
 use Rattle.nam_calls.specs.Record.{words_begin, install_begin}
 use Rattle.nam_calls.specs.Ring.{slot_begin, copy_begin}
@@ -29,16 +29,16 @@ use Rattle.nam_calls.proofs.FallsMachines.{CopyFalls, copy_falls}
 use Rattle.nam_calls.proofs.FallsLocks.{LockFalls, lock_falls, UnlockFalls, unlock_falls}
 use Rattle.nam_calls.specs.declared.lock.LockEnd.TheVariants as lock_end
 use Rattle.nam_protocol.specs.declared.txn.TxnState.{TxnState}
-use Rattle.nam_protocol.specs.declared.txn.CommitPlace.{CommitPlace}
-use Rattle.nam_protocol.specs.declared.txn.CommitPlace.TheVariants.{Locking, Checking, Returning, Saving, Copying}
-use Rattle.nam_protocol.specs.declared.txn.CommitPlace.TheVariants.{Installing, Publishing, Freeing}
+use Rattle.nam_protocol.specs.declared.txn.CommitPoint.{CommitPoint}
+use Rattle.nam_protocol.specs.declared.txn.CommitPoint.TheVariants.{Locking, Checking, Returning, Saving, Copying}
+use Rattle.nam_protocol.specs.declared.txn.CommitPoint.TheVariants.{Installing, Publishing, Freeing}
 use Rattle.nam_protocol.specs.declared.txn.TxnAnswer.{TxnAnswer}
 use Rattle.nam_protocol.specs.declared.txn.TxnAnswer.TheVariants.{Committed, Locked, Newer, Full}
-use Rattle.nam_protocol.specs.Txn.{answered}
+use Rattle.nam_protocol.specs.Txn.{over}
 use Rattle.nam_protocol.specs.Commit.{records_of, lock_at, places, record_place, value_at, go, on_lock, next_check}
 use Rattle.nam_protocol.specs.Commit.{on_slot, on_return, on_words, on_copy, on_install, next_free, commit_after}
 use Rattle.nam_protocol.specs.Bound.{installs_most, publish_most, rest_from, commit_left}
-use Rattle.nam_protocol.specs.TxnFits.{StateFits, CommitPlaceFits, CommitFits, TxnFalls}
+use Rattle.nam_protocol.specs.TxnFits.{StateFits, CommitPointFits, CommitFits, TxnFalls}
 use Rattle.nam_protocol.proofs.FallsKeys.{places_length, writes_within, nth_fits}
 
 -- 1. What copies and installs take
@@ -59,16 +59,16 @@ pub installs_least : (xs : List Place) → length xs ≤ installs_most xs
 installs_least [] = omega arith
 installs_least (x ∷ xs) = let r = installs_least xs in omega arith
 
--- 2. A commit goes on, or is answered
+-- 2. A commit goes on, or is over
 
-goes : (shape : Shape) (state : TxnState) (n : ℕ) (place : CommitPlace) → StateFits shape state
+goes : (shape : Shape) (state : TxnState) (n : ℕ) (place : CommitPoint) → StateFits shape state
     → state.records ≡ records_of state
     → 1 ≤ length state.writes
-    → CommitPlaceFits shape state place → commit_left state place < n → TxnFalls shape n (go state place)
+    → CommitPointFits shape state place → commit_left state place < n → TxnFalls shape n (go state place)
 goes shape state n place fits are some at l = (fits, ((are, some, at), l))
 
 ends : (shape : Shape) (state : TxnState) (n : ℕ) (answer : TxnAnswer) → StateFits shape state → 0 < n
-    → TxnFalls shape n (answered state answer)
+    → TxnFalls shape n (over state answer)
 ends shape state n answer fits l = (fits, (tt, l))
 
 module _ (shape : Shape) (limits : FitsLimits shape) (state : TxnState) (fits : StateFits shape state)
@@ -115,7 +115,7 @@ module _ (shape : Shape) (limits : FitsLimits shape) (state : TxnState) (fits : 
   enough : length (places state) ≤ after_locks
   enough = let w = within in let e = as_many in let l = rest_least in omega arith
 
-  on_lock_falls : (n : ℕ) (now : Now LockPlace LockEnd) → length state.counts ≡ 0
+  on_lock_falls : (n : ℕ) (now : Now LockPoint LockEnd) → length state.counts ≡ 0
       → LockFalls (places state) after_locks enough n now
       → TxnFalls shape n (on_lock state now)
   on_lock_falls n (At place) none h =
@@ -158,7 +158,7 @@ module _ (shape : Shape) (limits : FitsLimits shape) (state : TxnState) (fits : 
       let w = (nth_is nth l).least_width in
       goes shape state n (Installing nth (InstallWord 0)) fits are some (held, counts, l, omega arith) (omega arith)
 
-  on_copy_falls : (nth n : ℕ) (old : List ℕ) (now : Now CopyPlace (Unit {0})) → length state.held ≡ records
+  on_copy_falls : (nth n : ℕ) (old : List ℕ) (now : Now CopyPoint (Unit {0})) → length state.held ≡ records
       → length state.counts ≡ writes
       → (l : nth < writes)
       → length old ≡ (record_place state nth).width → CopyFalls (record_place state nth) (nth_is nth l) n now
@@ -173,7 +173,7 @@ module _ (shape : Shape) (limits : FitsLimits shape) (state : TxnState) (fits : 
       → TxnFalls shape n (go state Publishing)
   publishing n held counts m = goes shape state n Publishing fits are some (held, counts) m
 
-  on_install_falls : (nth n : ℕ) (now : Now InstallPlace (Unit {0})) → length state.held ≡ records
+  on_install_falls : (nth n : ℕ) (now : Now InstallPoint (Unit {0})) → length state.held ≡ records
       → length state.counts ≡ writes → (l : nth < writes)
       → InstallFalls (record_place state nth) (nth_is nth l) n now
       → TxnFalls shape (n + rest_from state (nth + 1)) (on_install state nth now)
@@ -190,7 +190,7 @@ module _ (shape : Shape) (limits : FitsLimits shape) (state : TxnState) (fits : 
       → nth ≤ records → records - nth < n
       → TxnFalls shape n (next_free state nth)
   next_free_falls nth n held counts l m r =
-      by_test (TxnFalls shape n) (nth == records) (answered state (Committed (state.last + 1))) (go state (Freeing nth))
+      by_test (TxnFalls shape n) (nth == records) (over state (Committed (state.last + 1))) (go state (Freeing nth))
       (λ e. ends shape state n (Committed (state.last + 1)) fits (omega arith))
       (λ e. let k : nth < records = grind (arith, nat_tests) in let a = as_many in
       goes shape state n (Freeing nth) fits are some
@@ -226,7 +226,7 @@ module _ (shape : Shape) (limits : FitsLimits shape) (state : TxnState) (fits : 
       goes shape state' most (Checking slot_begin) fits are some
       (held, f) (omega arith))
 
-  on_slot_falls : (place : Place) (is : FitsPlace place) (n : ℕ) (now : Now SlotPlace SlotEnd)
+  on_slot_falls : (place : Place) (is : FitsPlace place) (n : ℕ) (now : Now SlotPoint SlotEnd)
       → length state.held ≡ length state.records
       → length state.counts < length state.writes → SlotFalls place is n now
       → TxnFalls shape (n + (2 * (length state.writes - length state.counts - 1) + rest_from state 0))
@@ -245,7 +245,7 @@ module _ (shape : Shape) (limits : FitsLimits shape) (state : TxnState) (fits : 
 -- 5. A commit
 
 module _ (shape : Shape) (limits : FitsLimits shape) (state : TxnState) (fits : StateFits shape state) where
-  pub commit_falls : (at : CommitPlace) (found : ℕ) → CommitFits shape state at
+  pub commit_falls : (at : CommitPoint) (found : ℕ) → CommitFits shape state at
       → TxnFalls shape (commit_left state at) (commit_after state at found)
   commit_falls (Locking at) found c =
       let e = as_many shape limits state fits c.0 c.1 in

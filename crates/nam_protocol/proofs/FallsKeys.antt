@@ -10,7 +10,7 @@ use Rattle.si_model.specs.declared.row.Item.{Item}
 use Rattle.si_model.specs.declared.op.Op.{Op}
 use Rattle.si_model.specs.declared.op.Op.TheVariants.{Get, Put, Add, Del, Need, Guard, Scan}
 use Rattle.si_model.specs.Rows.{key_at, same_key, item_key, item_at, writes_key}
-use Rattle.si_model.specs.Evaluation.{field_of, with_field, changed, wrote, guarded, writes_after, guards_after, op_key}
+use Rattle.si_model.specs.Evaluation.{field_of, with_field, new_number, with_write, with_guard, writes_after, guards_after, op_key}
 use Rattle.si_model.specs.Evaluation.{unwritten}
 use Rattle.si_model.specs.EvaluationLaws.{IsWide}
 use Rattle.si_model.proofs.EvaluationLemmas.{same_key-refl, same_key_says}
@@ -108,17 +108,17 @@ written_claimed cs (w ∷ ws) key all e = elim (cases_Bool (same_key (item_key w
 ]
 
 pub all_wrote : (P : Item → Type 0) (ws : List Item) (i : Item) → AllByRecursion P ws → P i
-    → AllByRecursion P (wrote ws i)
+    → AllByRecursion P (with_write ws i)
 all_wrote P [] i all new = (new, tt)
 all_wrote P (w ∷ ws) i all new =
-    either (AllByRecursion P) (same_key (item_key w) (item_key i)) (i ∷ ws) (w ∷ wrote ws i) (new, all.1)
+    either (AllByRecursion P) (same_key (item_key w) (item_key i)) (i ∷ ws) (w ∷ with_write ws i) (new, all.1)
     (all.0, all_wrote P ws i all.1 new)
 
 pub all_guarded : (P : Key → Type 0) (gs : List Key) (key : Key) → AllByRecursion P gs → P key
-    → AllByRecursion P (guarded gs key)
+    → AllByRecursion P (with_guard gs key)
 all_guarded P [] key all new = (new, tt)
 all_guarded P (g ∷ gs) key all new =
-    either (AllByRecursion P) (same_key g key) (g ∷ gs) (g ∷ guarded gs key) all (all.0, all_guarded P gs key all.1 new)
+    either (AllByRecursion P) (same_key g key) (g ∷ gs) (g ∷ with_guard gs key) all (all.0, all_guarded P gs key all.1 new)
 
 all_claimed : {A : Type 0} (key : A → Key) (cs : List Record) (r : Record) (xs : List A)
     → AllByRecursion (λ x. is_claimed cs (key x) ≡ true) xs
@@ -157,7 +157,7 @@ module _ (shape : Shape) where
   module _ (worker : ℕ) (cs : List Record) (ws : List Item) (gs : List Key) (fits : KeysFit shape worker cs ws gs) where
     write_fits : (key : Key) (value : Option (List ℕ)) → is_claimed cs key ≡ true
         → HasWidth (width_of shape key.table) value
-        → KeysFit shape worker cs (wrote ws (item_at key value)) gs
+        → KeysFit shape worker cs (with_write ws (item_at key value)) gs
     write_fits key value claimed wide = record {
       worker_is = fits.worker_is;
       placed = fits.placed;
@@ -166,7 +166,7 @@ module _ (shape : Shape) where
       wide = all_wrote (IsWide (widths_of shape.tables)) ws (item_at key value) fits.wide wide;
     }
 
-    guard_fits : (key : Key) → is_claimed cs key ≡ true → KeysFit shape worker cs ws (guarded gs key)
+    guard_fits : (key : Key) → is_claimed cs key ≡ true → KeysFit shape worker cs ws (with_guard gs key)
     guard_fits key claimed = record {
       worker_is = fits.worker_is;
       placed = fits.placed;
@@ -183,8 +183,8 @@ module _ (shape : Shape) where
     op_fits (Put t k v) value stands claimed wide = write_fits (key_at t k) (Some v) claimed stands.0.1
     op_fits (Add t k f up by) value stands claimed wide =
         write_fits (key_at t k)
-        (Some (with_field (width_of shape t) value f (changed up (field_of value f) by))) claimed
-        (field_width (width_of shape t) f (changed up (field_of value f) by) value wide)
+        (Some (with_field (width_of shape t) value f (new_number up (field_of value f) by))) claimed
+        (field_width (width_of shape t) f (new_number up (field_of value f) by) value wide)
     op_fits (Del t k) value stands claimed wide = write_fits (key_at t k) None claimed tt
     op_fits (Need t k f least) value stands claimed wide = fits
     op_fits (Guard t k) value stands claimed wide = guard_fits (key_at t k) claimed

@@ -6,7 +6,7 @@ use Rattle.nam_verbs.specs.declared.now.Now.TheVariants.{At, Over}
 use Rattle.nam_verbs.specs.Falls.{FallsTo}
 use Rattle.nam_catalog.specs.declared.shape.Shape.{Shape}
 use Rattle.nam_catalog.specs.Fits.{FitsLimits}
-use Rattle.nam_calls.specs.declared.reading.ReadPlace.{ReadPlace}
+use Rattle.nam_calls.specs.declared.reading.ReadPoint.{ReadPoint}
 use Rattle.nam_calls.specs.declared.reading.ReadingEnd.{ReadingEnd}
 use Rattle.nam_calls.specs.Words.{capacity_of}
 use Rattle.nam_calls.specs.Reading.{sight_of, read_begin, read_most}
@@ -15,8 +15,8 @@ use Rattle.nam_calls.proofs.FallsTests.{either, or_last}
 use Rattle.nam_calls.proofs.FallsRead.{ReadFalls, read_falls}
 use Rattle.nam_calls.proofs.FallsTables.{has_capacity, width_is, sight_fits, read_figure}
 use Rattle.nam_calls.specs.declared.reading.ReadingEnd.TheVariants as read_end
-use Rattle.nam_protocol.specs.declared.scan.ScanPlace.{ScanPlace}
-use Rattle.nam_protocol.specs.declared.scan.ScanPlace.TheVariants.{ScanKey, ScanRead}
+use Rattle.nam_protocol.specs.declared.scan.ScanPoint.{ScanPoint}
+use Rattle.nam_protocol.specs.declared.scan.ScanPoint.TheVariants.{ScanKey, ScanRead}
 use Rattle.nam_protocol.specs.declared.scan.ScanAnswer.{ScanAnswer}
 use Rattle.nam_protocol.specs.declared.scan.ScanAnswer.TheVariants.{Key, Done}
 use Rattle.nam_protocol.specs.Scan.{in_range, scan_begin, scan_skip, scan_read, on_scan_read, scan_after, position_of}
@@ -29,7 +29,7 @@ first_row : (r k m q : ℕ) → r ≡ suc m → m ≡ q → q * k + k ≡ r * k
 first_row r k m q e f = rw (← f, e, suc-mul) refl
 
 module _ (shape : Shape) (limits : FitsLimits shape) (table : ℕ) (is : IsTableOf shape table) where
-  abbrev pub ScanFalls : ℕ → ℕ → Now ScanPlace ScanAnswer → Type 0
+  abbrev pub ScanFalls : ℕ → ℕ → Now ScanPoint ScanAnswer → Type 0
   ScanFalls position =
       FallsTo (ScanFits shape table) (ScanEnds shape table) (scan_left shape table) (after_scan shape table position)
 
@@ -56,7 +56,7 @@ module _ (shape : Shape) (limits : FitsLimits shape) (table : ℕ) (is : IsTable
       → ScanFalls position n (scan_read position key)
   scan_read_falls position key n l m = ((l, tt), m)
 
-  on_scan_read_falls : (position key n : ℕ) (now : Now ReadPlace ReadingEnd) (l : position < capacity_of shape table)
+  on_scan_read_falls : (position key n : ℕ) (now : Now ReadPoint ReadingEnd) (l : position < capacity_of shape table)
       → ReadFalls (sight_of shape table position) (sight_fits shape limits table position is l) n now
       → ScanFalls position (n + positions_left shape table (capacity_of shape table - position - 1))
       (on_scan_read table position key now)
@@ -68,7 +68,7 @@ module _ (shape : Shape) (limits : FitsLimits shape) (table : ℕ) (is : IsTable
   on_scan_read_falls position key n (Over read_end.Astray) l h = (tt, let m = h.1 in omega arith)
 
   -- a word is taken
-  pub scan_falls : (low high : ℕ) (seen : List ℕ) (place : ScanPlace) (found : ℕ) → ScanFits shape table place
+  pub scan_falls : (low high : ℕ) (seen : List ℕ) (place : ScanPoint) (found : ℕ) → ScanFits shape table place
       → ScanFalls (position_of place) (scan_left shape table place) (scan_after shape table low high seen place found)
   scan_falls low high seen (ScanKey position) found l =
       let f = position_figure position l in

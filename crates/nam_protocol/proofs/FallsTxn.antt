@@ -14,9 +14,9 @@ use Rattle.nam_verbs.proofs.TestLemmas.{by_test}
 use Rattle.nam_catalog.specs.declared.shape.Shape.{Shape}
 use Rattle.nam_catalog.specs.Fits.{FitsLimits}
 use Rattle.nam_calls.specs.declared.index.FindEnd.{FindEnd}
-use Rattle.nam_calls.specs.declared.index.ClaimKeyPlace.{ClaimKeyPlace}
+use Rattle.nam_calls.specs.declared.index.ClaimKeyPoint.{ClaimKeyPoint}
 use Rattle.nam_calls.specs.declared.index.ClaimKeyEnd.{ClaimKeyEnd}
-use Rattle.nam_calls.specs.declared.reading.ReadPlace.{ReadPlace}
+use Rattle.nam_calls.specs.declared.reading.ReadPoint.{ReadPoint}
 use Rattle.nam_calls.specs.declared.reading.ReadingEnd.{ReadingEnd}
 use Rattle.nam_calls.specs.Words.{width_of, capacity_of}
 use Rattle.nam_calls.specs.Index.{find_begin, claim_key_begin}
@@ -30,16 +30,16 @@ use Rattle.nam_calls.specs.declared.index.FindEnd.TheVariants as found_key
 use Rattle.nam_calls.specs.declared.index.ClaimKeyEnd.TheVariants as claimed_key
 use Rattle.nam_calls.specs.declared.reading.ReadingEnd.TheVariants as read_end
 use Rattle.nam_protocol.specs.declared.txn.TxnState.{TxnState}
-use Rattle.nam_protocol.specs.declared.txn.TxnPlace.{TxnPlace}
-use Rattle.nam_protocol.specs.declared.txn.TxnPlace.TheVariants.{Finding, Reading, Claiming, Committing}
+use Rattle.nam_protocol.specs.declared.txn.TxnPoint.{TxnPoint}
+use Rattle.nam_protocol.specs.declared.txn.TxnPoint.TheVariants.{Finding, Reading, Claiming, Committing}
 use Rattle.nam_protocol.specs.declared.txn.TxnAnswer.TheVariants.{Declined}
 use Rattle.nam_protocol.specs.Operations.{holding, own_value, read_of, value_in, answer_of}
 use Rattle.nam_protocol.specs.Operations.{op_path}
-use Rattle.nam_protocol.specs.Txn.{at, answered, with_claim, with_op, with_own, ask_op, valued, on_find, on_read}
+use Rattle.nam_protocol.specs.Txn.{at, over, with_claim, with_op, with_own, ask_op, on_value, on_find, on_read}
 use Rattle.nam_protocol.specs.Txn.{record_of, on_claim}
 use Rattle.nam_protocol.specs.TxnCalls.{txn_after}
 use Rattle.nam_protocol.specs.Bound.{claim_most, txn_left, op_bound}
-use Rattle.nam_protocol.specs.TxnFits.{StateFits, OpStands, TxnPlaceFits, TxnFalls, TxnBegins}
+use Rattle.nam_protocol.specs.TxnFits.{StateFits, OpStands, TxnPointFits, TxnFalls, TxnBegins}
 use Rattle.nam_protocol.proofs.FallsKeys.{op_table, claim_fits, op_fits, own_claimed, own_wide}
 use Rattle.nam_protocol.proofs.FallsCommit.{commit_falls}
 
@@ -72,14 +72,14 @@ module _ (shape : Shape) (limits : FitsLimits shape) where
     least = has_capacity shape limits table is_table
 
     valued_falls : (n : ℕ) (value : Option (List ℕ)) → HasWidth (width_of shape table) value → claim_most shape op < n
-        → TxnFalls shape n (valued shape state op value)
+        → TxnFalls shape n (on_value shape state op value)
     valued_falls n value wide l =
         let state' = record state { read = read_of op value } in
-        either (TxnFalls shape n) (not (passes op (holding value))) (answered state' Declined)
-        (if op_claims op then at state' (Claiming op claim_key_begin) else answered state' (answer_of op value))
+        either (TxnFalls shape n) (not (passes op (holding value))) (over state' Declined)
+        (if op_claims op then at state' (Claiming op claim_key_begin) else over state' (answer_of op value))
         (fits, (tt, omega arith))
         (by_test (TxnFalls shape n) (op_claims op) (at state' (Claiming op claim_key_begin))
-        (answered state' (answer_of op value))
+        (over state' (answer_of op value))
         (λ e. let m = claims_take shape op (op_claims op) e in let c = least in
         (fits, ((stands, c, read_wide shape op value stands wide), omega arith)))
         (λ e. (fits, (tt, omega arith))))
@@ -92,7 +92,7 @@ module _ (shape : Shape) (limits : FitsLimits shape) where
         (fits, ((stands, h.0, tt), let m = h.1 in omega arith))
     on_find_falls n (Over found_key.Absent) h = valued_falls _ None tt (let m = h.1 in omega arith)
 
-    on_read_falls : (position n : ℕ) (now : Now ReadPlace ReadingEnd) (l : position < capacity_of shape table)
+    on_read_falls : (position n : ℕ) (now : Now ReadPoint ReadingEnd) (l : position < capacity_of shape table)
         → ReadFalls (sight_of shape table position) (sight_fits shape limits table position is_table l) n now
         → TxnFalls shape (n + claim_most shape op) (on_read shape state op position now)
     on_read_falls position n (At place) l h = (fits, ((stands, l, h.0), let m = h.1 in omega arith))
@@ -103,7 +103,7 @@ module _ (shape : Shape) (limits : FitsLimits shape) where
         (fits, (tt, let m = h.1 in omega arith))
     on_read_falls position n (Over read_end.Astray) l h = (fits, (tt, let m = h.1 in omega arith))
 
-    on_claim_falls : (n : ℕ) (now : Now ClaimKeyPlace ClaimKeyEnd)
+    on_claim_falls : (n : ℕ) (now : Now ClaimKeyPoint ClaimKeyEnd)
         → HasWidth (width_of shape table) (value_in state.read)
         → ClaimKeyFalls (op_path shape op) n now → TxnFalls shape n (on_claim shape state op now)
     on_claim_falls n (At place) wide h = (fits, ((stands, h.0, wide), h.1))
@@ -118,8 +118,8 @@ module _ (shape : Shape) (limits : FitsLimits shape) where
         )
 
   -- a word is taken
-  pub txn_falls : (state : TxnState) (place : TxnPlace) (found : ℕ) → StateFits shape state
-      → TxnPlaceFits shape state place
+  pub txn_falls : (state : TxnState) (place : TxnPoint) (found : ℕ) → StateFits shape state
+      → TxnPointFits shape state place
       → TxnFalls shape (txn_left shape state place) (txn_after shape state place found)
   txn_falls state (Finding op passed) found fits p =
       on_find_falls state fits op p.0 _ _ (find_falls (op_path shape op) passed found p.1)
@@ -163,8 +163,8 @@ module _ (shape : Shape) (limits : FitsLimits shape) where
       → writes_key state.writes (op_key op) ≡ true
       → HasWidth (width_of shape (op_key op).table) value → TxnBegins shape n (with_own shape state op value)
   own_begins n state op value fits stands e wide =
-      either (TxnBegins shape n) (not (passes op (holding value))) (answered state Declined)
-      (answered (with_op shape state op value) (answer_of op value))
+      either (TxnBegins shape n) (not (passes op (holding value))) (over state Declined)
+      (over (with_op shape state op value) (answer_of op value))
       (fits, tt) (
         op_fits shape state.worker state.claims state.writes state.guards fits op value stands
             (own_claimed shape state.worker state.claims state.writes state.guards fits (op_key op) e) wide,

@@ -20,17 +20,17 @@ use Rattle.nam_layout.specs.PlaceFits.{FitsPlace}
 use Rattle.nam_layout.specs.Known.{IsOfPlace, IsKnown}
 use Rattle.nam_layout.proofs.AddressLemmas.{found_there}
 use Rattle.nam_layout.proofs.PlaceLemmas.{place_stands, known_stands}
-use Rattle.nam_vector.specs.declared.snap.SnapPlace.{SnapPlace}
-use Rattle.nam_vector.specs.declared.snap.SnapPlace.TheVariants.{First, Second}
+use Rattle.nam_vector.specs.declared.snap.SnapPoint.{SnapPoint}
+use Rattle.nam_vector.specs.declared.snap.SnapPoint.TheVariants.{First, Second}
 use Rattle.nam_vector.specs.Snap.{snap_verb, SnapFits}
-use Rattle.nam_calls.specs.declared.index.ClaimKeyPlace.{ClaimKeyPlace}
-use Rattle.nam_calls.specs.declared.index.ClaimKeyPlace.TheVariants.{KeyLook, KeyTake}
-use Rattle.nam_calls.specs.declared.lock.LockPlace.{LockPlace}
-use Rattle.nam_calls.specs.declared.lock.LockPlace.TheVariants.{Peek, Seize, GiveBack}
-use Rattle.nam_calls.specs.declared.horizon.CollectPlace.{CollectPlace}
-use Rattle.nam_calls.specs.declared.horizon.CollectPlace.TheVariants.{HorizonLook, HorizonRaise, CollectTag}
-use Rattle.nam_calls.specs.declared.horizon.CollectPlace.TheVariants.{CollectEnding, CollectFree}
-use Rattle.nam_calls.specs.declared.reading.ReadPlace.{ReadPlace}
+use Rattle.nam_calls.specs.declared.index.ClaimKeyPoint.{ClaimKeyPoint}
+use Rattle.nam_calls.specs.declared.index.ClaimKeyPoint.TheVariants.{KeyLook, KeyTake}
+use Rattle.nam_calls.specs.declared.lock.LockPoint.{LockPoint}
+use Rattle.nam_calls.specs.declared.lock.LockPoint.TheVariants.{Peek, Seize, GiveBack}
+use Rattle.nam_calls.specs.declared.horizon.CollectPoint.{CollectPoint}
+use Rattle.nam_calls.specs.declared.horizon.CollectPoint.TheVariants.{HorizonLook, HorizonRaise, CollectTag}
+use Rattle.nam_calls.specs.declared.horizon.CollectPoint.TheVariants.{CollectEnding, CollectFree}
+use Rattle.nam_calls.specs.declared.reading.ReadPoint.{ReadPoint}
 use Rattle.nam_calls.specs.Words.{capacity_of, path_of}
 use Rattle.nam_calls.specs.Index.{nth_key, claim_key_verb}
 use Rattle.nam_calls.specs.Horizon.{collect_verb}
@@ -41,18 +41,18 @@ use Rattle.nam_calls.specs.Fits.{FindFits, ClaimKeyFits, LockFits, CollectFits, 
 use Rattle.nam_calls.proofs.FallsTables.{place_fits, sight_fits}
 use Rattle.nam_calls.proofs.FieldLemmas.{install_field, slot_field, copy_field, move_field, read_field, key_is}
 use Rattle.nam_calls.proofs.FieldLemmas.{path_field, row_within}
-use Rattle.nam_protocol.specs.declared.scan.ScanPlace.{ScanPlace}
-use Rattle.nam_protocol.specs.declared.scan.ScanPlace.TheVariants.{ScanKey, ScanRead}
+use Rattle.nam_protocol.specs.declared.scan.ScanPoint.{ScanPoint}
+use Rattle.nam_protocol.specs.declared.scan.ScanPoint.TheVariants.{ScanKey, ScanRead}
 use Rattle.nam_protocol.specs.declared.txn.TxnState.{TxnState}
-use Rattle.nam_protocol.specs.declared.txn.TxnPlace.{TxnPlace}
-use Rattle.nam_protocol.specs.declared.txn.TxnPlace.TheVariants.{Finding, Reading, Claiming, Committing}
-use Rattle.nam_protocol.specs.declared.txn.CommitPlace.{CommitPlace}
-use Rattle.nam_protocol.specs.declared.txn.CommitPlace.TheVariants.{Locking, Checking, Returning, Saving, Copying}
-use Rattle.nam_protocol.specs.declared.txn.CommitPlace.TheVariants.{Installing, Publishing, Freeing}
+use Rattle.nam_protocol.specs.declared.txn.TxnPoint.{TxnPoint}
+use Rattle.nam_protocol.specs.declared.txn.TxnPoint.TheVariants.{Finding, Reading, Claiming, Committing}
+use Rattle.nam_protocol.specs.declared.txn.CommitPoint.{CommitPoint}
+use Rattle.nam_protocol.specs.declared.txn.CommitPoint.TheVariants.{Locking, Checking, Returning, Saving, Copying}
+use Rattle.nam_protocol.specs.declared.txn.CommitPoint.TheVariants.{Installing, Publishing, Freeing}
 use Rattle.nam_protocol.specs.declared.client.Answer.{Answer}
-use Rattle.nam_protocol.specs.declared.client.CallPlace.{CallPlace}
-use Rattle.nam_protocol.specs.declared.client.CallPlace.TheVariants.{Beginning, InTxn, Scanning, Seeking, Moving}
-use Rattle.nam_protocol.specs.declared.client.CallPlace.TheVariants.{Snapping, Collecting}
+use Rattle.nam_protocol.specs.declared.client.CallPoint.{CallPoint}
+use Rattle.nam_protocol.specs.declared.client.CallPoint.TheVariants.{Beginning, InTxn, Scanning, Seeking, Moving}
+use Rattle.nam_protocol.specs.declared.client.CallPoint.TheVariants.{Snapping, Collecting}
 use Rattle.nam_protocol.specs.declared.client.Open.{Open}
 use Rattle.nam_protocol.specs.declared.client.ClientState.{ClientState}
 use Rattle.nam_protocol.specs.Commit.{places, record_place, record_at, records_of, value_at, own_stamp, new_header}
@@ -60,15 +60,15 @@ use Rattle.nam_protocol.specs.Commit.{commit_verb}
 use Rattle.nam_protocol.specs.TxnCalls.{txn_verb}
 use Rattle.nam_protocol.specs.Scan.{scan_verb}
 use Rattle.nam_protocol.specs.Client.{open_verb, call_verb, verb_of}
-use Rattle.nam_protocol.specs.TxnFits.{StateFits, CommitFits, TxnPlaceFits, ScanFits}
-use Rattle.nam_protocol.specs.ClientFits.{OpenFits, OpenPlaceFits, CallPlaceFits, NowFits, ClientFits}
+use Rattle.nam_protocol.specs.TxnFits.{StateFits, CommitFits, TxnPointFits, ScanFits}
+use Rattle.nam_protocol.specs.ClientFits.{OpenFits, OpenPointFits, CallPointFits, NowFits, ClientFits}
 use Rattle.nam_protocol.specs.FieldLaw.{IsAtField, IsRowPlace, TableFieldsLaw, CommitFieldsLaw, TxnFieldsLaw}
 use Rattle.nam_protocol.specs.FieldLaw.{CallFieldsLaw, ClientFieldsLaw, WithinLaw}
 use Rattle.nam_protocol.proofs.FallsKeys.{place_of_nth, op_table, writes_within, record_is_placed, nth_fits}
 
 -- 1. The entries of a snapshot
 
-snap_at : (shape : Shape) (at : SnapPlace) → SnapFits shape.workers at → IsAtField shape (snap_verb at)
+snap_at : (shape : Shape) (at : SnapPoint) → SnapFits shape.workers at → IsAtField shape (snap_verb at)
 snap_at shape (First got) l = (omega arith, omega arith)
 snap_at shape (Second seen at) l = (omega arith, omega arith)
 
@@ -89,19 +89,19 @@ module _ (shape : Shape) (limits : FitsLimits shape) where
     key_at_field key passed l =
         subst (IsField shape) (sym (key_is shape table key passed)) (path_field shape table key passed is l)
 
-    pub claim_key_at : (key : ℕ) (at : ClaimKeyPlace) → ClaimKeyFits (capacity_of shape table) at
+    pub claim_key_at : (key : ℕ) (at : ClaimKeyPoint) → ClaimKeyFits (capacity_of shape table) at
         → IsAtField shape (claim_key_verb (path_of shape table key) at)
     claim_key_at key (KeyLook passed) l = key_at_field key passed l
     claim_key_at key (KeyTake passed) l = key_at_field key passed l
 
-    pub read_at : (position : ℕ) (at : ReadPlace) → position < capacity_of shape table
+    pub read_at : (position : ℕ) (at : ReadPoint) → position < capacity_of shape table
         → ReadFits (sight_of shape table position) at → IsAtField shape (read_verb (sight_of shape table position) at)
     read_at position at l fits =
         known_field (row_of shape.tables table position) (target (read_verb (sight_of shape table position) at))
         (row_within shape table position is l)
         (read_field (sight_of shape table position) (sight_fits shape limits table position is l) at fits)
 
-    pub scan_at : (at : ScanPlace) → ScanFits shape table at → IsAtField shape (scan_verb shape table at)
+    pub scan_at : (at : ScanPoint) → ScanFits shape table at → IsAtField shape (scan_verb shape table at)
     scan_at (ScanKey position) l = row_within shape table position is l
     scan_at (ScanRead position key at) l = read_at position at l.0 l.1
 
@@ -131,14 +131,14 @@ module _ (shape : Shape) (limits : FitsLimits shape) where
         (place_stands shape (record_place state nth).row f
         (subst (λ place. IsOfPlace place f) p.place_is (is (nth_fits shape state fits are limits nth l)))).1 p.row_is
 
-    lock_at : state.records ≡ records_of state → (at : LockPlace) → LockFits (length state.records) at
+    lock_at : state.records ≡ records_of state → (at : LockPoint) → LockFits (length state.records) at
         → IsAtField shape (lock_verb state.worker (places state) at)
     lock_at are (Peek held) l = (placed are (length held) l).row_is
     lock_at are (Seize held header) l = (placed are (length held) l).row_is
     lock_at are (GiveBack held given found) l =
         (placed are given (let m = l.0 in let n = l.1 in omega arith)).row_is
 
-    pub commit_at : (at : CommitPlace) → CommitFits shape state at → IsAtField shape (commit_verb state at)
+    pub commit_at : (at : CommitPoint) → CommitFits shape state at → IsAtField shape (commit_verb state at)
     commit_at (Locking at) c = lock_at c.0 at c.2.0
     commit_at (Checking at) c =
         let nth = length state.counts in
@@ -161,7 +161,7 @@ module _ (shape : Shape) (limits : FitsLimits shape) where
 
     -- 4. A transaction
 
-    pub txn_at : (place : TxnPlace) → TxnPlaceFits shape state place → IsAtField shape (txn_verb shape state place)
+    pub txn_at : (place : TxnPoint) → TxnPointFits shape state place → IsAtField shape (txn_verb shape state place)
     txn_at (Finding op passed) p =
         key_at_field (op_key op).table (op_table shape limits op p.0) (op_key op).key passed p.1
     txn_at (Reading op position at) p =
@@ -172,7 +172,7 @@ module _ (shape : Shape) (limits : FitsLimits shape) where
 
   -- 5. A client
 
-  collect_at : (bucket : ℕ) (seen : List ℕ) (at : CollectPlace) → bucket < shape.buckets
+  collect_at : (bucket : ℕ) (seen : List ℕ) (at : CollectPoint) → bucket < shape.buckets
       → CollectFits (cells_of shape bucket) shape.workers at
       → IsAtField shape (collect_verb (cells_of shape bucket) seen at)
   collect_at bucket seen (HorizonLook known) l c = (omega arith, omega arith)
@@ -181,13 +181,13 @@ module _ (shape : Shape) (limits : FitsLimits shape) where
   collect_at bucket seen (CollectEnding known cell tag) l c = (l, c.1)
   collect_at bucket seen (CollectFree known cell tag) l c = (l, c.1)
 
-  open_at : (opened : Option Open) (at : TxnPlace) → OpenFits shape opened → OpenPlaceFits shape opened at
+  open_at : (opened : Option Open) (at : TxnPoint) → OpenFits shape opened → OpenPointFits shape opened at
       → IsAtField shape (open_verb shape opened at)
   open_at None at f p = absurd p
   open_at (Some attempt) at f p = txn_at attempt.state f at p
 
-  call_at : (client : ClientState) (place : CallPlace) → OpenFits shape client.txn
-      → CallPlaceFits shape client.txn place → IsAtField shape (call_verb shape client place)
+  call_at : (client : ClientState) (place : CallPoint) → OpenFits shape client.txn
+      → CallPointFits shape client.txn place → IsAtField shape (call_verb shape client place)
   call_at client (Beginning txn nth at) f p = snap_at shape at p
   call_at client (InTxn at) f p = open_at client.txn at f p
   call_at client (Scanning table low high at) f p = scan_at table p.1 at p.2
@@ -202,7 +202,7 @@ module _ (shape : Shape) (limits : FitsLimits shape) where
   call_at client (Collecting bucket prefix seen at) f p = collect_at bucket seen at p.0 p.2
 
   module _ (client : ClientState) (fits : ClientFits shape client) where
-    now_at : (verb : VerbAt Field) (call : Option (Now CallPlace Answer)) → NowFits shape client.txn call
+    now_at : (verb : VerbAt Field) (call : Option (Now CallPoint Answer)) → NowFits shape client.txn call
         → verb_of shape client call ≡ Some verb → IsAtField shape verb
     now_at verb None f e = absurd (none-some verb e)
     now_at verb (Some (Over answer)) f e = absurd (none-some verb e)

@@ -1,4 +1,4 @@
--- Where a commit goes on: first by what each of its steps has come to, then of each place whole.
+-- Where a commit goes on: first by what each of its steps has come to, then of each point whole.
 use Rattle.std.proofs.Common.{◌≡◌, ℕ, ◌+◌, true, false, List, [], ◌∷◌, ◌++◌, length, None, refl}
 use Rattle.std.specs.Prelude.{◌==◌}
 use Rattle.std.proofs.Common.{inl, inr, ◌⊎◌}
@@ -8,25 +8,25 @@ use Rattle.nam_verbs.specs.declared.now.Now.{Now}
 use Rattle.nam_verbs.specs.declared.now.Now.TheVariants.{At, Over}
 use Rattle.nam_catalog.specs.declared.shape.Shape.{Shape}
 use Rattle.nam_catalog.specs.Greatest.{greatest_number}
-use Rattle.nam_calls.specs.declared.lock.LockPlace.{LockPlace}
-use Rattle.nam_calls.specs.declared.lock.LockPlace.TheVariants.{Peek}
+use Rattle.nam_calls.specs.declared.lock.LockPoint.{LockPoint}
+use Rattle.nam_calls.specs.declared.lock.LockPoint.TheVariants.{Peek}
 use Rattle.nam_calls.specs.declared.lock.LockEnd.{LockEnd}
-use Rattle.nam_calls.specs.declared.ring.SlotPlace.{SlotPlace}
-use Rattle.nam_calls.specs.declared.ring.SlotPlace.TheVariants.{CheckCount}
+use Rattle.nam_calls.specs.declared.ring.SlotPoint.{SlotPoint}
+use Rattle.nam_calls.specs.declared.ring.SlotPoint.TheVariants.{CheckCount}
 use Rattle.nam_calls.specs.declared.ring.SlotEnd.{SlotEnd}
 use Rattle.nam_calls.specs.declared.ring.SlotEnd.TheVariants.{Free, NotMoved}
-use Rattle.nam_calls.specs.declared.ring.CopyPlace.{CopyPlace}
-use Rattle.nam_calls.specs.declared.ring.CopyPlace.TheVariants.{CopyMark}
-use Rattle.nam_calls.specs.declared.record.InstallPlace.{InstallPlace}
+use Rattle.nam_calls.specs.declared.ring.CopyPoint.{CopyPoint}
+use Rattle.nam_calls.specs.declared.ring.CopyPoint.TheVariants.{CopyMark}
+use Rattle.nam_calls.specs.declared.record.InstallPoint.{InstallPoint}
 use Rattle.nam_calls.specs.Record.{install_begin}
 use Rattle.nam_calls.specs.declared.lock.LockEnd.TheVariants as lock_end
 use Rattle.nam_protocol.specs.declared.txn.TxnState.{TxnState}
 use Rattle.nam_protocol.specs.declared.txn.TxnAnswer.{TxnAnswer}
 use Rattle.nam_protocol.specs.declared.txn.TxnAnswer.TheVariants.{ReadOnly, Spent, Committed, Locked, Newer, Full}
-use Rattle.nam_protocol.specs.declared.txn.CommitPlace.{CommitPlace}
-use Rattle.nam_protocol.specs.declared.txn.CommitPlace.TheVariants.{Locking, Checking, Returning, Saving, Copying}
-use Rattle.nam_protocol.specs.declared.txn.CommitPlace.TheVariants.{Installing, Publishing, Freeing}
-use Rattle.nam_protocol.specs.Txn.{Stepped, answered}
+use Rattle.nam_protocol.specs.declared.txn.CommitPoint.{CommitPoint}
+use Rattle.nam_protocol.specs.declared.txn.CommitPoint.TheVariants.{Locking, Checking, Returning, Saving, Copying}
+use Rattle.nam_protocol.specs.declared.txn.CommitPoint.TheVariants.{Installing, Publishing, Freeing}
+use Rattle.nam_protocol.specs.Txn.{Stepped, over}
 use Rattle.nam_protocol.specs.ProgramCommit.{committing}
 use Rattle.nam_protocol.specs.Commit.{go, lock_at, value_at, ask_commit, on_lock, on_slot, on_return, on_words}
 use Rattle.nam_protocol.specs.Commit.{on_copy, on_install, next_free, commit_after}
@@ -42,9 +42,9 @@ module _ (P : Stepped → Type 0) (state : TxnState) where
   -- 1. The commit is asked
 
   pub ask_commit_goes : (shape : Shape)
-      → ((length state.writes == 0) ≡ true → P (answered (record state { read = None }) ReadOnly))
+      → ((length state.writes == 0) ≡ true → P (over (record state { read = None }) ReadOnly))
       → ((length state.writes == 0) ≡ false → (state.last == greatest_number shape.form) ≡ true
-      → P (answered (record state { read = None }) Spent))
+      → P (over (record state { read = None }) Spent))
       → ((length state.writes == 0) ≡ false → (state.last == greatest_number shape.form) ≡ false
       → P (go (committing state) (Locking (Peek []))))
       → P (ask_commit shape state)
@@ -54,21 +54,21 @@ module _ (P : Stepped → Type 0) (state : TxnState) where
 
   -- 2. By what a step has come to
 
-  pub on_lock_goes : (now : Now LockPlace LockEnd)
-      → ((place : LockPlace) → now ≡ At place → P (go state (Locking place)))
+  pub on_lock_goes : (now : Now LockPoint LockEnd)
+      → ((place : LockPoint) → now ≡ At place → P (go state (Locking place)))
       → ((headers : List ℕ) → now ≡ Over (lock_end.Held headers)
       → P (go (holding_locks state headers) (Checking CheckCount)))
       → ((nth found : ℕ) → now ≡ Over (lock_end.Locked nth found)
-      → P (answered state (Locked (lock_at state nth found))))
-      → ((nth found : ℕ) → now ≡ Over (lock_end.Newer nth found) → P (answered state (Newer (lock_at state nth found))))
+      → P (over state (Locked (lock_at state nth found))))
+      → ((nth found : ℕ) → now ≡ Over (lock_end.Newer nth found) → P (over state (Newer (lock_at state nth found))))
       → P (on_lock state now)
   on_lock_goes (At place) stays held locked newer = stays place refl
   on_lock_goes (Over (lock_end.Held headers)) stays held locked newer = held headers refl
   on_lock_goes (Over (lock_end.Locked nth found)) stays held locked newer = locked nth found refl
   on_lock_goes (Over (lock_end.Newer nth found)) stays held locked newer = newer nth found refl
 
-  pub on_slot_goes : (now : Now SlotPlace SlotEnd)
-      → ((place : SlotPlace) → now ≡ At place → P (go state (Checking place)))
+  pub on_slot_goes : (now : Now SlotPoint SlotEnd)
+      → ((place : SlotPoint) → now ≡ At place → P (go state (Checking place)))
       → ((count : ℕ) → now ≡ Over (Free count) → (length (state.counts ++ count ∷ []) == length state.writes) ≡ true
       → P (go (with_count state count) (Saving 0 [])))
       → ((count : ℕ) → now ≡ Over (Free count) → (length (state.counts ++ count ∷ []) == length state.writes) ≡ false
@@ -83,7 +83,7 @@ module _ (P : Stepped → Type 0) (state : TxnState) where
 
   pub on_return_goes : (full : Lock) (now : Now ℕ (Unit {0}))
       → ((given : ℕ) → now ≡ At given → P (go state (Returning given full)))
-      → (now ≡ Over tt → P (answered state (Full full)))
+      → (now ≡ Over tt → P (over state (Full full)))
       → P (on_return state full now)
   on_return_goes full (At given) stays done = stays given refl
   on_return_goes full (Over tt) stays done = done refl
@@ -95,15 +95,15 @@ module _ (P : Stepped → Type 0) (state : TxnState) where
   on_words_goes nth (At got) stays done = stays got refl
   on_words_goes nth (Over old) stays done = done old refl
 
-  pub on_copy_goes : (nth : ℕ) (old : List ℕ) (now : Now CopyPlace (Unit {0}))
-      → ((place : CopyPlace) → now ≡ At place → P (go state (Copying nth old place)))
+  pub on_copy_goes : (nth : ℕ) (old : List ℕ) (now : Now CopyPoint (Unit {0}))
+      → ((place : CopyPoint) → now ≡ At place → P (go state (Copying nth old place)))
       → (now ≡ Over tt → P (go state (Installing nth (install_begin (value_at state nth)))))
       → P (on_copy state nth old now)
   on_copy_goes nth old (At place) stays done = stays place refl
   on_copy_goes nth old (Over tt) stays done = done refl
 
-  pub on_install_goes : (nth : ℕ) (now : Now InstallPlace (Unit {0}))
-      → ((place : InstallPlace) → now ≡ At place → P (go state (Installing nth place)))
+  pub on_install_goes : (nth : ℕ) (now : Now InstallPoint (Unit {0}))
+      → ((place : InstallPoint) → now ≡ At place → P (go state (Installing nth place)))
       → (now ≡ Over tt → (nth + 1 == length state.writes) ≡ true → P (go state Publishing))
       → (now ≡ Over tt → (nth + 1 == length state.writes) ≡ false → P (go state (Saving (nth + 1) [])))
       → P (on_install state nth now)
@@ -112,32 +112,32 @@ module _ (P : Stepped → Type 0) (state : TxnState) where
       cond_both (nth + 1 == length state.writes) _ _ P (last refl) (next refl)
 
   pub next_free_goes : (nth : ℕ)
-      → ((nth == length state.records) ≡ true → P (answered state (Committed (state.last + 1))))
+      → ((nth == length state.records) ≡ true → P (over state (Committed (state.last + 1))))
       → ((nth == length state.records) ≡ false → P (go state (Freeing nth)))
       → P (next_free state nth)
   next_free_goes nth done next = cond_both (nth == length state.records) _ _ P done next
 
-  -- 3. Each place whole
+  -- 3. Each point whole
 
-  -- where a commit may go on from a place, its state unchanged
-  abbrev pub GoesTo : CommitPlace → CommitPlace → Type 0
-  GoesTo (Locking at) next = (later : LockPlace) × (next ≡ Locking later)
+  -- where a commit may go on from a point, its state unchanged
+  abbrev pub GoesTo : CommitPoint → CommitPoint → Type 0
+  GoesTo (Locking at) next = (later : LockPoint) × (next ≡ Locking later)
   GoesTo (Checking at) next =
-      ((later : SlotPlace) × (next ≡ Checking later)) ⊎ ((full : Lock) × (next ≡ Returning 0 full))
+      ((later : SlotPoint) × (next ≡ Checking later)) ⊎ ((full : Lock) × (next ≡ Returning 0 full))
   GoesTo (Returning given full) next = (later : ℕ) × (next ≡ Returning later full)
   GoesTo (Saving nth got) next =
       ((more : List ℕ) × (next ≡ Saving nth more)) ⊎ ((old : List ℕ) × (next ≡ Copying nth old CopyMark))
   GoesTo (Copying nth old at) next =
-      ((later : CopyPlace) × (next ≡ Copying nth old later))
+      ((later : CopyPoint) × (next ≡ Copying nth old later))
       ⊎ (next ≡ Installing nth (install_begin (value_at state nth)))
   GoesTo (Installing nth at) next =
-      ((later : InstallPlace) × (next ≡ Installing nth later))
+      ((later : InstallPoint) × (next ≡ Installing nth later))
       ⊎ ((next ≡ Publishing) ⊎ (next ≡ Saving (nth + 1) []))
   GoesTo Publishing next = next ≡ Freeing (length state.writes)
   GoesTo (Freeing nth) next = next ≡ Freeing (nth + 1)
 
-  -- how it may be answered there
-  abbrev pub EndsAs : CommitPlace → TxnAnswer → Type 0
+  -- how it may be over there
+  abbrev pub EndsAs : CommitPoint → TxnAnswer → Type 0
   EndsAs (Locking at) answer = (lock : Lock) × ((answer ≡ Locked lock) ⊎ (answer ≡ Newer lock))
   EndsAs (Returning given full) answer = answer ≡ Full full
   EndsAs Publishing answer = answer ≡ Committed (state.last + 1)
@@ -145,13 +145,13 @@ module _ (P : Stepped → Type 0) (state : TxnState) where
   EndsAs _ answer = ⊥
 
   -- a count is added only where a slot was looked at, and locks are all held only after the last
-  pub commit_goes : (place : CommitPlace) (found : ℕ)
-      → ((next : CommitPlace) → GoesTo place next → P (go state next))
-      → ((at : LockPlace) (headers : List ℕ) → place ≡ Locking at
+  pub commit_goes : (place : CommitPoint) (found : ℕ)
+      → ((next : CommitPoint) → GoesTo place next → P (go state next))
+      → ((at : LockPoint) (headers : List ℕ) → place ≡ Locking at
       → P (go (holding_locks state headers) (Checking CheckCount)))
-      → ((at : SlotPlace) (count : ℕ) → place ≡ Checking at → P (go (with_count state count) (Saving 0 [])))
-      → ((at : SlotPlace) (count : ℕ) → place ≡ Checking at → P (go (with_count state count) (Checking CheckCount)))
-      → ((answer : TxnAnswer) → EndsAs place answer → P (answered state answer))
+      → ((at : SlotPoint) (count : ℕ) → place ≡ Checking at → P (go (with_count state count) (Saving 0 [])))
+      → ((at : SlotPoint) (count : ℕ) → place ≡ Checking at → P (go (with_count state count) (Checking CheckCount)))
+      → ((answer : TxnAnswer) → EndsAs place answer → P (over state answer))
       → P (commit_after state place found)
   commit_goes (Locking at) found stays held last next answer =
       on_lock_goes _ (λ later e. stays (Locking later) (later, refl)) (λ headers e. held at headers refl)

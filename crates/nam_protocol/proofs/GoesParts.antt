@@ -5,26 +5,26 @@ use Rattle.si_model.specs.Rows.{key_at, item_at}
 use Rattle.nam_verbs.specs.declared.now.Now.{Now}
 use Rattle.nam_verbs.specs.declared.now.Now.TheVariants.{At, Over}
 use Rattle.nam_layout.specs.declared.field.Cells.{Cells}
-use Rattle.nam_calls.specs.declared.record.CurrentPlace.{CurrentPlace}
+use Rattle.nam_calls.specs.declared.record.CurrentPoint.{CurrentPoint}
 use Rattle.nam_calls.specs.declared.record.CurrentEnd.{CurrentEnd}
-use Rattle.nam_calls.specs.declared.ring.RingPlace.{RingPlace}
+use Rattle.nam_calls.specs.declared.ring.RingPoint.{RingPoint}
 use Rattle.nam_calls.specs.declared.ring.SearchEnd.{SearchEnd}
 use Rattle.nam_calls.specs.declared.ring.SearchEnd.TheVariants.{Found, NotThere}
-use Rattle.nam_calls.specs.declared.overflow.CellPlace.{CellPlace}
-use Rattle.nam_calls.specs.declared.overflow.ClaimPlace.{ClaimPlace}
+use Rattle.nam_calls.specs.declared.overflow.CellPoint.{CellPoint}
+use Rattle.nam_calls.specs.declared.overflow.ClaimPoint.{ClaimPoint}
 use Rattle.nam_calls.specs.declared.overflow.ClaimEnd.{ClaimEnd}
 use Rattle.nam_calls.specs.declared.overflow.ClaimEnd.TheVariants.{Claimed, NoRoom}
-use Rattle.nam_calls.specs.declared.overflow.FillPlace.{FillPlace}
+use Rattle.nam_calls.specs.declared.overflow.FillPoint.{FillPoint}
 use Rattle.nam_calls.specs.declared.overflow.Version.{Version}
 use Rattle.nam_calls.specs.declared.horizon.OldEnd.{OldEnd}
 use Rattle.nam_calls.specs.declared.horizon.OldEnd.TheVariants.{TooOld, NotPassed}
 use Rattle.nam_calls.specs.declared.reading.Sight.{Sight}
-use Rattle.nam_calls.specs.declared.reading.ReadPlace.{ReadPlace}
-use Rattle.nam_calls.specs.declared.reading.ReadPlace.TheVariants.{ReadCurrent, ReadUnsure, ReadRecheck, ReadRing}
-use Rattle.nam_calls.specs.declared.reading.ReadPlace.TheVariants.{ReadCells, ReadHorizon}
+use Rattle.nam_calls.specs.declared.reading.ReadPoint.{ReadPoint}
+use Rattle.nam_calls.specs.declared.reading.ReadPoint.TheVariants.{ReadCurrent, ReadUnsure, ReadRecheck, ReadRing}
+use Rattle.nam_calls.specs.declared.reading.ReadPoint.TheVariants.{ReadCells, ReadHorizon}
 use Rattle.nam_calls.specs.declared.reading.ReadingEnd.{ReadingEnd}
-use Rattle.nam_calls.specs.declared.mover.MovePlace.{MovePlace}
-use Rattle.nam_calls.specs.declared.mover.MovePlace.TheVariants.{MoveClaim, MoveWords, MoveFill, MoveAgain}
+use Rattle.nam_calls.specs.declared.mover.MovePoint.{MovePoint}
+use Rattle.nam_calls.specs.declared.mover.MovePoint.TheVariants.{MoveClaim, MoveWords, MoveFill, MoveAgain}
 use Rattle.nam_calls.specs.declared.mover.MoveAnswer.{MoveAnswer}
 use Rattle.nam_calls.specs.Ring.{ring_begin}
 use Rattle.nam_calls.specs.Overflow.{cell_begin}
@@ -35,17 +35,17 @@ use Rattle.nam_calls.specs.Mover.{on_claim, on_fill}
 use Rattle.nam_calls.specs.declared.record.CurrentEnd.TheVariants as current
 use Rattle.nam_calls.specs.declared.reading.ReadingEnd.TheVariants as read_end
 use Rattle.nam_calls.specs.declared.mover.MoveAnswer.TheVariants as move_end
-use Rattle.nam_protocol.specs.declared.scan.ScanPlace.{ScanPlace}
-use Rattle.nam_protocol.specs.declared.scan.ScanPlace.TheVariants.{ScanRead}
+use Rattle.nam_protocol.specs.declared.scan.ScanPoint.{ScanPoint}
+use Rattle.nam_protocol.specs.declared.scan.ScanPoint.TheVariants.{ScanRead}
 use Rattle.nam_protocol.specs.declared.scan.ScanAnswer.{ScanAnswer}
 use Rattle.nam_protocol.specs.Scan.{on_scan_read}
 use Rattle.nam_protocol.specs.declared.scan.ScanAnswer.TheVariants as scan_answer
 
 -- 1. The read
 
-module _ (P : Now ReadPlace ReadingEnd → Type 0) where
-  pub current_goes : (now : Now CurrentPlace CurrentEnd)
-      → ((place : CurrentPlace) → now ≡ At place → P (At (ReadCurrent place)))
+module _ (P : Now ReadPoint ReadingEnd → Type 0) where
+  pub current_goes : (now : Now CurrentPoint CurrentEnd)
+      → ((place : CurrentPoint) → now ≡ At place → P (At (ReadCurrent place)))
       → ((value : Option (List ℕ)) → now ≡ Over (current.Found value) → P (Over (read_end.Got value)))
       → ((value : List ℕ) (header : ℕ) → now ≡ Over (current.Unsure value header)
       → P (At (ReadUnsure value header ring_begin)))
@@ -56,8 +56,8 @@ module _ (P : Now ReadPlace ReadingEnd → Type 0) where
   current_goes (Over (current.Unsure value header)) stays found unsure old = unsure value header refl
   current_goes (Over current.GoOld) stays found unsure old = old refl
 
-  pub unsure_goes : (value : List ℕ) (header : ℕ) (now : Now RingPlace SearchEnd)
-      → ((place : RingPlace) → now ≡ At place → P (At (ReadUnsure value header place)))
+  pub unsure_goes : (value : List ℕ) (header : ℕ) (now : Now RingPoint SearchEnd)
+      → ((place : RingPoint) → now ≡ At place → P (At (ReadUnsure value header place)))
       → ((old : Option (List ℕ)) → now ≡ Over (Found old) → P (Over (read_end.Got old)))
       → (now ≡ Over NotThere → P (At (ReadRecheck value header)))
       → P (on_unsure value header now)
@@ -71,8 +71,8 @@ module _ (P : Now ReadPlace ReadingEnd → Type 0) where
       → P (read_after sight seen (ReadRecheck value header) word)
   recheck_goes sight seen value header word found old = cond_both (recheck_end sight.place header word) _ _ P found old
 
-  pub ring_goes : (now : Now RingPlace SearchEnd)
-      → ((place : RingPlace) → now ≡ At place → P (At (ReadRing place)))
+  pub ring_goes : (now : Now RingPoint SearchEnd)
+      → ((place : RingPoint) → now ≡ At place → P (At (ReadRing place)))
       → ((old : Option (List ℕ)) → now ≡ Over (Found old) → P (Over (read_end.Got old)))
       → (now ≡ Over NotThere → P (At (ReadCells cell_begin)))
       → P (on_ring now)
@@ -80,8 +80,8 @@ module _ (P : Now ReadPlace ReadingEnd → Type 0) where
   ring_goes (Over (Found old)) stays found none = found old refl
   ring_goes (Over NotThere) stays found none = none refl
 
-  pub cells_goes : (now : Now CellPlace SearchEnd)
-      → ((place : CellPlace) → now ≡ At place → P (At (ReadCells place)))
+  pub cells_goes : (now : Now CellPoint SearchEnd)
+      → ((place : CellPoint) → now ≡ At place → P (At (ReadCells place)))
       → ((old : Option (List ℕ)) → now ≡ Over (Found old) → P (Over (read_end.Got old)))
       → (now ≡ Over NotThere → P (At (ReadHorizon old_begin)))
       → P (on_cells now)
@@ -101,9 +101,9 @@ module _ (P : Now ReadPlace ReadingEnd → Type 0) where
 
 -- 2. The move
 
-module _ (P : Now MovePlace MoveAnswer → Type 0) where
-  pub claim_cell_goes : (cells : Cells) (slot header ending : ℕ) (now : Now ClaimPlace ClaimEnd)
-      → ((place : ClaimPlace) → now ≡ At place → P (At (MoveClaim slot header ending place)))
+module _ (P : Now MovePoint MoveAnswer → Type 0) where
+  pub claim_cell_goes : (cells : Cells) (slot header ending : ℕ) (now : Now ClaimPoint ClaimEnd)
+      → ((place : ClaimPoint) → now ≡ At place → P (At (MoveClaim slot header ending place)))
       → ((cell tag : ℕ) → now ≡ Over (Claimed cell tag) → P (At (MoveWords slot header ending cell tag [])))
       → (now ≡ Over NoRoom → P (Over (move_end.NoRoom cells.bucket)))
       → P (on_claim cells slot header ending now)
@@ -111,8 +111,8 @@ module _ (P : Now MovePlace MoveAnswer → Type 0) where
   claim_cell_goes cells slot header ending (Over (Claimed cell tag)) stays claimed none = claimed cell tag refl
   claim_cell_goes cells slot header ending (Over NoRoom) stays claimed none = none refl
 
-  pub fill_goes : (slot header cell tag : ℕ) (version : Version) (now : Now FillPlace (Unit {0}))
-      → ((place : FillPlace) → now ≡ At place → P (At (MoveFill slot header cell tag version place)))
+  pub fill_goes : (slot header cell tag : ℕ) (version : Version) (now : Now FillPoint (Unit {0}))
+      → ((place : FillPoint) → now ≡ At place → P (At (MoveFill slot header cell tag version place)))
       → (now ≡ Over tt → P (At (MoveAgain slot header cell tag)))
       → P (on_fill slot header cell tag version now)
   fill_goes slot header cell tag version (At place) stays done = stays place refl
@@ -120,9 +120,9 @@ module _ (P : Now MovePlace MoveAnswer → Type 0) where
 
 -- 3. The scan
 
-module _ (table : ℕ) (P : Now ScanPlace ScanAnswer → Type 0) where
-  pub scan_read_goes : (position key : ℕ) (now : Now ReadPlace ReadingEnd)
-      → ((place : ReadPlace) → now ≡ At place → P (At (ScanRead position key place)))
+module _ (table : ℕ) (P : Now ScanPoint ScanAnswer → Type 0) where
+  pub scan_read_goes : (position key : ℕ) (now : Now ReadPoint ReadingEnd)
+      → ((place : ReadPoint) → now ≡ At place → P (At (ScanRead position key place)))
       → ((value : Option (List ℕ)) → now ≡ Over (read_end.Got value)
       → P (Over (scan_answer.Row (item_at (key_at table key) value))))
       → ((worker entry horizon : ℕ) → now ≡ Over (read_end.Passed worker entry horizon)

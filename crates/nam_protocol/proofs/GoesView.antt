@@ -4,20 +4,20 @@ use Rattle.si_model.specs.declared.op.Op.{Op}
 use Rattle.nam_verbs.specs.declared.now.Now.{Now}
 use Rattle.nam_verbs.specs.declared.now.Now.TheVariants.{At}
 use Rattle.nam_catalog.specs.declared.shape.Shape.{Shape}
-use Rattle.nam_calls.specs.declared.index.ClaimKeyPlace.{ClaimKeyPlace}
-use Rattle.nam_calls.specs.declared.reading.ReadPlace.{ReadPlace}
-use Rattle.nam_calls.specs.declared.ring.CopyPlace.{CopyPlace}
+use Rattle.nam_calls.specs.declared.index.ClaimKeyPoint.{ClaimKeyPoint}
+use Rattle.nam_calls.specs.declared.reading.ReadPoint.{ReadPoint}
+use Rattle.nam_calls.specs.declared.ring.CopyPoint.{CopyPoint}
 use Rattle.nam_calls.specs.Record.{install_begin}
-use Rattle.nam_protocol.specs.declared.scan.ScanPlace.{ScanPlace}
+use Rattle.nam_protocol.specs.declared.scan.ScanPoint.{ScanPoint}
 use Rattle.nam_protocol.specs.declared.txn.Record.{Record}
-use Rattle.nam_protocol.specs.declared.txn.CommitPlace.{CommitPlace}
-use Rattle.nam_protocol.specs.declared.txn.CommitPlace.TheVariants.{Copying, Installing}
-use Rattle.nam_protocol.specs.declared.txn.TxnPlace.{TxnPlace}
-use Rattle.nam_protocol.specs.declared.txn.TxnPlace.TheVariants.{Finding, Reading, Claiming, Committing}
+use Rattle.nam_protocol.specs.declared.txn.CommitPoint.{CommitPoint}
+use Rattle.nam_protocol.specs.declared.txn.CommitPoint.TheVariants.{Copying, Installing}
+use Rattle.nam_protocol.specs.declared.txn.TxnPoint.{TxnPoint}
+use Rattle.nam_protocol.specs.declared.txn.TxnPoint.TheVariants.{Finding, Reading, Claiming, Committing}
 use Rattle.nam_protocol.specs.declared.client.Answer.{Answer}
-use Rattle.nam_protocol.specs.declared.client.CallPlace.{CallPlace}
-use Rattle.nam_protocol.specs.declared.client.CallPlace.TheVariants.{Beginning, InTxn, Scanning, Seeking, Moving}
-use Rattle.nam_protocol.specs.declared.client.CallPlace.TheVariants.{Snapping, Collecting}
+use Rattle.nam_protocol.specs.declared.client.CallPoint.{CallPoint}
+use Rattle.nam_protocol.specs.declared.client.CallPoint.TheVariants.{Beginning, InTxn, Scanning, Seeking, Moving}
+use Rattle.nam_protocol.specs.declared.client.CallPoint.TheVariants.{Snapping, Collecting}
 use Rattle.nam_protocol.specs.declared.client.Open.{Open}
 use Rattle.nam_protocol.specs.declared.client.ClientState.{ClientState}
 use Rattle.nam_protocol.specs.Txn.{Stepped, ask_op}
@@ -29,14 +29,14 @@ use Rattle.nam_protocol.proofs.GoesTxn.{ask_goes, finding_goes, reading_goes, cl
 use Rattle.nam_protocol.proofs.GoesCommit.{on_copy_goes}
 use Rattle.nam_protocol.proofs.GoesClient.{scan_goes, begin_goes, seek_goes, move_goes, snap_goes, collect_goes}
 
--- 1. The view: of a commit in progress its records, the headers of its locks, and its place
+-- 1. The view: of a commit in progress its records, the headers of its locks, and its point
 
 pub record CommitView : Type 0 where
   pub records : List Record
   pub held : List ℕ
-  pub place : CommitPlace
+  pub place : CommitPoint
 
-abbrev pub commit_in : Option (Now CallPlace Answer) → Option Open → Option CommitView
+abbrev pub commit_in : Option (Now CallPoint Answer) → Option Open → Option CommitView
 commit_in (Some (At (InTxn (Committing place)))) (Some attempt) =
     Some record { records = attempt.state.records; held = attempt.state.held; place = place }
 commit_in _ _ = None
@@ -48,7 +48,7 @@ commit_view client = commit_in client.call client.txn
 abbrev pub Idle : ClientState → Type 0
 Idle client = commit_view client ≡ None
 
--- 2. An operation's word is quiet: one line for each place that may follow, and one for the answers
+-- 2. An operation's word is quiet: one line for each point that may follow, and one for the answers
 
 module _ (shape : Shape) (client : ClientState) (attempt : Open) where
   abbrev Quiet : Stepped → Type 0
@@ -59,13 +59,13 @@ module _ (shape : Shape) (client : ClientState) (attempt : Open) where
       finding_goes shape Quiet op attempt.state passed found (λ next e. refl) (λ position e. refl)
       (λ e f. refl) (λ e answer s. refl)
 
-  pub reading_quiet : (op : Op) (position : ℕ) (place : ReadPlace) (found : ℕ)
+  pub reading_quiet : (op : Op) (position : ℕ) (place : ReadPoint) (found : ℕ)
       → Quiet (txn_after shape attempt.state (Reading op position place) found)
   reading_quiet op position place found =
       reading_goes shape Quiet op attempt.state position place found (λ next e. refl)
       (λ value e f. refl) (λ value e answer s. refl) (λ worker entry horizon e. refl) (λ e. refl)
 
-  pub claiming_quiet : (op : Op) (place : ClaimKeyPlace) (found : ℕ)
+  pub claiming_quiet : (op : Op) (place : ClaimKeyPoint) (found : ℕ)
       → Quiet (txn_after shape attempt.state (Claiming op place) found)
   claiming_quiet op place found =
       claiming_goes shape Quiet op attempt.state place found (λ next e. refl) (λ e. refl)
@@ -75,12 +75,12 @@ module _ (shape : Shape) (client : ClientState) (attempt : Open) where
   ask_quiet op = ask_goes shape Quiet op attempt.state (λ e f. refl) (λ e f. refl) (λ e f. refl) (λ e f. refl)
 
   -- a commit that copies keeps its records and its locks
-  pub copying_keeps : (nth before found : ℕ) (old : List ℕ) (at : CopyPlace)
-      → (next : CommitPlace) × (commit_view
+  pub copying_keeps : (nth before found : ℕ) (old : List ℕ) (at : CopyPoint)
+      → (next : CommitPoint) × (commit_view
       (stepped client attempt before (txn_after shape attempt.state (Committing (Copying nth old at)) found))
       ≡ Some record { records = attempt.state.records; held = attempt.state.held; place = next })
   copying_keeps nth before found old at =
-      on_copy_goes (λ step. (next : CommitPlace) × (commit_view (stepped client attempt before step)
+      on_copy_goes (λ step. (next : CommitPoint) × (commit_view (stepped client attempt before step)
       ≡ Some record { records = attempt.state.records; held = attempt.state.held; place = next })) attempt.state nth
       old _
       (λ place e. (Copying nth old place, refl))
@@ -88,11 +88,11 @@ module _ (shape : Shape) (client : ClientState) (attempt : Open) where
 
 -- 3. So is each word of a client that commits nothing
 
-abbrev in_txn : ClientState → TxnPlace → Option Open → ClientState
+abbrev in_txn : ClientState → TxnPoint → Option Open → ClientState
 in_txn client place txn = record client { call = Some (At (InTxn place)); txn = txn }
 
 module _ (shape : Shape) where
-  take_quiet : (client : ClientState) (place : TxnPlace) (txn : Option Open) (found : ℕ)
+  take_quiet : (client : ClientState) (place : TxnPoint) (txn : Option Open) (found : ℕ)
       → Idle (in_txn client place txn) → Idle (take_txn shape (in_txn client place txn) place txn found)
   take_quiet client place None found idle = idle
   take_quiet client (Finding op passed) (Some attempt) found idle =
@@ -103,7 +103,7 @@ module _ (shape : Shape) where
       claiming_quiet shape (in_txn client (Claiming op place) (Some attempt)) attempt op place found
   take_quiet client (Committing place) (Some attempt) found idle = absurd (cc)
 
-  scan_quiet : (client : ClientState) (table low high : ℕ) (place : ScanPlace) (txn : Option Open) (found : ℕ)
+  scan_quiet : (client : ClientState) (table low high : ℕ) (place : ScanPoint) (txn : Option Open) (found : ℕ)
       → Idle (take_scan shape (record client { call = Some (At (Scanning table low high place)); txn = txn }) table
       low high place txn found)
   scan_quiet client table low high place None found = refl
@@ -111,7 +111,7 @@ module _ (shape : Shape) where
       scan_goes Idle shape _ attempt table low high _ _ (λ next e. refl) (λ key e. refl)
       (λ rows e. refl) (λ rows. refl) (λ outcome end e. refl)
 
-  pub word_quiet : (client : ClientState) (place : CallPlace) (found : ℕ)
+  pub word_quiet : (client : ClientState) (place : CallPoint) (found : ℕ)
       → Idle (go client place) → Idle (client_after shape (go client place) found)
   word_quiet client (Beginning txn nth at) found idle =
       begin_goes Idle shape (go client (Beginning txn nth at)) txn nth _ (λ next e. refl) (λ seen e. refl)

@@ -14,38 +14,38 @@ use Rattle.si_model.specs.Rows.{key_at, writes_key}
 use Rattle.nam_verbs.specs.declared.now.Now.{Now}
 use Rattle.nam_verbs.specs.declared.now.Now.TheVariants.{At, Over}
 use Rattle.nam_catalog.specs.declared.shape.Shape.{Shape}
-use Rattle.nam_vector.specs.declared.snap.SnapPlace.{SnapPlace}
+use Rattle.nam_vector.specs.declared.snap.SnapPoint.{SnapPoint}
 use Rattle.nam_vector.specs.declared.snap.SnapEnd.{SnapEnd}
 use Rattle.nam_vector.specs.declared.snap.SnapEnd.TheVariants as snap_end
 use Rattle.nam_calls.specs.declared.index.FindEnd.{FindEnd}
-use Rattle.nam_calls.specs.declared.horizon.CollectPlace.{CollectPlace}
-use Rattle.nam_calls.specs.declared.mover.MovePlace.{MovePlace}
+use Rattle.nam_calls.specs.declared.horizon.CollectPoint.{CollectPoint}
+use Rattle.nam_calls.specs.declared.mover.MovePoint.{MovePoint}
 use Rattle.nam_calls.specs.declared.mover.MoveAnswer.{MoveAnswer}
 use Rattle.nam_calls.specs.declared.index.FindEnd.TheVariants as found_key
 use Rattle.nam_calls.specs.declared.mover.MoveAnswer.TheVariants as move_end
 use Rattle.nam_protocol.specs.Txn.{Stepped}
 use Rattle.nam_protocol.specs.declared.txn.TxnCall.{TxnCall}
-use Rattle.nam_protocol.specs.declared.txn.TxnPlace.{TxnPlace}
-use Rattle.nam_protocol.specs.declared.txn.TxnPlace.TheVariants.{Committing}
-use Rattle.nam_protocol.specs.declared.txn.CommitPlace.TheVariants.{Freeing}
+use Rattle.nam_protocol.specs.declared.txn.TxnPoint.{TxnPoint}
+use Rattle.nam_protocol.specs.declared.txn.TxnPoint.TheVariants.{Committing}
+use Rattle.nam_protocol.specs.declared.txn.CommitPoint.TheVariants.{Freeing}
 use Rattle.nam_protocol.specs.declared.txn.TxnAnswer.{TxnAnswer}
-use Rattle.nam_protocol.specs.declared.scan.ScanPlace.{ScanPlace}
+use Rattle.nam_protocol.specs.declared.scan.ScanPoint.{ScanPoint}
 use Rattle.nam_protocol.specs.declared.scan.ScanAnswer.{ScanAnswer}
 use Rattle.nam_protocol.specs.declared.client.Call.{Call}
 use Rattle.nam_protocol.specs.declared.client.Call.TheVariants.{Begin, Txn, Scan, Tidy, Collect}
 use Rattle.nam_protocol.specs.declared.client.Answer.{Answer}
-use Rattle.nam_protocol.specs.declared.client.CallPlace.{CallPlace}
-use Rattle.nam_protocol.specs.declared.client.CallPlace.TheVariants.{Beginning, InTxn, Scanning, Seeking, Moving}
-use Rattle.nam_protocol.specs.declared.client.CallPlace.TheVariants.{Snapping, Collecting}
+use Rattle.nam_protocol.specs.declared.client.CallPoint.{CallPoint}
+use Rattle.nam_protocol.specs.declared.client.CallPoint.TheVariants.{Beginning, InTxn, Scanning, Seeking, Moving}
+use Rattle.nam_protocol.specs.declared.client.CallPoint.TheVariants.{Snapping, Collecting}
 use Rattle.nam_protocol.specs.declared.client.Open.{Open}
 use Rattle.nam_protocol.specs.declared.client.ClientState.{ClientState}
 use Rattle.nam_protocol.specs.Operations.{own_value}
 use Rattle.nam_protocol.specs.TxnCalls.{taken_now}
 use Rattle.nam_protocol.specs.Scan.{scan_skip, scan_read}
 use Rattle.nam_protocol.specs.Log.{with_event, with_reads, with_locks, with_writes, with_snap}
-use Rattle.nam_protocol.specs.Telling.{read_ended, items_of, new_locks, committed, on_answer, on_call, stepped}
-use Rattle.nam_protocol.specs.ScanCall.{gathered, on_skip, on_key, on_scan}
-use Rattle.nam_protocol.specs.Client.{counted, ask_txn, ask_scan, client_ask, on_begin, on_seek, on_move, on_snap}
+use Rattle.nam_protocol.specs.Telling.{read_ended, items_of, new_locks, with_commit, on_answer, on_call, stepped}
+use Rattle.nam_protocol.specs.ScanCall.{with_gathered, on_skip, on_key, on_scan}
+use Rattle.nam_protocol.specs.Client.{with_call, ask_txn, ask_scan, client_ask, on_begin, on_seek, on_move, on_snap}
 use Rattle.nam_protocol.specs.Client.{on_collect, take_txn, take_scan, call_after, after_call, client_after}
 use Rattle.nam_protocol.specs.Client.{abandon_open, client_abandon}
 use Rattle.nam_protocol.specs.CutClient.{cut_in_txn, cut_open, left_open, cut_move, cut_call, closed_call}
@@ -138,7 +138,7 @@ snap_grows log seen =
 -- 2. What a transaction's call lists
 
 committed_grows : (client : ClientState) (attempt : Open) (number : ℕ)
-    → Grows client.log (committed client attempt number).log
+    → Grows client.log (with_commit client attempt number).log
 committed_grows client attempt number =
     grows_trans client.log (with_event client.log _) _ (event_grows client.log _)
     (writes_grow (with_event client.log _) attempt.state.writes)
@@ -161,7 +161,7 @@ answer_grows client attempt (txn_answer.NoSpace table) = read_ended_grows client
 answer_grows client attempt txn_answer.Declined = read_ended_grows client attempt (items_of attempt.state.read) _
 answer_grows client attempt answer = event_grows client.log _
 
-on_call_grows : (client : ClientState) (attempt : Open) (call : Now TxnPlace TxnAnswer)
+on_call_grows : (client : ClientState) (attempt : Open) (call : Now TxnPoint TxnAnswer)
     → Grows client.log (on_call client attempt call).log
 on_call_grows client attempt (At place) = grows_same client.log
 on_call_grows client attempt (Over answer) = answer_grows client attempt answer
@@ -178,22 +178,22 @@ stepped_grows client attempt before step =
 -- 3. What a scan lists
 
 gathered_grows : (client : ClientState) (position key : ℕ) (value : Option (List ℕ))
-    → Grows client.log (gathered client position key value).log
+    → Grows client.log (with_gathered client position key value).log
 gathered_grows client position key None = grows_same client.log
 gathered_grows client position key (Some value) = grows_same client.log
 
 module _ (shape : Shape) where
-  skip_grows : (client : ClientState) (attempt : Open) (table low high : ℕ) (now : Now ScanPlace ScanAnswer)
+  skip_grows : (client : ClientState) (attempt : Open) (table low high : ℕ) (now : Now ScanPoint ScanAnswer)
       → Grows client.log (on_skip client attempt table low high now).log
   skip_grows client attempt table low high (At place) = grows_same client.log
   skip_grows client attempt table low high (Over end) = reads_grow client.log _
 
   gathered_skip_grows : (client : ClientState) (attempt : Open) (table low high position key : ℕ)
       (value : Option (List ℕ))
-      (now : Now ScanPlace ScanAnswer)
-      → Grows client.log (on_skip (gathered client position key value) attempt table low high now).log
+      (now : Now ScanPoint ScanAnswer)
+      → Grows client.log (on_skip (with_gathered client position key value) attempt table low high now).log
   gathered_skip_grows client attempt table low high position key value now =
-      let more = gathered client position key value in
+      let more = with_gathered client position key value in
       grows_trans client.log more.log _ (gathered_grows client position key value)
       (skip_grows more attempt table low high now)
 
@@ -206,7 +206,7 @@ module _ (shape : Shape) where
       (scan_skip shape table position))
       (λ e. skip_grows client attempt table low high (scan_read position key))
 
-  scan_grows : (client : ClientState) (attempt : Open) (table low high position : ℕ) (now : Now ScanPlace ScanAnswer)
+  scan_grows : (client : ClientState) (attempt : Open) (table low high position : ℕ) (now : Now ScanPoint ScanAnswer)
       → Grows client.log (on_scan shape client attempt table low high position now).log
   scan_grows client attempt table low high position (At place) = grows_same client.log
   scan_grows client attempt table low high position (Over (scan_answer.Key key)) =
@@ -220,7 +220,7 @@ module _ (shape : Shape) where
 
   -- 4. What the other calls list
 
-  begin_grows : (client : ClientState) (txn nth : ℕ) (now : Now SnapPlace SnapEnd)
+  begin_grows : (client : ClientState) (txn nth : ℕ) (now : Now SnapPoint SnapEnd)
       → Grows client.log (on_begin shape client txn nth now).log
   begin_grows client txn nth (At place) = grows_same client.log
   begin_grows client txn nth (Over (snap_end.Done seen)) = snap_grows client.log seen
@@ -232,7 +232,7 @@ module _ (shape : Shape) where
   seek_grows client table key (Over (found_key.At position)) = grows_same client.log
   seek_grows client table key (Over found_key.Absent) = grows_same client.log
 
-  move_grows : (client : ClientState) (table key position bucket : ℕ) (now : Now MovePlace MoveAnswer)
+  move_grows : (client : ClientState) (table key position bucket : ℕ) (now : Now MovePoint MoveAnswer)
       → Grows client.log (on_move shape client table key position bucket now).log
   move_grows client table key position bucket (At place) = grows_same client.log
   move_grows client table key position bucket (Over move_end.Nothing) = grows_same client.log
@@ -240,30 +240,30 @@ module _ (shape : Shape) where
   move_grows client table key position bucket (Over (move_end.Back stamp)) = event_grows client.log _
   move_grows client table key position bucket (Over (move_end.NoRoom full)) = event_grows client.log _
 
-  collect_snap_grows : (client : ClientState) (bucket : ℕ) (now : Now SnapPlace SnapEnd)
+  collect_snap_grows : (client : ClientState) (bucket : ℕ) (now : Now SnapPoint SnapEnd)
       → Grows client.log (on_snap shape client bucket now).log
   collect_snap_grows client bucket (At place) = grows_same client.log
   collect_snap_grows client bucket (Over (snap_end.Done seen)) = snap_grows client.log seen
   collect_snap_grows client bucket (Over (snap_end.Again worker first second)) = event_grows client.log _
 
-  collect_grows : (client : ClientState) (bucket prefix : ℕ) (seen : List ℕ) (now : Now CollectPlace (List ℕ))
+  collect_grows : (client : ClientState) (bucket prefix : ℕ) (seen : List ℕ) (now : Now CollectPoint (List ℕ))
       → Grows client.log (on_collect shape client bucket prefix seen now).log
   collect_grows client bucket prefix seen (At place) = grows_same client.log
   collect_grows client bucket prefix seen (Over known) = event_grows client.log _
 
   -- 5. A word is taken
 
-  take_txn_grows : (client : ClientState) (at : TxnPlace) (txn : Option Open) (found : ℕ)
+  take_txn_grows : (client : ClientState) (at : TxnPoint) (txn : Option Open) (found : ℕ)
       → Grows client.log (take_txn shape client at txn found).log
   take_txn_grows client at None found = grows_same client.log
   take_txn_grows client at (Some attempt) found = stepped_grows client attempt _ _
 
-  take_scan_grows : (client : ClientState) (table low high : ℕ) (at : ScanPlace) (txn : Option Open) (found : ℕ)
+  take_scan_grows : (client : ClientState) (table low high : ℕ) (at : ScanPoint) (txn : Option Open) (found : ℕ)
       → Grows client.log (take_scan shape client table low high at txn found).log
   take_scan_grows client table low high at None found = grows_same client.log
   take_scan_grows client table low high at (Some attempt) found = scan_grows client attempt table low high _ _
 
-  call_grows : (client : ClientState) (place : CallPlace) (found : ℕ)
+  call_grows : (client : ClientState) (place : CallPoint) (found : ℕ)
       → Grows client.log (call_after shape client place found).log
   call_grows client (Beginning txn nth at) found = begin_grows client txn nth _
   call_grows client (InTxn at) found = take_txn_grows client at client.txn found
@@ -273,7 +273,7 @@ module _ (shape : Shape) where
   call_grows client (Snapping bucket at) found = collect_snap_grows client bucket _
   call_grows client (Collecting bucket prefix seen at) found = collect_grows client bucket prefix seen _
 
-  after_call_grows : (client : ClientState) (call : Option (Now CallPlace Answer)) (found : ℕ)
+  after_call_grows : (client : ClientState) (call : Option (Now CallPoint Answer)) (found : ℕ)
       → Grows client.log (after_call shape client call found).log
   after_call_grows client None found = grows_same client.log
   after_call_grows client (Some (At place)) found = call_grows client place found
@@ -287,7 +287,7 @@ module _ (shape : Shape) where
   ask_txn_grows : (client : ClientState) (call : TxnCall) (txn : Option Open)
       → Grows client.log (ask_txn shape client call txn).log
   ask_txn_grows client call None = grows_same client.log
-  ask_txn_grows client call (Some attempt) = stepped_grows client (counted attempt call) 0 _
+  ask_txn_grows client call (Some attempt) = stepped_grows client (with_call attempt call) 0 _
 
   ask_scan_grows : (client : ClientState) (table low high : ℕ) (txn : Option Open)
       → Grows client.log (ask_scan shape client table low high txn).log
@@ -311,18 +311,18 @@ abandon_grows client = abandon_open_grows client client.txn
 -- 7. The client is closed
 
 tail_cut_grows : (client : ClientState) (attempt : Open)
-    → Grows client.log (with_event (committed client attempt (attempt.state.last + 1)).log TailCut)
+    → Grows client.log (with_event (with_commit client attempt (attempt.state.last + 1)).log TailCut)
 tail_cut_grows client attempt =
-    let done = committed client attempt (attempt.state.last + 1) in
+    let done = with_commit client attempt (attempt.state.last + 1) in
     grows_trans client.log done.log _ (committed_grows client attempt (attempt.state.last + 1))
     (event_grows done.log TailCut)
 
-cut_in_txn_grows : (client : ClientState) (attempt : Open) (at : TxnPlace)
+cut_in_txn_grows : (client : ClientState) (attempt : Open) (at : TxnPoint)
     → Grows client.log (cut_in_txn client attempt at).log
 cut_in_txn_grows client attempt (Committing (Freeing nth)) = tail_cut_grows client attempt
 cut_in_txn_grows client attempt at = event_grows client.log _
 
-cut_open_grows : (client : ClientState) (at : TxnPlace) (txn : Option Open)
+cut_open_grows : (client : ClientState) (at : TxnPoint) (txn : Option Open)
     → Grows client.log (cut_open client at txn).log
 cut_open_grows client at None = grows_same client.log
 cut_open_grows client at (Some attempt) = cut_in_txn_grows client attempt at
@@ -337,7 +337,7 @@ cut_move_grows client table key bucket None = event_grows client.log _
 cut_move_grows client table key bucket (Some stamp) = event_grows client.log _
 
 module _ (shape : Shape) where
-  cut_call_grows : (client : ClientState) (place : CallPlace) → Grows client.log (cut_call shape client place).log
+  cut_call_grows : (client : ClientState) (place : CallPoint) → Grows client.log (cut_call shape client place).log
   cut_call_grows client (Beginning txn nth at) = event_grows client.log _
   cut_call_grows client (InTxn at) = cut_open_grows client at client.txn
   cut_call_grows client (Scanning table low high at) = left_open_grows client client.txn
@@ -346,7 +346,7 @@ module _ (shape : Shape) where
   cut_call_grows client (Snapping bucket at) = event_grows client.log _
   cut_call_grows client (Collecting bucket prefix seen at) = event_grows client.log _
 
-  closed_call_grows : (client : ClientState) (call : Option (Now CallPlace Answer))
+  closed_call_grows : (client : ClientState) (call : Option (Now CallPoint Answer))
       → Grows client.log (closed_call shape client call).log
   closed_call_grows client None = left_open_grows client client.txn
   closed_call_grows client (Some (At place)) = cut_call_grows client place

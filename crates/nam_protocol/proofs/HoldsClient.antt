@@ -7,30 +7,30 @@ use Rattle.nam_catalog.specs.declared.shape.Shape.{Shape}
 use Rattle.nam_catalog.specs.Greatest.{greatest_number}
 use Rattle.nam_layout.specs.Place.{cells_by, cells_of, place_of}
 use Rattle.nam_vector.specs.declared.snap.SnapEnd.{SnapEnd}
-use Rattle.nam_vector.specs.declared.snap.SnapPlace.{SnapPlace}
-use Rattle.nam_calls.specs.declared.horizon.CollectPlace.{CollectPlace}
+use Rattle.nam_vector.specs.declared.snap.SnapPoint.{SnapPoint}
+use Rattle.nam_calls.specs.declared.horizon.CollectPoint.{CollectPoint}
 use Rattle.nam_calls.specs.declared.index.FindEnd.{FindEnd}
 use Rattle.nam_calls.specs.declared.mover.MoveAnswer.{MoveAnswer}
-use Rattle.nam_calls.specs.declared.mover.MovePlace.{MovePlace}
+use Rattle.nam_calls.specs.declared.mover.MovePoint.{MovePoint}
 use Rattle.nam_calls.specs.Holds.{AreWords, CollectHolds, MoveHolds, SnapEndHolds, SnapHolds, IsWord, HoldsNow}
 use Rattle.nam_calls.proofs.HoldsCalls.{collect_holds, move_holds, snap_holds}
 use Rattle.nam_protocol.specs.declared.client.Answer.{Answer}
 use Rattle.nam_protocol.specs.declared.client.Call.{Call}
-use Rattle.nam_protocol.specs.declared.client.CallPlace.{CallPlace}
-use Rattle.nam_protocol.specs.declared.client.CallPlace.TheVariants.{Beginning, InTxn, Scanning, Seeking, Moving}
-use Rattle.nam_protocol.specs.declared.client.CallPlace.TheVariants.{Snapping, Collecting}
+use Rattle.nam_protocol.specs.declared.client.CallPoint.{CallPoint}
+use Rattle.nam_protocol.specs.declared.client.CallPoint.TheVariants.{Beginning, InTxn, Scanning, Seeking, Moving}
+use Rattle.nam_protocol.specs.declared.client.CallPoint.TheVariants.{Snapping, Collecting}
 use Rattle.nam_protocol.specs.declared.client.ClientState.{ClientState}
 use Rattle.nam_protocol.specs.declared.client.Open.{Open}
-use Rattle.nam_protocol.specs.declared.scan.ScanPlace.{ScanPlace}
+use Rattle.nam_protocol.specs.declared.scan.ScanPoint.{ScanPoint}
 use Rattle.nam_protocol.specs.declared.txn.TxnAnswer.{TxnAnswer}
 use Rattle.nam_protocol.specs.declared.txn.TxnCall.{TxnCall}
-use Rattle.nam_protocol.specs.declared.txn.TxnPlace.{TxnPlace}
+use Rattle.nam_protocol.specs.declared.txn.TxnPoint.{TxnPoint}
 use Rattle.nam_protocol.specs.Client.{abandon_open, after_call, ask_scan, ask_txn, call_after, client_after, client_ask}
-use Rattle.nam_protocol.specs.Client.{counted, take_scan, take_txn, on_begin, on_move, on_snap, on_seek, on_collect}
+use Rattle.nam_protocol.specs.Client.{with_call, take_scan, take_txn, on_begin, on_move, on_snap, on_seek, on_collect}
 use Rattle.nam_protocol.specs.CutClient.{client_cut}
 use Rattle.nam_protocol.specs.HoldsWords.{CallHolds, CallPlaceHolds, OpenHolds, OpenPlaceHolds, RunHolds, StateHolds}
 use Rattle.nam_protocol.specs.HoldsWords.{HoldsWords, StepHolds, TxnCallHolds, TxnEndHolds, TxnPlaceHolds}
-use Rattle.nam_protocol.specs.Telling.{answered, stepped, on_answer}
+use Rattle.nam_protocol.specs.Telling.{with_answer, stepped, on_answer}
 use Rattle.nam_protocol.specs.Txn.{Stepped}
 use Rattle.nam_protocol.specs.WordsLaw.{ClientKeepsWords}
 use Rattle.nam_protocol.proofs.GoesClient.{begin_goes, seek_goes, move_goes, snap_goes, collect_goes, scan_goes}
@@ -48,9 +48,9 @@ module _ (shape : Shape) where
   answered_holds : (client : ClientState) (attempt : Open) (answer : TxnAnswer)
       → client.last ≤ greatest_number shape.form → StateHolds shape.form attempt.state
       → TxnEndHolds shape.form answer
-      → Holds (answered (on_answer client attempt answer) (client_answer.Txn answer))
+      → Holds (with_answer (on_answer client attempt answer) (client_answer.Txn answer))
   answered_holds client attempt answer last state ends =
-      on_answer_goes (λ c. Holds (answered c (client_answer.Txn answer))) client attempt answer
+      on_answer_goes (λ c. Holds (with_answer c (client_answer.Txn answer))) client attempt answer
       (λ e. record { last_is = last; opened = state; running = tt })
       (λ outcome e. record { last_is = last; opened = tt; running = tt })
       (λ outcome e. record { last_is = last; opened = tt; running = tt })
@@ -71,14 +71,14 @@ module _ (shape : Shape) where
 
   -- 2. A word is taken
 
-  take_txn_holds : (client : ClientState) (at : TxnPlace) (opened : Option Open) (found : ℕ) → Holds client
+  take_txn_holds : (client : ClientState) (at : TxnPoint) (opened : Option Open) (found : ℕ) → Holds client
       → OpenHolds shape.form opened → OpenPlaceHolds shape.form opened at → IsWord found
       → Holds (take_txn shape client at opened found)
   take_txn_holds client at None found h o p is = h
   take_txn_holds client at (Some attempt) found h o p is =
       stepped_holds client attempt _ _ h.last_is (txn_holds shape attempt.state o at found p is)
 
-  take_scan_holds : (client : ClientState) (table low high : ℕ) (at : ScanPlace) (opened : Option Open) (found : ℕ)
+  take_scan_holds : (client : ClientState) (table low high : ℕ) (at : ScanPoint) (opened : Option Open) (found : ℕ)
       → Holds client → OpenHolds shape.form opened → Holds (take_scan shape client table low high at opened found)
   take_scan_holds client table low high at None found h o = h
   take_scan_holds client table low high at (Some attempt) found h o =
@@ -90,7 +90,7 @@ module _ (shape : Shape) where
       (λ outcome end e. record { last_is = h.last_is; opened = tt; running = tt })
 
   module _ (client : ClientState) (h : Holds client) where
-    begin_holds : (txn nth : ℕ) (now : Now SnapPlace SnapEnd) → Holds (on_begin shape client txn nth now)
+    begin_holds : (txn nth : ℕ) (now : Now SnapPoint SnapEnd) → Holds (on_begin shape client txn nth now)
     begin_holds txn nth now =
         begin_goes Holds shape client txn nth now
         (λ next e. record { last_is = h.last_is; opened = h.opened; running = tt })
@@ -108,7 +108,7 @@ module _ (shape : Shape) where
         (λ position e. record { last_is = h.last_is; opened = h.opened; running = tt })
         (λ e. record { last_is = h.last_is; opened = h.opened; running = tt })
 
-    on_move_holds : (table key position bucket : ℕ) (now : Now MovePlace MoveAnswer) → HoldsNow MoveHolds Any now
+    on_move_holds : (table key position bucket : ℕ) (now : Now MovePoint MoveAnswer) → HoldsNow MoveHolds Any now
         → Holds (on_move shape client table key position bucket now)
     on_move_holds table key position bucket now n =
         move_goes Holds shape client table key position bucket now
@@ -118,7 +118,7 @@ module _ (shape : Shape) where
         (λ e. record { last_is = h.last_is; opened = h.opened; running = tt })
         (λ full e. record { last_is = h.last_is; opened = h.opened; running = tt })
 
-    on_snap_holds : (bucket : ℕ) (now : Now SnapPlace SnapEnd) → HoldsNow SnapHolds SnapEndHolds now
+    on_snap_holds : (bucket : ℕ) (now : Now SnapPoint SnapEnd) → HoldsNow SnapHolds SnapEndHolds now
         → Holds (on_snap shape client bucket now)
     on_snap_holds bucket now n =
         snap_goes Holds shape client bucket now
@@ -134,7 +134,7 @@ module _ (shape : Shape) where
         })
         (λ worker first second e. record { last_is = h.last_is; opened = h.opened; running = tt })
 
-    on_collect_holds : (bucket prefix : ℕ) (seen : List ℕ) (now : Now CollectPlace (List ℕ)) → AreWords seen
+    on_collect_holds : (bucket prefix : ℕ) (seen : List ℕ) (now : Now CollectPoint (List ℕ)) → AreWords seen
         → HoldsNow CollectHolds Any now → Holds (on_collect shape client bucket prefix seen now)
     on_collect_holds bucket prefix seen now s n =
         collect_goes Holds shape client bucket prefix seen now
@@ -145,7 +145,7 @@ module _ (shape : Shape) where
         })
         (λ known e. record { last_is = h.last_is; opened = h.opened; running = tt })
 
-    call_holds : (place : CallPlace) (found : ℕ) → CallPlaceHolds shape.form client.txn place → IsWord found
+    call_holds : (place : CallPoint) (found : ℕ) → CallPlaceHolds shape.form client.txn place → IsWord found
         → Holds (call_after shape client place found)
     call_holds (Beginning txn nth at) found p is = begin_holds txn nth _
     call_holds (InTxn at) found p is = take_txn_holds client at client.txn found h h.opened p is
@@ -160,7 +160,7 @@ module _ (shape : Shape) where
         on_collect_holds bucket prefix seen _ p.0
         (collect_holds (cells_of shape bucket) seen shape.workers at found p.1 is)
 
-    now_holds : (call : Option (Now CallPlace Answer)) (found : ℕ) → RunHolds shape.form client.txn call → IsWord found
+    now_holds : (call : Option (Now CallPoint Answer)) (found : ℕ) → RunHolds shape.form client.txn call → IsWord found
         → Holds (after_call shape client call found)
     now_holds None found r is = h
     now_holds (Some (At place)) found r is = call_holds place found r is
@@ -175,7 +175,7 @@ module _ (shape : Shape) where
         → Holds (ask_txn shape client asked opened)
     ask_txn_holds asked None o c = h
     ask_txn_holds asked (Some attempt) o c =
-        stepped_holds client (counted attempt asked) 0 _ h.last_is (txn_ask_holds shape attempt.state o asked c)
+        stepped_holds client (with_call attempt asked) 0 _ h.last_is (txn_ask_holds shape attempt.state o asked c)
 
     ask_scan_holds : (table low high : ℕ) (opened : Option Open) → OpenHolds shape.form opened
         → Holds (ask_scan shape client table low high opened)
@@ -189,8 +189,8 @@ module _ (shape : Shape) where
     ask_holds (call.Tidy table key) c = record { last_is = h.last_is; opened = h.opened; running = tt }
     ask_holds (call.Collect bucket) c = record { last_is = h.last_is; opened = h.opened; running = tt }
 
-    -- a place of the transaction that is no longer open writes nothing
-    left_running : (call : Option (Now CallPlace Answer)) → RunHolds shape.form client.txn call
+    -- a point of the transaction that is no longer open writes nothing
+    left_running : (call : Option (Now CallPoint Answer)) → RunHolds shape.form client.txn call
         → RunHolds shape.form None call
     left_running None r = tt
     left_running (Some (Over answer)) r = tt

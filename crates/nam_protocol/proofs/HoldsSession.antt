@@ -18,8 +18,8 @@ use Rattle.nam_calls.proofs.HoldsWords.{words_at, words_set}
 use Rattle.nam_protocol.specs.declared.client.Answer.{Answer}
 use Rattle.nam_protocol.specs.declared.client.Call.{Call}
 use Rattle.nam_protocol.specs.declared.client.ClientState.{ClientState}
-use Rattle.nam_protocol.specs.declared.session.DriverPlace.TheVariants.{ToAsk, ToBegin, ToCollect, ToTidy}
-use Rattle.nam_protocol.specs.declared.session.DriverPlace.{DriverPlace}
+use Rattle.nam_protocol.specs.declared.session.DriverPoint.TheVariants.{ToAsk, ToBegin, ToCollect, ToTidy}
+use Rattle.nam_protocol.specs.declared.session.DriverPoint.{DriverPoint}
 use Rattle.nam_protocol.specs.declared.session.DriverState.{DriverState}
 use Rattle.nam_protocol.specs.declared.session.Job.{Job}
 use Rattle.nam_protocol.specs.declared.session.SessionState.{SessionState}
@@ -42,7 +42,7 @@ op_asked [] nth all = tt
 op_asked (op ∷ ops) zero all = all.0
 op_asked (op ∷ ops) (suc nth) all = op_asked ops nth all.1
 
-place_asked : (job : Job) (nth : ℕ) (place : DriverPlace) → JobHolds job → CallHolds (place_call job nth place)
+place_asked : (job : Job) (nth : ℕ) (place : DriverPoint) → JobHolds job → CallHolds (place_call job nth place)
 place_asked job nth ToBegin all = tt
 place_asked job nth (ToAsk op) all = op_asked job.ops op all
 place_asked job nth (ToTidy keys key again retry) all = tt

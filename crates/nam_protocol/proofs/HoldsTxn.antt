@@ -9,7 +9,7 @@ use Rattle.si_model.specs.declared.op.Op.{Op}
 use Rattle.si_model.specs.declared.op.Op.TheVariants.{Get, Put, Add, Del, Need, Guard, Scan}
 use Rattle.si_model.specs.declared.row.Item.{Item}
 use Rattle.si_model.specs.declared.row.Key.{Key}
-use Rattle.si_model.specs.Evaluation.{can_change, field_of, op_key, writes_after, passes, changed, with_field}
+use Rattle.si_model.specs.Evaluation.{can_change, field_of, op_key, writes_after, passes, new_number, with_field}
 use Rattle.si_model.specs.Operations.{op_reads}
 use Rattle.si_model.specs.Rows.{item_at, item_key, key_at, same_key}
 use Rattle.nam_verbs.specs.declared.now.Now.{Now}
@@ -19,11 +19,11 @@ use Rattle.nam_catalog.specs.declared.shape.Shape.{Shape}
 use Rattle.nam_catalog.specs.Greatest.{greatest_number}
 use Rattle.nam_catalog.specs.Tables.{widths_of}
 use Rattle.nam_calls.specs.declared.index.ClaimKeyEnd.{ClaimKeyEnd}
-use Rattle.nam_calls.specs.declared.index.ClaimKeyPlace.{ClaimKeyPlace}
+use Rattle.nam_calls.specs.declared.index.ClaimKeyPoint.{ClaimKeyPoint}
 use Rattle.nam_calls.specs.declared.index.FindEnd.{FindEnd}
 use Rattle.nam_calls.specs.declared.lock.LockEnd.{LockEnd}
-use Rattle.nam_calls.specs.declared.lock.LockPlace.{LockPlace}
-use Rattle.nam_calls.specs.declared.reading.ReadPlace.{ReadPlace}
+use Rattle.nam_calls.specs.declared.lock.LockPoint.{LockPoint}
+use Rattle.nam_calls.specs.declared.reading.ReadPoint.{ReadPoint}
 use Rattle.nam_calls.specs.declared.reading.ReadingEnd.{ReadingEnd}
 use Rattle.nam_calls.specs.Holds.{AreWords, HasWords, HoldsNow, LockEndHolds, LockHolds, ReadHolds, ReadingHolds}
 use Rattle.nam_calls.specs.Holds.{IsWord}
@@ -35,18 +35,18 @@ use Rattle.nam_calls.specs.declared.index.ClaimKeyEnd.TheVariants as claimed_key
 use Rattle.nam_calls.specs.declared.index.FindEnd.TheVariants as found_key
 use Rattle.nam_calls.specs.declared.lock.LockEnd.TheVariants as lock_end
 use Rattle.nam_calls.specs.declared.reading.ReadingEnd.TheVariants as read_end
-use Rattle.nam_protocol.specs.declared.txn.CommitPlace.{CommitPlace}
-use Rattle.nam_protocol.specs.declared.txn.CommitPlace.TheVariants.{Checking, Copying, Freeing, Installing, Locking}
-use Rattle.nam_protocol.specs.declared.txn.CommitPlace.TheVariants.{Publishing, Returning, Saving}
+use Rattle.nam_protocol.specs.declared.txn.CommitPoint.{CommitPoint}
+use Rattle.nam_protocol.specs.declared.txn.CommitPoint.TheVariants.{Checking, Copying, Freeing, Installing, Locking}
+use Rattle.nam_protocol.specs.declared.txn.CommitPoint.TheVariants.{Publishing, Returning, Saving}
 use Rattle.nam_protocol.specs.declared.txn.TxnCall.{TxnCall}
-use Rattle.nam_protocol.specs.declared.txn.TxnPlace.{TxnPlace}
-use Rattle.nam_protocol.specs.declared.txn.TxnPlace.TheVariants.{Finding, Reading, Claiming, Committing}
+use Rattle.nam_protocol.specs.declared.txn.TxnPoint.{TxnPoint}
+use Rattle.nam_protocol.specs.declared.txn.TxnPoint.TheVariants.{Finding, Reading, Claiming, Committing}
 use Rattle.nam_protocol.specs.declared.txn.TxnState.{TxnState}
 use Rattle.nam_protocol.specs.Commit.{ask_commit, commit_after, next_free, on_lock, on_words, places, record_place}
 use Rattle.nam_protocol.specs.HoldsWords.{CommitPlaceHolds, ItemHolds, OpHolds, ResultHolds, StateHolds, StepHolds}
 use Rattle.nam_protocol.specs.HoldsWords.{TxnCallHolds, TxnEndHolds, TxnPlaceHolds}
 use Rattle.nam_protocol.specs.Operations.{answer_of, holding, own_value, read_of, value_in}
-use Rattle.nam_protocol.specs.Txn.{Stepped, ask_op, on_find, on_read, valued, with_op, on_claim}
+use Rattle.nam_protocol.specs.Txn.{Stepped, ask_op, on_find, on_read, on_value, with_op, on_claim}
 use Rattle.nam_protocol.specs.TxnCalls.{txn_after, txn_ask}
 use Rattle.nam_protocol.proofs.FallsKeys.{all_wrote}
 use Rattle.nam_protocol.proofs.GoesCommit.{ask_commit_goes, next_free_goes, on_copy_goes, on_install_goes}
@@ -65,7 +65,7 @@ field_word : (value : Option (List ℕ)) (f : ℕ) → HasWords value → IsWord
 field_word None f has = omega arith
 field_word (Some v) f has = words_at v (f - 1) has
 
-changed_word : (up : Bool) (n by : ℕ) → IsWord n → can_change up n by ≡ true → IsWord (changed up n by)
+changed_word : (up : Bool) (n by : ℕ) → IsWord n → can_change up n by ≡ true → IsWord (new_number up n by)
 changed_word true n by is e = grind (arith, nat_tests)
 changed_word false n by is e = omega arith
 
@@ -118,7 +118,7 @@ written_holds widths (Get t k) value ws o has r all = all
 written_holds widths (Put t k v) value ws o has r all =
     all_wrote ItemHolds ws (item_at (key_at t k) (Some v)) all o.1
 written_holds widths (Add t k f up by) value ws o has r all =
-    let width = slice_index widths t in let n = changed up (field_of value f) by in
+    let width = slice_index widths t in let n = new_number up (field_of value f) by in
     all_wrote ItemHolds ws (item_at (key_at t k) (Some (with_field width value f n))) all
     (field_words width f n value has r)
 written_holds widths (Del t k) value ws o has r all = all_wrote ItemHolds ws (item_at (key_at t k) None) all tt
@@ -157,7 +157,7 @@ module _ (shape : Shape) (state : TxnState) (h : StateHolds shape.form state) (o
   unread : StateHolds shape.form (record state { read = None })
   unread = record { last_is = h.last_is; written = h.written; found = tt; headers = h.headers }
 
-  valued_holds : (value : Option (List ℕ)) → HasWords value → Holds (valued shape state op value)
+  valued_holds : (value : Option (List ℕ)) → HasWords value → Holds (on_value shape state op value)
   valued_holds value has =
       let known = knows value has in
       decided_goes shape Holds op (knowing state op value) value (λ e. (known, tt))
@@ -169,14 +169,14 @@ module _ (shape : Shape) (state : TxnState) (h : StateHolds shape.form state) (o
   on_find_holds (Over (found_key.At position)) = (h, (o, tt))
   on_find_holds (Over found_key.Absent) = valued_holds None tt
 
-  on_read_holds : (position : ℕ) (now : Now ReadPlace ReadingEnd) → HoldsNow ReadHolds ReadingHolds now
+  on_read_holds : (position : ℕ) (now : Now ReadPoint ReadingEnd) → HoldsNow ReadHolds ReadingHolds now
       → Holds (on_read shape state op position now)
   on_read_holds position (At place) n = (h, (o, n))
   on_read_holds position (Over (read_end.Got value)) n = valued_holds value n
   on_read_holds position (Over (read_end.Passed worker entry horizon)) n = (h, tt)
   on_read_holds position (Over read_end.Astray) n = (h, tt)
 
-  on_claim_holds : (now : Now ClaimKeyPlace ClaimKeyEnd) → ResultHolds op (value_in state.read)
+  on_claim_holds : (now : Now ClaimKeyPoint ClaimKeyEnd) → ResultHolds op (value_in state.read)
       → Holds (on_claim shape state op now)
   on_claim_holds (At place) r = (h, (o, r))
   on_claim_holds (Over claimed_key.NoSpace) r = (h, tt)
@@ -215,7 +215,7 @@ module _ (form : Form) (state : TxnState) (h : StateHolds form state) (room : st
   abbrev Commits : Stepped → Type 0
   Commits = StepHolds form
 
-  on_lock_holds : (now : Now LockPlace LockEnd) → HoldsNow LockHolds LockEndHolds now → Commits (on_lock state now)
+  on_lock_holds : (now : Now LockPoint LockEnd) → HoldsNow LockHolds LockEndHolds now → Commits (on_lock state now)
   on_lock_holds (At place) n = (h, (room, n))
   on_lock_holds (Over (lock_end.Held headers)) n =
       (record { last_is = h.last_is; written = h.written; found = h.found; headers = n }, (room, tt))
@@ -230,7 +230,7 @@ module _ (form : Form) (state : TxnState) (h : StateHolds form state) (room : st
   next_free_holds : (nth : ℕ) → Commits (next_free state nth)
   next_free_holds nth = next_free_goes Commits state nth (λ e. (h, omega arith)) (λ e. (h, (room, tt)))
 
-  pub commit_holds : (at : CommitPlace) (found : ℕ) → CommitPlaceHolds at → IsWord found
+  pub commit_holds : (at : CommitPoint) (found : ℕ) → CommitPlaceHolds at → IsWord found
       → Commits (commit_after state at found)
   commit_holds (Locking at) found p is = on_lock_holds _ (lock_holds (places state) state.seen at found p is)
   commit_holds (Checking at) found p is =
@@ -265,7 +265,7 @@ ask_commit_holds shape state h =
 -- 4. A transaction
 
 module _ (shape : Shape) (state : TxnState) (h : StateHolds shape.form state) where
-  pub txn_holds : (place : TxnPlace) (found : ℕ) → TxnPlaceHolds shape.form state place → IsWord found
+  pub txn_holds : (place : TxnPoint) (found : ℕ) → TxnPlaceHolds shape.form state place → IsWord found
       → StepHolds shape.form (txn_after shape state place found)
   txn_holds (Finding op passed) found p is = on_find_holds shape state h op p _
   txn_holds (Reading op position at) found p is =

@@ -22,10 +22,10 @@ use Rattle.nam_layout.specs.declared.field.Place.{Place}
 use Rattle.nam_layout.specs.Place.{cells_by, cells_of, place_of}
 use Rattle.nam_layout.proofs.ExtentLemmas.{rows_le}
 use Rattle.nam_vector.specs.Snap.{snap_verb}
-use Rattle.nam_calls.specs.declared.index.ClaimKeyPlace.TheVariants.{KeyLook, KeyTake}
-use Rattle.nam_calls.specs.declared.index.ClaimKeyPlace.{ClaimKeyPlace}
-use Rattle.nam_calls.specs.declared.record.InstallPlace.TheVariants.{InstallCount, InstallHead, InstallWord}
-use Rattle.nam_calls.specs.declared.ring.CopyPlace.TheVariants.{CopyEnding, CopyHead, CopyMark, CopyWord}
+use Rattle.nam_calls.specs.declared.index.ClaimKeyPoint.TheVariants.{KeyLook, KeyTake}
+use Rattle.nam_calls.specs.declared.index.ClaimKeyPoint.{ClaimKeyPoint}
+use Rattle.nam_calls.specs.declared.record.InstallPoint.TheVariants.{InstallCount, InstallHead, InstallWord}
+use Rattle.nam_calls.specs.declared.ring.CopyPoint.TheVariants.{CopyEnding, CopyHead, CopyMark, CopyWord}
 use Rattle.nam_calls.specs.Fits.{IsOf}
 use Rattle.nam_calls.specs.Holds.{HasWords, IsWord, WritesWord}
 use Rattle.nam_calls.specs.Index.{claim_key_verb}
@@ -36,19 +36,19 @@ use Rattle.nam_calls.proofs.HoldsCalls.{collect_word, lock_word, move_word}
 use Rattle.nam_calls.proofs.HoldsWords.{count_word, mark_word, number_word, stamped_word, value_word, words_at}
 use Rattle.nam_calls.proofs.WritesLemmas.{no_word, read_reads, slot_reads, snap_reads}
 use Rattle.nam_protocol.specs.declared.client.Answer.{Answer}
-use Rattle.nam_protocol.specs.declared.client.CallPlace.TheVariants.{Beginning, InTxn, Scanning, Seeking, Moving}
-use Rattle.nam_protocol.specs.declared.client.CallPlace.TheVariants.{Snapping, Collecting}
-use Rattle.nam_protocol.specs.declared.client.CallPlace.{CallPlace}
+use Rattle.nam_protocol.specs.declared.client.CallPoint.TheVariants.{Beginning, InTxn, Scanning, Seeking, Moving}
+use Rattle.nam_protocol.specs.declared.client.CallPoint.TheVariants.{Snapping, Collecting}
+use Rattle.nam_protocol.specs.declared.client.CallPoint.{CallPoint}
 use Rattle.nam_protocol.specs.declared.client.ClientState.{ClientState}
 use Rattle.nam_protocol.specs.declared.client.Open.{Open}
-use Rattle.nam_protocol.specs.declared.txn.CommitPlace.TheVariants.{Checking, Copying, Freeing, Installing, Locking}
-use Rattle.nam_protocol.specs.declared.txn.CommitPlace.TheVariants.{Publishing, Returning, Saving}
-use Rattle.nam_protocol.specs.declared.txn.CommitPlace.{CommitPlace}
-use Rattle.nam_protocol.specs.declared.txn.TxnPlace.TheVariants.{Finding, Reading, Claiming, Committing}
-use Rattle.nam_protocol.specs.declared.txn.TxnPlace.{TxnPlace}
+use Rattle.nam_protocol.specs.declared.txn.CommitPoint.TheVariants.{Checking, Copying, Freeing, Installing, Locking}
+use Rattle.nam_protocol.specs.declared.txn.CommitPoint.TheVariants.{Publishing, Returning, Saving}
+use Rattle.nam_protocol.specs.declared.txn.CommitPoint.{CommitPoint}
+use Rattle.nam_protocol.specs.declared.txn.TxnPoint.TheVariants.{Finding, Reading, Claiming, Committing}
+use Rattle.nam_protocol.specs.declared.txn.TxnPoint.{TxnPoint}
 use Rattle.nam_protocol.specs.declared.txn.TxnState.{TxnState}
 use Rattle.nam_protocol.specs.Client.{call_verb, open_verb, verb_of}
-use Rattle.nam_protocol.specs.ClientFits.{CallPlaceFits, ClientFits, NowFits, OpenFits, OpenPlaceFits}
+use Rattle.nam_protocol.specs.ClientFits.{CallPointFits, ClientFits, NowFits, OpenFits, OpenPointFits}
 use Rattle.nam_protocol.specs.Commit.{commit_verb, no_item, own_stamp, places, record_place, value_at}
 use Rattle.nam_protocol.specs.FieldLaw.{IsRowPlace}
 use Rattle.nam_protocol.specs.HoldsWords.{CallPlaceHolds, CommitPlaceHolds, ItemHolds, OpHolds, OpenHolds, HoldsWords}
@@ -56,7 +56,7 @@ use Rattle.nam_protocol.specs.HoldsWords.{OpenPlaceHolds, RunHolds, StateHolds, 
 use Rattle.nam_protocol.specs.Operations.{op_path}
 use Rattle.nam_protocol.specs.Scan.{scan_verb}
 use Rattle.nam_protocol.specs.TxnCalls.{txn_verb}
-use Rattle.nam_protocol.specs.TxnFits.{CommitFits, StateFits, TxnPlaceFits}
+use Rattle.nam_protocol.specs.TxnFits.{CommitFits, StateFits, TxnPointFits}
 use Rattle.nam_protocol.specs.WordsLaw.{ClientWritesLaw}
 use Rattle.nam_protocol.proofs.CallWrites.{scan_reads}
 use Rattle.nam_protocol.proofs.FieldLemmas.{placed, written_less}
@@ -88,7 +88,7 @@ module _ (shape : Shape) (limits : FitsLimits shape) where
     item_words (w ∷ ws) zero all = all.0
     item_words (w ∷ ws) (suc nth) all = item_words ws nth all.1
 
-    commit_word : (at : CommitPlace) → CommitFits shape state at → state.last < greatest_number shape.form
+    commit_word : (at : CommitPoint) → CommitFits shape state at → state.last < greatest_number shape.form
         → CommitPlaceHolds at → WritesWord (commit_verb state at)
     commit_word (Locking at) c room p = lock_word (places state) state.worker at (most state.worker fits.worker_is) p
     commit_word (Checking at) c room p =
@@ -113,7 +113,7 @@ module _ (shape : Shape) (limits : FitsLimits shape) where
 
     -- 2. A transaction
 
-    claim_key_word : (op : Op) (at : ClaimKeyPlace) → OpHolds op → WritesWord (claim_key_verb (op_path shape op) at)
+    claim_key_word : (op : Op) (at : ClaimKeyPoint) → OpHolds op → WritesWord (claim_key_verb (op_path shape op) at)
     claim_key_word op (KeyLook passed) o = tt
     claim_key_word (Get t k) (KeyTake passed) o = o
     claim_key_word (Put t k v) (KeyTake passed) o = o.0
@@ -123,7 +123,7 @@ module _ (shape : Shape) (limits : FitsLimits shape) where
     claim_key_word (Guard t k) (KeyTake passed) o = o
     claim_key_word (Scan t low high) (KeyTake passed) o = absurd o
 
-    txn_word : (at : TxnPlace) → TxnPlaceFits shape state at → TxnPlaceHolds shape.form state at
+    txn_word : (at : TxnPoint) → TxnPointFits shape state at → TxnPlaceHolds shape.form state at
         → WritesWord (txn_verb shape state at)
     txn_word (Finding op passed) f p = tt
     txn_word (Reading op position at) f p =
@@ -133,13 +133,13 @@ module _ (shape : Shape) (limits : FitsLimits shape) where
 
   -- 3. A client
 
-  open_word : (opened : Option Open) (at : TxnPlace) → OpenFits shape opened → OpenPlaceFits shape opened at
+  open_word : (opened : Option Open) (at : TxnPoint) → OpenFits shape opened → OpenPointFits shape opened at
       → OpenHolds shape.form opened → OpenPlaceHolds shape.form opened at → WritesWord (open_verb shape opened at)
   open_word None at f p h r = tt
   open_word (Some attempt) at f p h r = txn_word attempt.state f h at p r
 
-  call_word : (client : ClientState) (place : CallPlace) → OpenFits shape client.txn
-      → CallPlaceFits shape client.txn place → HoldsWords shape client → CallPlaceHolds shape.form client.txn place
+  call_word : (client : ClientState) (place : CallPoint) → OpenFits shape client.txn
+      → CallPointFits shape client.txn place → HoldsWords shape client → CallPlaceHolds shape.form client.txn place
       → WritesWord (call_verb shape client place)
   call_word client (Beginning txn nth at) f p h r = no_word (snap_verb at) (snap_reads at)
   call_word client (InTxn at) f p h r = open_word client.txn at f p h.opened r
@@ -154,7 +154,7 @@ module _ (shape : Shape) (limits : FitsLimits shape) where
   call_word client (Collecting bucket prefix seen at) f p h r = collect_word (cells_of shape bucket) seen at r.0 r.1
 
   module _ (client : ClientState) (fits : ClientFits shape client) (h : HoldsWords shape client) where
-    now_word : (verb : VerbAt Field) (call : Option (Now CallPlace Answer)) → NowFits shape client.txn call
+    now_word : (verb : VerbAt Field) (call : Option (Now CallPoint Answer)) → NowFits shape client.txn call
         → RunHolds shape.form client.txn call → verb_of shape client call ≡ Some verb → WritesWord verb
     now_word verb None f r e = absurd (none-some verb e)
     now_word verb (Some (Over answer)) f r e = absurd (none-some verb e)

@@ -6,16 +6,16 @@ use Rattle.nam_verbs.specs.declared.now.Now.TheVariants.{At, Over}
 use Rattle.nam_catalog.specs.declared.shape.Shape.{Shape}
 use Rattle.nam_protocol.specs.declared.client.Answer.{Answer}
 use Rattle.nam_protocol.specs.declared.client.Call.{Call}
-use Rattle.nam_protocol.specs.declared.client.CallPlace.{CallPlace}
-use Rattle.nam_protocol.specs.declared.client.CallPlace.TheVariants.{Beginning, InTxn, Scanning, Seeking, Moving}
-use Rattle.nam_protocol.specs.declared.client.CallPlace.TheVariants.{Snapping, Collecting}
+use Rattle.nam_protocol.specs.declared.client.CallPoint.{CallPoint}
+use Rattle.nam_protocol.specs.declared.client.CallPoint.TheVariants.{Beginning, InTxn, Scanning, Seeking, Moving}
+use Rattle.nam_protocol.specs.declared.client.CallPoint.TheVariants.{Snapping, Collecting}
 use Rattle.nam_protocol.specs.declared.client.ClientState.{ClientState}
 use Rattle.nam_protocol.specs.declared.client.Open.{Open}
-use Rattle.nam_protocol.specs.declared.scan.ScanPlace.{ScanPlace}
+use Rattle.nam_protocol.specs.declared.scan.ScanPoint.{ScanPoint}
 use Rattle.nam_protocol.specs.declared.txn.TxnCall.{TxnCall}
-use Rattle.nam_protocol.specs.declared.txn.TxnPlace.{TxnPlace}
+use Rattle.nam_protocol.specs.declared.txn.TxnPoint.{TxnPoint}
 use Rattle.nam_protocol.specs.Client.{after_call, ask_scan, ask_txn, call_after, client_abandon}
-use Rattle.nam_protocol.specs.Client.{client_after, client_ask, counted, take_scan, take_txn}
+use Rattle.nam_protocol.specs.Client.{client_after, client_ask, with_call, take_scan, take_txn}
 use Rattle.nam_protocol.specs.CutClient.{client_cut}
 use Rattle.nam_protocol.specs.ClientFits.{CallFits}
 use Rattle.nam_protocol.specs.Own.{IsOpenAt, IsOpenNow, MayAsk, OpenClient, Rests}
@@ -34,19 +34,19 @@ module _ (shape : Shape) where
 
   -- 1. A word is taken
 
-  take_txn_open : (client : ClientState) (at : TxnPlace) (opened : Option Open) (found : ℕ) → IsSome opened
+  take_txn_open : (client : ClientState) (at : TxnPoint) (opened : Option Open) (found : ℕ) → IsSome opened
       → OpenClient (take_txn shape client at opened found)
   take_txn_open client at None found some = absurd (cc)
   take_txn_open client at (Some attempt) found some = stepped_open client attempt _ _
 
-  take_scan_open : (client : ClientState) (table low high : ℕ) (at : ScanPlace) (opened : Option Open) (found : ℕ)
+  take_scan_open : (client : ClientState) (table low high : ℕ) (at : ScanPoint) (opened : Option Open) (found : ℕ)
       → IsSome client.txn → IsSome opened → OpenClient (take_scan shape client table low high at opened found)
   take_scan_open client table low high at None found is some = absurd (cc)
   take_scan_open client table low high at (Some attempt) found is some =
       scan_goes OpenClient shape client attempt table low high _ _ (λ next e. is) (λ key e. is) (λ rows e. is)
       (λ rows. tt) (λ outcome end e. tt)
 
-  call_open : (client : ClientState) (place : CallPlace) (found : ℕ) → IsOpenAt client.txn place
+  call_open : (client : ClientState) (place : CallPoint) (found : ℕ) → IsOpenAt client.txn place
       → OpenClient (call_after shape client place found)
   call_open client (Beginning txn nth at) found is =
       begin_goes OpenClient shape client txn nth _ (λ next e. is) (λ seen e. tt) (λ worker first second e. tt)
@@ -66,7 +66,7 @@ module _ (shape : Shape) where
   pub open_word : (client : ClientState) (found : ℕ) → OpenClient client → OpenClient (client_after shape client found)
   open_word client found is = word_at client.call is
     where
-      word_at : (call : Option (Now CallPlace Answer)) → IsOpenNow client.txn call
+      word_at : (call : Option (Now CallPoint Answer)) → IsOpenNow client.txn call
           → OpenClient (after_call shape (record client { call = call }) call found)
       word_at None is = tt
       word_at (Some (At place)) is = call_open (go client place) place found is
@@ -77,7 +77,7 @@ module _ (shape : Shape) where
   ask_txn_open : (client : ClientState) (asked : TxnCall) (opened : Option Open) → IsSome opened
       → OpenClient (ask_txn shape client asked opened)
   ask_txn_open client asked None some = absurd (cc)
-  ask_txn_open client asked (Some attempt) some = stepped_open client (counted attempt asked) 0 _
+  ask_txn_open client asked (Some attempt) some = stepped_open client (with_call attempt asked) 0 _
 
   ask_scan_open : (client : ClientState) (table low high : ℕ) (opened : Option Open) → IsSome opened
       → OpenClient (ask_scan shape client table low high opened)

@@ -7,15 +7,15 @@ use Rattle.nam_verbs.specs.declared.now.Now.TheVariants.{At}
 use Rattle.nam_catalog.specs.declared.shape.Shape.{Shape}
 use Rattle.nam_catalog.specs.Fits.{FitsLimits}
 use Rattle.nam_vector.specs.declared.snap.SnapEnd.{SnapEnd}
-use Rattle.nam_vector.specs.declared.snap.SnapPlace.{SnapPlace}
+use Rattle.nam_vector.specs.declared.snap.SnapPoint.{SnapPoint}
 use Rattle.nam_protocol.specs.declared.client.Call.{Call}
-use Rattle.nam_protocol.specs.declared.client.CallPlace.{CallPlace}
-use Rattle.nam_protocol.specs.declared.client.CallPlace.TheVariants.{Beginning, InTxn, Snapping}
+use Rattle.nam_protocol.specs.declared.client.CallPoint.{CallPoint}
+use Rattle.nam_protocol.specs.declared.client.CallPoint.TheVariants.{Beginning, InTxn, Snapping}
 use Rattle.nam_protocol.specs.declared.client.ClientState.{ClientState}
 use Rattle.nam_protocol.specs.declared.client.Open.{Open}
-use Rattle.nam_protocol.specs.declared.txn.CommitPlace.{CommitPlace}
+use Rattle.nam_protocol.specs.declared.txn.CommitPoint.{CommitPoint}
 use Rattle.nam_protocol.specs.declared.txn.TxnAnswer.{TxnAnswer}
-use Rattle.nam_protocol.specs.declared.txn.TxnPlace.{TxnPlace}
+use Rattle.nam_protocol.specs.declared.txn.TxnPoint.{TxnPoint}
 use Rattle.nam_protocol.specs.declared.txn.TxnState.{TxnState}
 use Rattle.nam_protocol.specs.Client.{abandon_open, client_abandon, client_after, client_ask, on_begin, on_snap}
 use Rattle.nam_protocol.specs.ClientFits.{CallFits, CallStands, NowFits}
@@ -27,7 +27,7 @@ use Rattle.nam_protocol.specs.Own.{Rests}
 use Rattle.nam_protocol.specs.Plain.{KeepsOpen, Plain, SameBegin}
 use Rattle.nam_protocol.specs.Sorts.{AskOf, StepOf, committing_at, AsksPlain, AsksBegin, AsksCollect, AsksCommit, Finds}
 use Rattle.nam_protocol.specs.Sorts.{Reads, Moves, Collects, Begins, Snaps, Commits}
-use Rattle.nam_protocol.specs.Telling.{go, answered, stepped, on_answer, items_of, with_read, new_client}
+use Rattle.nam_protocol.specs.Telling.{go, with_answer, stepped, on_answer, items_of, with_read, new_client}
 use Rattle.nam_protocol.specs.Txn.{Stepped}
 use Rattle.nam_protocol.proofs.FallsClient.{client_begins}
 use Rattle.nam_protocol.proofs.GoesClient.{begin_goes, snap_goes, on_answer_goes, step_lists, step_opens, stepped_goes}
@@ -81,7 +81,7 @@ module _ (shape : Shape) (worker : ℕ) where
     listed = listed_append_left snaps (seen ∷ []) attempt.state.seen own.listed;
   }
 
-  begins_own : (client : ClientState) (txn nth : ℕ) (now : Now SnapPlace SnapEnd) → Own client
+  begins_own : (client : ClientState) (txn nth : ℕ) (now : Now SnapPoint SnapEnd) → Own client
       → Own (on_begin shape client txn nth now)
   begins_own client txn nth now own =
       begin_goes Own shape client txn nth now
@@ -97,7 +97,7 @@ module _ (shape : Shape) (worker : ℕ) where
       })
       (λ w first second e. record { worker_is = own.worker_is; start_is = own.start_is; opened = own.opened })
 
-  snaps_own : (client : ClientState) (bucket : ℕ) (now : Now SnapPlace SnapEnd) → Own client
+  snaps_own : (client : ClientState) (bucket : ℕ) (now : Now SnapPoint SnapEnd) → Own client
       → Own (on_snap shape client bucket now)
   snaps_own client bucket now own =
       snap_goes Own shape client bucket now
@@ -112,7 +112,7 @@ module _ (shape : Shape) (worker : ℕ) where
   module _ (client : ClientState) (attempt : Open) (before : ℕ) (own : Own client)
       (opened : OwnsOpen client.worker client.last client.log.snaps attempt) where
     -- the commit goes on, or it has ended
-    goes_own : (step : Stepped) → SameBegin attempt.state step.state → (place : TxnPlace) → step.call ≡ At place
+    goes_own : (step : Stepped) → SameBegin attempt.state step.state → (place : TxnPoint) → step.call ≡ At place
         → Own
         (go (record (step_lists client before step) { txn = Some (step_opens attempt before step) }) (InTxn place))
     goes_own step same place e = record {
@@ -123,10 +123,10 @@ module _ (shape : Shape) (worker : ℕ) where
     }
 
     ends_own : (step : Stepped) → SameBegin attempt.state step.state → (answer : TxnAnswer)
-        → Own (answered (on_answer (step_lists client before step) (step_opens attempt before step) answer)
+        → Own (with_answer (on_answer (step_lists client before step) (step_opens attempt before step) answer)
         (client_answer.Txn answer))
     ends_own step same answer =
-        on_answer_goes (λ c. Own (answered c (client_answer.Txn answer))) (step_lists client before step)
+        on_answer_goes (λ c. Own (with_answer c (client_answer.Txn answer))) (step_lists client before step)
         (step_opens attempt before step) answer
         (λ e. record {
           worker_is = own.worker_is;
@@ -143,7 +143,7 @@ module _ (shape : Shape) (worker : ℕ) where
     stepped_own step same =
         stepped_goes Own client attempt before step (goes_own step same) (λ answer e. ends_own step same answer)
 
-  commit_same : (state : TxnState) (at : CommitPlace) (found : ℕ)
+  commit_same : (state : TxnState) (at : CommitPoint) (found : ℕ)
       → SameBegin state (commit_after state at found).state
   commit_same state at found =
       commit_goes (λ step. SameBegin state step.state) state at found (λ next to. same_begin state)
@@ -183,7 +183,7 @@ module _ (shape : Shape) (worker : ℕ) where
 
   -- 4. Of any client
 
-  pub own_word : (client : ClientState) (place : CallPlace) (found : ℕ) → ClientFits shape client
+  pub own_word : (client : ClientState) (place : CallPoint) (found : ℕ) → ClientFits shape client
       → client.call ≡ Some (At place) → Own client → Own (client_after shape client found)
   own_word client place found fits e own = own_step found client _ (word_sort shape found client place fits e) own
 

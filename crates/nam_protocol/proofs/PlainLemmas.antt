@@ -5,23 +5,23 @@ use Rattle.si_model.specs.declared.op.Op.{Op}
 use Rattle.si_model.specs.Evaluation.{op_key}
 use Rattle.nam_verbs.specs.declared.now.Now.TheVariants.{At}
 use Rattle.nam_catalog.specs.declared.shape.Shape.{Shape}
-use Rattle.nam_calls.specs.declared.horizon.CollectPlace.{CollectPlace}
-use Rattle.nam_calls.specs.declared.mover.MovePlace.{MovePlace}
+use Rattle.nam_calls.specs.declared.horizon.CollectPoint.{CollectPoint}
+use Rattle.nam_calls.specs.declared.mover.MovePoint.{MovePoint}
 use Rattle.nam_calls.specs.Index.{claim_key_begin, find_begin}
 use Rattle.nam_calls.specs.Reading.{read_begin}
-use Rattle.nam_protocol.specs.declared.client.CallPlace.TheVariants.{InTxn, Scanning, Seeking, Moving, Collecting}
+use Rattle.nam_protocol.specs.declared.client.CallPoint.TheVariants.{InTxn, Scanning, Seeking, Moving, Collecting}
 use Rattle.nam_protocol.specs.declared.client.ClientState.{ClientState}
 use Rattle.nam_protocol.specs.declared.client.Open.{Open}
-use Rattle.nam_protocol.specs.declared.scan.ScanPlace.{ScanPlace}
+use Rattle.nam_protocol.specs.declared.scan.ScanPoint.{ScanPoint}
 use Rattle.nam_protocol.specs.declared.txn.TxnAnswer.{TxnAnswer}
-use Rattle.nam_protocol.specs.declared.txn.TxnPlace.{TxnPlace}
-use Rattle.nam_protocol.specs.declared.txn.TxnPlace.TheVariants.{Finding, Reading, Claiming, Committing}
+use Rattle.nam_protocol.specs.declared.txn.TxnPoint.{TxnPoint}
+use Rattle.nam_protocol.specs.declared.txn.TxnPoint.TheVariants.{Finding, Reading, Claiming, Committing}
 use Rattle.nam_protocol.specs.declared.txn.TxnState.{TxnState}
 use Rattle.nam_protocol.specs.Client.{abandon_open, ask_scan, call_after, client_abandon, take_scan}
 use Rattle.nam_protocol.specs.Operations.{answer_of, own_value}
 use Rattle.nam_protocol.specs.Plain.{IsAside, IsOperation, KeepsOpen, Plain, SameBegin}
 use Rattle.nam_protocol.specs.Telling.{go, stepped}
-use Rattle.nam_protocol.specs.Txn.{Stepped, ask_op, with_op, at, answered, claimed}
+use Rattle.nam_protocol.specs.Txn.{Stepped, ask_op, with_op, at, over, after_claim}
 use Rattle.nam_protocol.specs.TxnCalls.{txn_after}
 use Rattle.nam_protocol.proofs.GoesClient.{on_answer_goes, step_lists, step_opens, seek_goes, move_goes, collect_goes}
 use Rattle.nam_protocol.proofs.GoesClient.{scan_goes}
@@ -34,7 +34,7 @@ use Rattle.nam_protocol.specs.Telling as telling
 pub same_begin : (s : TxnState) → SameBegin s s
 same_begin s = record { worker = refl; last = refl; seen = refl }
 
--- what is read, written and claimed is no part of it
+-- what is read, written and after_claim is no part of it
 knows_same : (s : TxnState) (op : Op) (value : Option (List ℕ)) → SameBegin s (knowing s op value)
 knows_same s op value = record { worker = refl; last = refl; seen = refl }
 
@@ -44,7 +44,7 @@ same_open (Some attempt) = same_begin attempt.state
 
 -- 1. A transaction's call
 
-aside_at : (place : TxnPlace) → IsOperation place → IsAside (Some (At (InTxn place)))
+aside_at : (place : TxnPoint) → IsOperation place → IsAside (Some (At (InTxn place)))
 aside_at (Finding op passed) is = tt
 aside_at (Reading op position at) is = tt
 aside_at (Claiming op at) is = tt
@@ -57,7 +57,7 @@ module _ (client : ClientState) (attempt : Open) (before : ℕ) where
   abbrev Steps : Stepped → Type 0
   Steps step = Plain opened (stepped client attempt before step)
 
-  steps_at : (s : TxnState) (place : TxnPlace) → SameBegin attempt.state s → IsOperation place → Steps (at s place)
+  steps_at : (s : TxnState) (place : TxnPoint) → SameBegin attempt.state s → IsOperation place → Steps (at s place)
   steps_at s place same is = record {
     worker = refl;
     start = refl;
@@ -69,10 +69,10 @@ module _ (client : ClientState) (attempt : Open) (before : ℕ) where
   }
 
   steps_over : (s : TxnState) (answer : TxnAnswer) → SameBegin attempt.state s → IsSilent answer
-      → Steps (answered s answer)
+      → Steps (over s answer)
   steps_over s answer same silent =
       on_answer_goes (λ c. Plain opened (telling.answered c (client_answer.Txn answer)))
-      (step_lists client before (answered s answer)) (step_opens attempt before (answered s answer)) answer
+      (step_lists client before (over s answer)) (step_opens attempt before (over s answer)) answer
       (λ e. record { worker = refl; start = refl; last = refl; cut = refl; snaps = refl; opened = same; aside = tt })
       (λ end e. record { worker = refl; start = refl; last = refl; cut = refl; snaps = refl; opened = tt; aside = tt })
       (λ end e. record { worker = refl; start = refl; last = refl; cut = refl; snaps = refl; opened = tt; aside = tt })
@@ -82,7 +82,7 @@ module _ (client : ClientState) (attempt : Open) (before : ℕ) where
     abbrev state : TxnState
     state = attempt.state
 
-    pub operation_plain : (place : TxnPlace) (found : ℕ) → IsOperation place → Steps (txn_after shape state place found)
+    pub operation_plain : (place : TxnPoint) (found : ℕ) → IsOperation place → Steps (txn_after shape state place found)
     operation_plain (Finding op passed) found is =
         finding_goes shape Steps op state passed found
         (λ next e. steps_at state (Finding op next) (same_begin state) tt)
@@ -100,7 +100,7 @@ module _ (client : ClientState) (attempt : Open) (before : ℕ) where
         claiming_goes shape Steps op state place found
         (λ next e. steps_at state (Claiming op next) (same_begin state) tt)
         (λ e. steps_over state (txn_answer.NoSpace (op_key op).table) (same_begin state) tt)
-        (λ position e answer silent f. steps_over (claimed shape state op position) answer
+        (λ position e answer silent f. steps_over (after_claim shape state op position) answer
         record { worker = refl; last = refl; seen = refl } silent)
     operation_plain (Committing at) found is = absurd is
 
@@ -133,7 +133,7 @@ kept client after worker start last cut snaps txn aside = record {
 }
 
 module _ (shape : Shape) where
-  pub scan_plain : (client : ClientState) (table low high : ℕ) (at : ScanPlace) (opened : Option Open) (found : ℕ)
+  pub scan_plain : (client : ClientState) (table low high : ℕ) (at : ScanPoint) (opened : Option Open) (found : ℕ)
       → let c = record client { call = Some (At (Scanning table low high at)); txn = opened } in
       Plain c (take_scan shape c table low high at opened found)
   scan_plain client table low high at None found =
@@ -170,7 +170,7 @@ module _ (shape : Shape) where
         (λ position e. kept client _ refl refl refl refl refl refl tt)
         (λ e. kept client _ refl refl refl refl refl refl tt)
 
-    pub move_plain : (table key position : ℕ) (at : MovePlace) (found : ℕ)
+    pub move_plain : (table key position : ℕ) (at : MovePoint) (found : ℕ)
         → Plain client (call_after shape client (Moving table key position at) found)
     move_plain table key position at found =
         move_goes (Plain client) shape client table key position _ _
@@ -180,7 +180,7 @@ module _ (shape : Shape) where
         (λ e. kept client _ refl refl refl refl refl refl tt)
         (λ full e. kept client _ refl refl refl refl refl refl tt)
 
-    pub collect_plain : (bucket prefix : ℕ) (seen : List ℕ) (at : CollectPlace) (found : ℕ)
+    pub collect_plain : (bucket prefix : ℕ) (seen : List ℕ) (at : CollectPoint) (found : ℕ)
         → Plain client (call_after shape client (Collecting bucket prefix seen at) found)
     collect_plain bucket prefix seen at found =
         collect_goes (Plain client) shape client bucket prefix seen _

@@ -15,13 +15,13 @@ use Rattle.nam_header.specs.Stamp.{is_locked, is_moved, sees}
 use Rattle.nam_layout.specs.declared.field.Place.{Place}
 use Rattle.nam_layout.specs.Place.{slot_of}
 use Rattle.nam_layout.specs.declared.field.Field.TheVariants as field
-use Rattle.nam_calls.specs.declared.record.InstallPlace.TheVariants.{InstallWord, InstallCount}
-use Rattle.nam_calls.specs.declared.ring.CopyPlace.TheVariants.{CopyMark, CopyWord, CopyHead}
-use Rattle.nam_calls.specs.declared.ring.SlotPlace.{SlotPlace}
-use Rattle.nam_calls.specs.declared.ring.SlotPlace.TheVariants.{CheckCount}
+use Rattle.nam_calls.specs.declared.record.InstallPoint.TheVariants.{InstallWord, InstallCount}
+use Rattle.nam_calls.specs.declared.ring.CopyPoint.TheVariants.{CopyMark, CopyWord, CopyHead}
+use Rattle.nam_calls.specs.declared.ring.SlotPoint.{SlotPoint}
+use Rattle.nam_calls.specs.declared.ring.SlotPoint.TheVariants.{CheckCount}
 use Rattle.nam_calls.specs.declared.ring.SlotEnd.{SlotEnd}
-use Rattle.nam_calls.specs.declared.lock.LockPlace.{LockPlace}
-use Rattle.nam_calls.specs.declared.lock.LockPlace.TheVariants.{Peek, GiveBack}
+use Rattle.nam_calls.specs.declared.lock.LockPoint.{LockPoint}
+use Rattle.nam_calls.specs.declared.lock.LockPoint.TheVariants.{Peek, GiveBack}
 use Rattle.nam_calls.specs.declared.lock.LockEnd.{LockEnd}
 use Rattle.nam_calls.specs.Record.{install_begin, word_in}
 use Rattle.nam_calls.specs.Lock.{nth_place, lock_begin, lock_verb, lock_after, lock_next, loss_of, give_back}
@@ -32,9 +32,9 @@ use Rattle.nam_calls.specs.declared.lock.LockEnd.TheVariants as lock_end
 use Rattle.nam_protocol.specs.declared.txn.TxnState.{TxnState}
 use Rattle.nam_protocol.specs.declared.txn.TxnAnswer.{TxnAnswer}
 use Rattle.nam_protocol.specs.declared.txn.TxnAnswer.TheVariants.{Committed, Full}
-use Rattle.nam_protocol.specs.declared.txn.CommitPlace.TheVariants.{Locking, Checking, Returning, Saving, Copying}
-use Rattle.nam_protocol.specs.declared.txn.CommitPlace.TheVariants.{Installing, Publishing, Freeing}
-use Rattle.nam_protocol.specs.Txn.{Stepped, answered}
+use Rattle.nam_protocol.specs.declared.txn.CommitPoint.TheVariants.{Locking, Checking, Returning, Saving, Copying}
+use Rattle.nam_protocol.specs.declared.txn.CommitPoint.TheVariants.{Installing, Publishing, Freeing}
+use Rattle.nam_protocol.specs.Txn.{Stepped, over}
 use Rattle.nam_protocol.specs.Commit.{go, places, record_place, value_at, lock_at, records_of, commit_keys, record_in}
 use Rattle.nam_protocol.specs.Commit.{next_check, on_lock, on_slot, on_return, on_words, on_copy, on_install}
 use Rattle.nam_protocol.specs.ProgramCommit.{Checked, NotFree, give_all_back, lock_records, check_slots, data_words}
@@ -44,7 +44,7 @@ use Rattle.nam_protocol.specs.ProgramCommit.{committing, txn_stands, txn_takes, 
 -- 1. The locks
 
 module _ (worker : ℕ) (places : List Place) (seen : List ℕ) where
-  abbrev IsLock : Now LockPlace LockEnd → Prog LockEnd → Type 0
+  abbrev IsLock : Now LockPoint LockEnd → Prog LockEnd → Type 0
   IsLock = IsProgram (standing (lock_verb worker places)) (taking (lock_after places seen))
 
   back_is : (held : List ℕ) (found : ℕ)
@@ -99,7 +99,7 @@ module _ (shape : Shape) (state : TxnState) where
         writes_left (txn_stands shape) (txn_takes shape) (λ k. field.Header (nth_place (places state) k).row)
         (slice_index held) (length state.records)
         (λ nth. go (with_locks held counts) (Freeing nth))
-        (answered (with_locks held counts) (Committed (state.last + 1))) _
+        (over (with_locks held counts) (Committed (state.last + 1))) _
         (λ nth. refl) (λ nth word. refl) refl (length state.records - length state.writes) (length state.writes)
         (omega arith)
 
@@ -175,7 +175,7 @@ module _ (shape : Shape) (state : TxnState) where
         let s = with_locks held counts in let full = lock_at state nth found in
         writes_is (txn_stands shape) (txn_takes shape) (λ k. field.Header (nth_place (places state) k).row)
         (slice_index held) (length (places state))
-        (λ k. go s (Returning k full)) (answered s (Full full)) _ (λ k. refl)
+        (λ k. go s (Returning k full)) (over s (Full full)) _ (λ k. refl)
         (λ k word. if_in (on_return s full) (k + 1 == length (places state)) (Over tt) (At (k + 1))) refl (omega arith)
 
     checks_from : (held : List ℕ) (rest : ℕ) (counts : List ℕ) → length counts + rest ≡ length state.writes
@@ -192,7 +192,7 @@ module _ (shape : Shape) (state : TxnState) where
         rest (omega arith) (
         word_then refl λ count.
         word_then refl λ header.
-        both (λ (now : Now SlotPlace SlotEnd) (p : Prog Checked). IsTxn (on_slot s now) (p >>= after_check state held))
+        both (λ (now : Now SlotPoint SlotEnd) (p : Prog Checked). IsTxn (on_slot s now) (p >>= after_check state held))
         (is_moved place.form header) _ _ _ _
         (λ t. let l = length-append counts (count ∷ []) in checks_from held rest (counts ++ count ∷ []) (omega arith))
         (λ t. full_is held counts (length counts) header))

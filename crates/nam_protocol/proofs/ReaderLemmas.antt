@@ -8,18 +8,18 @@ use Rattle.nam_verbs.specs.declared.now.Now.{Now}
 use Rattle.nam_verbs.specs.declared.now.Now.TheVariants.{At, Over}
 use Rattle.nam_verbs.proofs.TestLemmas.{by_equal, by_test}
 use Rattle.nam_catalog.specs.declared.shape.Shape.{Shape}
-use Rattle.nam_calls.specs.declared.index.ClaimKeyPlace.{ClaimKeyPlace}
-use Rattle.nam_calls.specs.declared.reading.ReadPlace.{ReadPlace}
+use Rattle.nam_calls.specs.declared.index.ClaimKeyPoint.{ClaimKeyPoint}
+use Rattle.nam_calls.specs.declared.reading.ReadPoint.{ReadPoint}
 use Rattle.nam_calls.specs.declared.reading.ReadingEnd.{ReadingEnd}
 use Rattle.nam_calls.specs.Reading.{sight_of}
 use Rattle.nam_calls.specs.Words.{capacity_of}
 use Rattle.nam_calls.specs.declared.reading.ReadingEnd.TheVariants as read_end
-use Rattle.nam_protocol.specs.declared.client.CallPlace.TheVariants.{Scanning}
+use Rattle.nam_protocol.specs.declared.client.CallPoint.TheVariants.{Scanning}
 use Rattle.nam_protocol.specs.declared.client.ClientState.{ClientState}
 use Rattle.nam_protocol.specs.declared.client.Open.{Open}
-use Rattle.nam_protocol.specs.declared.scan.ScanPlace.{ScanPlace}
-use Rattle.nam_protocol.specs.declared.scan.ScanPlace.TheVariants.{ScanKey, ScanRead}
-use Rattle.nam_protocol.specs.declared.txn.TxnPlace.TheVariants.{Finding, Claiming}
+use Rattle.nam_protocol.specs.declared.scan.ScanPoint.{ScanPoint}
+use Rattle.nam_protocol.specs.declared.scan.ScanPoint.TheVariants.{ScanKey, ScanRead}
+use Rattle.nam_protocol.specs.declared.txn.TxnPoint.TheVariants.{Finding, Claiming}
 use Rattle.nam_protocol.specs.declared.txn.TxnState.{TxnState}
 use Rattle.nam_protocol.specs.Client.{take_scan}
 use Rattle.nam_protocol.specs.Operations.{own_value}
@@ -27,7 +27,7 @@ use Rattle.nam_protocol.specs.Reader.{Reader, ReadsAnew, ReadsOn, reader_of}
 use Rattle.nam_protocol.specs.Scan.{in_range, on_scan_read, scan_skip}
 use Rattle.nam_protocol.specs.ScanCall.{on_scan}
 use Rattle.nam_protocol.specs.Telling.{stepped}
-use Rattle.nam_protocol.specs.Txn.{Stepped, ask_op, on_read, valued}
+use Rattle.nam_protocol.specs.Txn.{Stepped, ask_op, on_read, on_value}
 use Rattle.nam_protocol.specs.TxnCalls.{txn_after}
 use Rattle.nam_protocol.proofs.GoesClient.{left_goes}
 use Rattle.nam_protocol.proofs.GoesTxn.{ask_goes, claiming_goes, finding_goes, valued_goes}
@@ -43,11 +43,11 @@ module _ (shape : Shape) where
     abbrev state : TxnState
     state = attempt.state
 
-    valued_reads : (op : Op) (value : Option (List ℕ)) → later (valued shape state op value) ≡ None
+    valued_reads : (op : Op) (value : Option (List ℕ)) → later (on_value shape state op value) ≡ None
     valued_reads op value =
         valued_goes shape (λ step. later step ≡ None) op state value (λ e. refl) (λ answer silent. refl)
 
-    pub on_read_reads : (op : Op) (position : ℕ) (at : ReadPlace) (now : Now ReadPlace ReadingEnd)
+    pub on_read_reads : (op : Op) (position : ℕ) (at : ReadPoint) (now : Now ReadPoint ReadingEnd)
         → ReadsOn record { sight = sight_of shape (op_key op).table position; seen = state.seen; at = at }
         (later (on_read shape state op position now)) now
     on_read_reads op position at (At next) = refl
@@ -60,7 +60,7 @@ module _ (shape : Shape) where
         finding_goes shape (λ step. ReadsAnew (later step)) op state passed found (λ next e. tt) (λ position e. refl)
         (λ e f. tt) (λ e answer silent. tt)
 
-    pub claim_reads : (op : Op) (at : ClaimKeyPlace) (found : ℕ)
+    pub claim_reads : (op : Op) (at : ClaimKeyPoint) (found : ℕ)
         → ReadsAnew (later (txn_after shape state (Claiming op at) found))
     claim_reads op at found =
         claiming_goes shape (λ step. ReadsAnew (later step)) op state at found (λ next e. tt) (λ e. tt)
@@ -73,7 +73,7 @@ module _ (shape : Shape) where
   -- 2. A scan
 
   module _ (client : ClientState) (attempt : Open) (table low high position : ℕ) where
-    abbrev scans_at : ScanPlace → ClientState
+    abbrev scans_at : ScanPoint → ClientState
     scans_at at = record client { call = Some (At (Scanning table low high at)); txn = Some attempt }
 
     pub scan_key_reads : (found : ℕ) → let at = ScanKey position in
@@ -92,7 +92,7 @@ module _ (shape : Shape) where
         (λ e. by_equal (λ now. Anew (on_scan shape c attempt table low high position now)) (position + 1)
         (capacity_of shape table) (Over scan_answer.Done) (At (ScanKey (position + 1))) (λ f. tt) (λ f. tt))
 
-    pub scan_read_reads : (key : ℕ) (at : ReadPlace) (now : Now ReadPlace ReadingEnd)
+    pub scan_read_reads : (key : ℕ) (at : ReadPoint) (now : Now ReadPoint ReadingEnd)
         → let c = scans_at (ScanRead position key at) in
         ReadsOn record { sight = sight_of shape table position; seen = attempt.state.seen; at = at }
         (reader_of shape (on_scan shape c attempt table low high position (on_scan_read table position key now))) now

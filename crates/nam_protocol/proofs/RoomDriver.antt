@@ -12,7 +12,7 @@ use Rattle.si_model.specs.declared.op.Op.TheVariants.{Get, Put, Add, Del, Need, 
 use Rattle.si_model.specs.declared.op.Policy.{Policy}
 use Rattle.si_model.specs.declared.log.Lock.{Lock}
 use Rattle.si_model.specs.Rows.{key_at, same_key}
-use Rattle.si_model.specs.Evaluation.{guarded, key_written, keys_from, written_keys}
+use Rattle.si_model.specs.Evaluation.{with_guard, key_written, keys_from, written_keys}
 use Rattle.nam_verbs.proofs.TestLemmas.{by_test, by_equal}
 use Rattle.nam_catalog.specs.declared.shape.Shape.{Shape}
 use Rattle.nam_calls.proofs.FallsTests.{either}
@@ -20,8 +20,8 @@ use Rattle.nam_protocol.specs.declared.txn.TxnAnswer.{TxnAnswer}
 use Rattle.nam_protocol.specs.declared.client.Call.{Call}
 use Rattle.nam_protocol.specs.declared.client.Answer.{Answer}
 use Rattle.nam_protocol.specs.declared.session.Job.{Job}
-use Rattle.nam_protocol.specs.declared.session.DriverPlace.{DriverPlace}
-use Rattle.nam_protocol.specs.declared.session.DriverPlace.TheVariants.{ToBegin, ToAsk, ToTidy, ToCollect}
+use Rattle.nam_protocol.specs.declared.session.DriverPoint.{DriverPoint}
+use Rattle.nam_protocol.specs.declared.session.DriverPoint.TheVariants.{ToBegin, ToAsk, ToTidy, ToCollect}
 use Rattle.nam_protocol.specs.declared.session.DriverState.{DriverState}
 use Rattle.nam_protocol.specs.Driver.{new_driver, call_of, op_call, place_call, job_call, driver_take, next_job, next_try}
 use Rattle.nam_protocol.specs.Driver.{retried, tidying, on_full, keys_of_job, on_commit, on_txn, on_begin, on_ask, on_tidy}
@@ -43,22 +43,22 @@ more_over (x ∷ xs) zero e = absurd (cc)
 more_over (x ∷ xs) (suc n) e = rw add-one (rw add-one at (more_over xs n e))
 
 -- an operation's key is written once at the most
-guarded_length : (ks : List Key) (key : Key) → length (guarded ks key) ≤ length ks + 1
+guarded_length : (ks : List Key) (key : Key) → length (with_guard ks key) ≤ length ks + 1
 guarded_length [] key = omega arith
 guarded_length (k ∷ ks) key =
     let more = guarded_length ks key in
-    either (λ (all : List Key). length all ≤ length (k ∷ ks) + 1) (same_key k key) (k ∷ ks) (k ∷ guarded ks key)
+    either (λ (all : List Key). length all ≤ length (k ∷ ks) + 1) (same_key k key) (k ∷ ks) (k ∷ with_guard ks key)
     (omega arith) (omega arith)
 
 named_length : (ks : List Key) (o : Option Key)
-    → length {A = Key} (elim o [ None ↦ ks | Some key ↦ guarded ks key ]) ≤ length ks + (if is_some o then 1 else 0)
+    → length {A = Key} (elim o [ None ↦ ks | Some key ↦ with_guard ks key ]) ≤ length ks + (if is_some o then 1 else 0)
 named_length ks None = omega arith
 named_length ks (Some key) = guarded_length ks key
 
 keys_length : (ks : List Key) (ops : List Op) → length (keys_from key_written ks ops) ≤ length ks + writes_in ops
 keys_length ks [] = omega arith
 keys_length ks (op ∷ ops) =
-    let more = keys_length (elim (key_written op) [ None ↦ ks | Some key ↦ guarded ks key ]) ops in
+    let more = keys_length (elim (key_written op) [ None ↦ ks | Some key ↦ with_guard ks key ]) ops in
     let one = named_length ks (key_written op) in
     omega arith
 
@@ -167,7 +167,7 @@ module _ (shape : Shape) where
         }
 
     -- the same job goes on
-    goes_at : (a o t nth : ℕ) (place : DriverPlace) → (1 ≤ nth) × (nth ≤ driver.policy.tries)
+    goes_at : (a o t nth : ℕ) (place : DriverPoint) → (1 ≤ nth) × (nth ≤ driver.policy.tries)
         → PlaceCounts driver.policy.tries nth place
         → IsWithin (driver_room shape (record driver { nth = nth; place = place }) (job ∷ drop (driver.job + 1) jobs))
         (record { attempts = a; ops = o; tidies = t })
@@ -280,12 +280,12 @@ module _ (shape : Shape) where
     abbrev left_attempts : ℕ
     left_attempts = driver.policy.tries - driver.nth + later.attempts
 
-    abbrev left_ops : DriverPlace → ℕ
+    abbrev left_ops : DriverPoint → ℕ
     left_ops ToBegin = ops_weight shape job.ops + tries_ops + later.ops
     left_ops (ToAsk nth) = ops_weight shape (drop (nth + 1) job.ops) + tries_ops + later.ops
     left_ops place = tries_ops + later.ops
 
-    abbrev left_tidies : DriverPlace → ℕ
+    abbrev left_tidies : DriverPoint → ℕ
     left_tidies ToBegin = try_tidies policy driver.nth job.ops + later.tidies
     left_tidies (ToAsk nth) = try_tidies policy driver.nth job.ops + later.tidies
     left_tidies (ToTidy keys nth false retry) =
@@ -294,7 +294,7 @@ module _ (shape : Shape) where
     left_tidies (ToCollect bucket keys nth retry) =
         1 + keys_tidies policy driver.nth job.ops keys nth retry + later.tidies
 
-    abbrev GoesFrom : DriverPlace → DriverState → Type 0
+    abbrev GoesFrom : DriverPoint → DriverState → Type 0
     GoesFrom place next = Goes left_attempts (left_ops place) (left_tidies place) next
 
     begin_goes : (end : Answer) → GoesFrom ToBegin (on_begin driver end)
@@ -373,7 +373,7 @@ module _ (shape : Shape) where
             (left_tidies (ToCollect bucket keys nth retry)) driver.nth (ToTidy keys nth true retry) (least, most) counts
             record { attempts = omega arith; ops = omega arith; tidies = omega arith }
 
-    takes : (place : DriverPlace) (end : Answer) → PlaceCounts driver.policy.tries driver.nth place
+    takes : (place : DriverPoint) (end : Answer) → PlaceCounts driver.policy.tries driver.nth place
         → GoesFrom place (place_taken jobs driver place end)
     takes ToBegin end counts = begin_goes end
     takes (ToAsk nth) end counts = ask_goes nth end
@@ -382,17 +382,17 @@ module _ (shape : Shape) where
 
     -- 4. The call and what follows it
 
-    abbrev all_here : DriverPlace → Room
+    abbrev all_here : DriverPoint → Room
     all_here place = record {
       attempts = begin_here place + (driver.policy.tries - driver.nth) + later.attempts;
       ops = place_ops shape job.ops place + tries_ops + later.ops;
       tidies = place_tidies policy driver.nth job.ops place + later.tidies;
     }
 
-    abbrev left_room : DriverPlace → Room
+    abbrev left_room : DriverPoint → Room
     left_room place = record { attempts = left_attempts; ops = left_ops place; tidies = left_tidies place }
 
-    call_within : (place : DriverPlace)
+    call_within : (place : DriverPoint)
         → IsWithin (both_rooms (call_room shape (place_call job driver.nth place)) (left_room place)) (all_here place)
     call_within ToBegin = record { attempts = omega arith; ops = omega arith; tidies = omega arith }
     call_within (ToAsk nth) =

@@ -16,21 +16,21 @@ use Rattle.nam_catalog.specs.Fits.{FitsLimits}
 use Rattle.nam_layout.specs.declared.field.Place.{Place}
 use Rattle.nam_layout.specs.declared.field.Cells.{Cells}
 use Rattle.nam_layout.specs.Place.{place_of, cells_of, cells_by}
-use Rattle.nam_vector.specs.declared.snap.SnapPlace.{SnapPlace}
+use Rattle.nam_vector.specs.declared.snap.SnapPoint.{SnapPoint}
 use Rattle.nam_vector.specs.declared.snap.SnapEnd.{SnapEnd}
 use Rattle.nam_vector.specs.Snap.{snap_after}
 use Rattle.nam_vector.specs.declared.snap.SnapEnd.TheVariants as snap_end
 use Rattle.nam_calls.specs.declared.index.FindEnd.{FindEnd}
-use Rattle.nam_calls.specs.declared.overflow.ClaimPlace.{ClaimPlace}
+use Rattle.nam_calls.specs.declared.overflow.ClaimPoint.{ClaimPoint}
 use Rattle.nam_calls.specs.declared.overflow.ClaimEnd.{ClaimEnd}
 use Rattle.nam_calls.specs.declared.overflow.ClaimEnd.TheVariants.{Claimed, NoRoom}
 use Rattle.nam_calls.specs.declared.overflow.Version.{Version}
-use Rattle.nam_calls.specs.declared.overflow.FillPlace.{FillPlace}
-use Rattle.nam_calls.specs.declared.horizon.CollectPlace.{CollectPlace}
-use Rattle.nam_calls.specs.declared.mover.MovePlace.{MovePlace}
-use Rattle.nam_calls.specs.declared.mover.MovePlace.TheVariants.{MoveCount, MoveHead, MoveEnding, MoveClaim}
-use Rattle.nam_calls.specs.declared.mover.MovePlace.TheVariants.{MoveWords}
-use Rattle.nam_calls.specs.declared.mover.MovePlace.TheVariants.{MoveFill, MoveAgain, MoveFull, MoveFlag, MoveBack}
+use Rattle.nam_calls.specs.declared.overflow.FillPoint.{FillPoint}
+use Rattle.nam_calls.specs.declared.horizon.CollectPoint.{CollectPoint}
+use Rattle.nam_calls.specs.declared.mover.MovePoint.{MovePoint}
+use Rattle.nam_calls.specs.declared.mover.MovePoint.TheVariants.{MoveCount, MoveHead, MoveEnding, MoveClaim}
+use Rattle.nam_calls.specs.declared.mover.MovePoint.TheVariants.{MoveWords}
+use Rattle.nam_calls.specs.declared.mover.MovePoint.TheVariants.{MoveFill, MoveAgain, MoveFull, MoveFlag, MoveBack}
 use Rattle.nam_calls.specs.declared.mover.MoveAnswer.{MoveAnswer}
 use Rattle.nam_calls.specs.Words.{path_of}
 use Rattle.nam_calls.specs.Index.{find_after}
@@ -42,31 +42,31 @@ use Rattle.nam_calls.proofs.FallsTables.{bucket_within}
 use Rattle.nam_calls.specs.declared.index.FindEnd.TheVariants as found_key
 use Rattle.nam_calls.specs.declared.mover.MoveAnswer.TheVariants as move_end
 use Rattle.nam_header.specs.Stamp.{is_moved}
-use Rattle.nam_protocol.specs.declared.txn.TxnPlace.{TxnPlace}
-use Rattle.nam_protocol.specs.declared.txn.TxnPlace.TheVariants.{Finding, Reading, Claiming, Committing}
+use Rattle.nam_protocol.specs.declared.txn.TxnPoint.{TxnPoint}
+use Rattle.nam_protocol.specs.declared.txn.TxnPoint.TheVariants.{Finding, Reading, Claiming, Committing}
 use Rattle.nam_protocol.specs.declared.txn.TxnAnswer.{TxnAnswer}
 use Rattle.nam_protocol.specs.Txn.{Stepped}
-use Rattle.nam_protocol.specs.declared.scan.ScanPlace.{ScanPlace}
+use Rattle.nam_protocol.specs.declared.scan.ScanPoint.{ScanPoint}
 use Rattle.nam_protocol.specs.declared.scan.ScanAnswer.{ScanAnswer}
 use Rattle.nam_protocol.specs.declared.client.Answer.{Answer}
 use Rattle.nam_protocol.specs.declared.client.Answer.TheVariants as answer
-use Rattle.nam_protocol.specs.declared.client.CallPlace.{CallPlace}
-use Rattle.nam_protocol.specs.declared.client.CallPlace.TheVariants.{Beginning, InTxn, Scanning, Seeking, Moving}
-use Rattle.nam_protocol.specs.declared.client.CallPlace.TheVariants.{Snapping, Collecting}
+use Rattle.nam_protocol.specs.declared.client.CallPoint.{CallPoint}
+use Rattle.nam_protocol.specs.declared.client.CallPoint.TheVariants.{Beginning, InTxn, Scanning, Seeking, Moving}
+use Rattle.nam_protocol.specs.declared.client.CallPoint.TheVariants.{Snapping, Collecting}
 use Rattle.nam_protocol.specs.declared.client.Open.{Open}
 use Rattle.nam_protocol.specs.declared.client.ClientState.{ClientState}
-use Rattle.nam_protocol.specs.declared.session.DriverPlace.{DriverPlace}
-use Rattle.nam_protocol.specs.declared.session.DriverPlace.TheVariants.{ToBegin, ToAsk, ToTidy, ToCollect}
+use Rattle.nam_protocol.specs.declared.session.DriverPoint.{DriverPoint}
+use Rattle.nam_protocol.specs.declared.session.DriverPoint.TheVariants.{ToBegin, ToAsk, ToTidy, ToCollect}
 use Rattle.nam_protocol.specs.Operations.{own_value}
 use Rattle.nam_protocol.specs.TxnCalls.{txn_after, taken_at, taken_now}
 use Rattle.nam_protocol.specs.Log.{with_locks}
 use Rattle.nam_protocol.specs.Scan.{scan_skip, scan_read, scan_after, position_of}
 use Rattle.nam_protocol.specs.Telling.{new_locks, on_call, stepped}
-use Rattle.nam_protocol.specs.ScanCall.{gathered, on_skip, on_scan}
+use Rattle.nam_protocol.specs.ScanCall.{with_gathered, on_skip, on_scan}
 use Rattle.nam_protocol.specs.Client.{on_begin, on_seek, on_move, on_snap, on_collect, take_txn, take_scan, call_after}
 use Rattle.nam_protocol.specs.AttemptLaw.{HasAsked, has_passed, NowAsks, Asks}
-use Rattle.nam_protocol.specs.TxnFits.{StateFits, TxnPlaceFits}
-use Rattle.nam_protocol.specs.ClientFits.{OpenFits, OpenPlaceFits, CallPlaceFits}
+use Rattle.nam_protocol.specs.TxnFits.{StateFits, TxnPointFits}
+use Rattle.nam_protocol.specs.ClientFits.{OpenFits, OpenPointFits, CallPointFits}
 use Rattle.nam_protocol.specs.SessionFits.{OpenAsked, OpenRuns, PlaceRuns}
 use Rattle.nam_protocol.proofs.FallsAttempt.{unclaimed, take_asks}
 use Rattle.nam_protocol.proofs.FallsClient.{gathered_keeps}
@@ -123,19 +123,19 @@ module _ (shape : Shape) where
   CollectAnswered (answer.Collected known) = Unit {0}
   CollectAnswered _ = ⊥
 
-  abbrev pub IsAnswered : DriverPlace → List Op → Option Open → Answer → Type 0
+  abbrev pub IsAnswered : DriverPoint → List Op → Option Open → Answer → Type 0
   IsAnswered ToBegin ops txn end = BeginAnswered txn end
   IsAnswered (ToAsk nth) ops txn end = AskAnswered ops nth txn end
   IsAnswered (ToTidy keys nth again retry) ops txn end = TidyAnswered end
   IsAnswered (ToCollect bucket keys nth retry) ops txn end = CollectAnswered end
 
   -- the call that the driver asked runs, or was answered
-  abbrev pub NowDoes : DriverPlace → List Op → Option Open → Option (Now CallPlace Answer) → Type 0
+  abbrev pub NowDoes : DriverPoint → List Op → Option Open → Option (Now CallPoint Answer) → Type 0
   NowDoes place ops txn None = ⊥
   NowDoes place ops txn (Some (At at)) = PlaceRuns place ops txn at
   NowDoes place ops txn (Some (Over end)) = IsAnswered place ops txn end
 
-  abbrev pub ClientDoes : DriverPlace → List Op → ClientState → Type 0
+  abbrev pub ClientDoes : DriverPoint → List Op → ClientState → Type 0
   ClientDoes place ops client = NowDoes place ops client.txn client.call
 
   -- 3. Calls of the open transaction
@@ -151,7 +151,7 @@ module _ (shape : Shape) where
       has_passed_here attempt asked =
           (slice_get_within ops nth op here, subst (HasAsked attempt.state) (sym (take_more ops nth op here)) asked)
 
-      on_call_does : (client : ClientState) (attempt : Open) (now : Now TxnPlace TxnAnswer)
+      on_call_does : (client : ClientState) (attempt : Open) (now : Now TxnPoint TxnAnswer)
           → NowAsks attempt.state (take nth ops) op now
           → OfOp op now
           → Does (on_call client attempt now)
@@ -183,7 +183,7 @@ module _ (shape : Shape) where
 
     -- the commit
     module _ (here : slice_get ops nth ≡ None) where
-      on_commit_does : (client : ClientState) (attempt : Open) (now : Now TxnPlace TxnAnswer)
+      on_commit_does : (client : ClientState) (attempt : Open) (now : Now TxnPoint TxnAnswer)
           → HasAsked attempt.state ops
           → CommitRuns shape ops attempt.state now
           → Does (on_call client attempt now)
@@ -206,9 +206,9 @@ module _ (shape : Shape) where
           (record attempt { locks = attempt.locks + length locks; state = step.state }) step.call stands.0 stands.1
 
     -- a word of either is taken
-    take_does : (client : ClientState) (attempt : Open) (at : TxnPlace) (found : ℕ) (o : Option Op)
+    take_does : (client : ClientState) (attempt : Open) (at : TxnPoint) (found : ℕ) (o : Option Op)
         → slice_get ops nth ≡ o
-        → StateFits shape attempt.state → TxnPlaceFits shape attempt.state at
+        → StateFits shape attempt.state → TxnPointFits shape attempt.state at
         → HasAsked attempt.state (take nth ops)
         → OpenRuns (Some attempt) o at
         → Does (take_txn shape client at (Some attempt) found)
@@ -225,8 +225,8 @@ module _ (shape : Shape) where
     take_does client attempt (Reading op position at) found None here f p asked runs = absurd runs
     take_does client attempt (Claiming op at) found None here f p asked runs = absurd runs
 
-    take_txn_does : (client : ClientState) (opened : Option Open) (at : TxnPlace) (found : ℕ) → OpenFits shape opened
-        → OpenPlaceFits shape opened at
+    take_txn_does : (client : ClientState) (opened : Option Open) (at : TxnPoint) (found : ℕ) → OpenFits shape opened
+        → OpenPointFits shape opened at
         → OpenAsked opened (take nth ops) → OpenRuns opened (slice_get ops nth) at
         → Does (take_txn shape client at opened found)
     take_txn_does client None at found f p asked runs = absurd p
@@ -244,26 +244,26 @@ module _ (shape : Shape) where
           has_passed_here (Scan table low high) here attempt
           (unclaimed attempt.state.writes attempt.state.guards (take nth ops) asked (Scan table low high) refl)
 
-      on_skip_does : (client : ClientState) (now : Now ScanPlace ScanAnswer) → OpenAsked client.txn (take nth ops)
+      on_skip_does : (client : ClientState) (now : Now ScanPoint ScanAnswer) → OpenAsked client.txn (take nth ops)
           → Does (on_skip client attempt table low high now)
       on_skip_does client (At place) o = (o, here)
       on_skip_does client (Over end) o = all_scanned
 
       skipped_does : (client : ClientState) (position key : ℕ) (value : Option (List ℕ))
           → OpenAsked client.txn (take nth ops)
-          → Does (on_skip (gathered client position key value) attempt table low high (scan_skip shape table position))
+          → Does (on_skip (with_gathered client position key value) attempt table low high (scan_skip shape table position))
       skipped_does client position key value o =
-          on_skip_does (gathered client position key value) (scan_skip shape table position)
+          on_skip_does (with_gathered client position key value) (scan_skip shape table position)
           (gathered_keeps shape limits Asked client position key value o)
 
-      on_scan_does : (client : ClientState) (position : ℕ) (now : Now ScanPlace ScanAnswer)
+      on_scan_does : (client : ClientState) (position : ℕ) (now : Now ScanPoint ScanAnswer)
           → OpenAsked client.txn (take nth ops)
           → Does (on_scan shape client attempt table low high position now)
       on_scan_does client position (At place) o = (o, here)
       on_scan_does client position (Over (scan_answer.Key key)) o =
           let own = key_at table key in
           either Does (writes_key attempt.state.writes own)
-          (on_skip (gathered client position key (own_value attempt.state.writes own)) attempt table low high
+          (on_skip (with_gathered client position key (own_value attempt.state.writes own)) attempt table low high
           (scan_skip shape table position))
           (on_skip client attempt table low high (scan_read position key))
           (skipped_does client position key (own_value attempt.state.writes own) o)
@@ -274,7 +274,7 @@ module _ (shape : Shape) where
       on_scan_does client position (Over scan_answer.Astray) o = tt
 
     take_scan_does : (limits : FitsLimits shape) (table low high : ℕ) → slice_get ops nth ≡ Some (Scan table low high)
-        → (client : ClientState) (opened : Option Open) (at : ScanPlace) (found : ℕ)
+        → (client : ClientState) (opened : Option Open) (at : ScanPoint) (found : ℕ)
         → OpenAsked client.txn (take nth ops)
         → OpenAsked opened (take nth ops)
         → Does (take_scan shape client table low high at opened found)
@@ -285,29 +285,29 @@ module _ (shape : Shape) where
 
   -- 4. The other calls
 
-  on_begin_does : (ops : List Op) (client : ClientState) (txn nth : ℕ) (now : Now SnapPlace SnapEnd)
+  on_begin_does : (ops : List Op) (client : ClientState) (txn nth : ℕ) (now : Now SnapPoint SnapEnd)
       → ClientDoes ToBegin ops (on_begin shape client txn nth now)
   on_begin_does ops client txn nth (At place) = tt
   on_begin_does ops client txn nth (Over (snap_end.Done seen)) = record { written = refl; guarded = refl }
   on_begin_does ops client txn nth (Over (snap_end.Again worker first second)) = tt
 
   -- a move that finds no room names the bucket of its cells
-  abbrev RoomIn : Cells → Now MovePlace MoveAnswer → Type 0
+  abbrev RoomIn : Cells → Now MovePoint MoveAnswer → Type 0
   RoomIn cells (Over (move_end.NoRoom bucket)) = cells.bucket ≡ bucket
   RoomIn cells _ = Unit {0}
 
-  on_claim_room : (cells : Cells) (slot header ending : ℕ) (now : Now ClaimPlace ClaimEnd)
+  on_claim_room : (cells : Cells) (slot header ending : ℕ) (now : Now ClaimPoint ClaimEnd)
       → RoomIn cells (on_claim cells slot header ending now)
   on_claim_room cells slot header ending (At at) = tt
   on_claim_room cells slot header ending (Over (Claimed cell tag)) = tt
   on_claim_room cells slot header ending (Over NoRoom) = refl
 
-  on_fill_room : (cells : Cells) (slot header cell tag : ℕ) (version : Version) (now : Now FillPlace (Unit {0}))
+  on_fill_room : (cells : Cells) (slot header cell tag : ℕ) (version : Version) (now : Now FillPoint (Unit {0}))
       → RoomIn cells (on_fill slot header cell tag version now)
   on_fill_room cells slot header cell tag version (At at) = tt
   on_fill_room cells slot header cell tag version (Over done) = tt
 
-  move_room : (place : Place) (cells : Cells) (at : MovePlace) (found : ℕ) → RoomIn cells (move_after place cells at found)
+  move_room : (place : Place) (cells : Cells) (at : MovePoint) (found : ℕ) → RoomIn cells (move_after place cells at found)
   move_room place cells MoveCount found = tt
   move_room place cells (MoveHead slot) found =
       either (RoomIn cells) (is_moved place.form found) (Over move_end.Nothing) (At (MoveEnding slot found)) tt tt
@@ -333,7 +333,7 @@ module _ (shape : Shape) where
     on_seek_does client table key (Over (found_key.At position)) = tt
     on_seek_does client table key (Over found_key.Absent) = tt
 
-    on_move_does : (client : ClientState) (table key position : ℕ) (cells : Cells) (now : Now MovePlace MoveAnswer)
+    on_move_does : (client : ClientState) (table key position : ℕ) (cells : Cells) (now : Now MovePoint MoveAnswer)
         → cells.bucket < shape.buckets → RoomIn cells now
         → Tidies (on_move shape client table key position cells.bucket now)
     on_move_does client table key position cells (At place) l r = tt
@@ -347,12 +347,12 @@ module _ (shape : Shape) where
     abbrev Collects : ClientState → Type 0
     Collects client = ClientDoes (ToCollect bucket keys nth retry) ops client
 
-    on_snap_does : (client : ClientState) (b : ℕ) (now : Now SnapPlace SnapEnd) → Collects (on_snap shape client b now)
+    on_snap_does : (client : ClientState) (b : ℕ) (now : Now SnapPoint SnapEnd) → Collects (on_snap shape client b now)
     on_snap_does client b (At place) = tt
     on_snap_does client b (Over (snap_end.Done seen)) = tt
     on_snap_does client b (Over (snap_end.Again worker first second)) = tt
 
-    on_collect_does : (client : ClientState) (b prefix : ℕ) (seen : List ℕ) (now : Now CollectPlace (List ℕ))
+    on_collect_does : (client : ClientState) (b prefix : ℕ) (seen : List ℕ) (now : Now CollectPoint (List ℕ))
         → Collects (on_collect shape client b prefix seen now)
     on_collect_does client b prefix seen (At place) = tt
     on_collect_does client b prefix seen (Over known) = tt
@@ -361,21 +361,21 @@ module _ (shape : Shape) where
 
   module _ (limits : FitsLimits shape) (ops : List Op) (client : ClientState) (fits : OpenFits shape client.txn)
       (found : ℕ) where
-    abbrev DoesAfter : DriverPlace → CallPlace → Type 0
-    DoesAfter place at = CallPlaceFits shape client.txn at → PlaceRuns place ops client.txn at
+    abbrev DoesAfter : DriverPoint → CallPoint → Type 0
+    DoesAfter place at = CallPointFits shape client.txn at → PlaceRuns place ops client.txn at
         → ClientDoes place ops (call_after shape client at found)
 
-    begin_word : (at : CallPlace) → DoesAfter ToBegin at
+    begin_word : (at : CallPoint) → DoesAfter ToBegin at
     begin_word (Beginning txn nth at) p r = on_begin_does ops client txn nth (snap_after shape.workers at found)
     begin_word _ p r = absurd r
 
-    ask_word : (nth : ℕ) (at : CallPlace) → DoesAfter (ToAsk nth) at
+    ask_word : (nth : ℕ) (at : CallPoint) → DoesAfter (ToAsk nth) at
     ask_word nth (InTxn at) p r = take_txn_does ops nth client client.txn at found fits p r.0 r.1
     ask_word nth (Scanning table low high at) p r =
         take_scan_does ops nth limits table low high r.1 client client.txn at found r.0 r.0
     ask_word nth _ p r = absurd r
 
-    tidy_word : (keys : List Key) (nth : ℕ) (again retry : Bool) (at : CallPlace)
+    tidy_word : (keys : List Key) (nth : ℕ) (again retry : Bool) (at : CallPoint)
         → DoesAfter (ToTidy keys nth again retry) at
     tidy_word keys nth again retry (Seeking table key passed) p r =
         on_seek_does keys nth again retry ops client table key (find_after (path_of shape table key) passed found)
@@ -386,7 +386,7 @@ module _ (shape : Shape) where
         (bucket_within shape limits table position p.0 p.1) (move_room place (cells_by shape place) at found)
     tidy_word keys nth again retry _ p r = absurd r
 
-    collect_word : (bucket : ℕ) (keys : List Key) (nth : ℕ) (retry : Bool) (at : CallPlace)
+    collect_word : (bucket : ℕ) (keys : List Key) (nth : ℕ) (retry : Bool) (at : CallPoint)
         → DoesAfter (ToCollect bucket keys nth retry) at
     collect_word bucket keys nth retry (Snapping b at) p r =
         on_snap_does bucket keys nth retry ops client b (snap_after shape.workers at found)
@@ -395,7 +395,7 @@ module _ (shape : Shape) where
         (collect_after (cells_of shape b) shape.workers seen at found)
     collect_word bucket keys nth retry _ p r = absurd r
 
-    pub word_does : (place : DriverPlace) (at : CallPlace) → DoesAfter place at
+    pub word_does : (place : DriverPoint) (at : CallPoint) → DoesAfter place at
     word_does ToBegin at p r = begin_word at p r
     word_does (ToAsk nth) at p r = ask_word nth at p r
     word_does (ToTidy keys nth again retry) at p r = tidy_word keys nth again retry at p r

@@ -20,16 +20,16 @@ use Rattle.nam_verbs.proofs.TestLemmas.{by_test}
 use Rattle.nam_catalog.specs.declared.shape.Shape.{Shape}
 use Rattle.nam_catalog.specs.Greatest.{greatest_number}
 use Rattle.nam_calls.specs.declared.index.FindEnd.{FindEnd}
-use Rattle.nam_calls.specs.declared.index.ClaimKeyPlace.{ClaimKeyPlace}
+use Rattle.nam_calls.specs.declared.index.ClaimKeyPoint.{ClaimKeyPoint}
 use Rattle.nam_calls.specs.declared.index.ClaimKeyEnd.{ClaimKeyEnd}
-use Rattle.nam_calls.specs.declared.record.InstallPlace.{InstallPlace}
-use Rattle.nam_calls.specs.declared.reading.ReadPlace.{ReadPlace}
+use Rattle.nam_calls.specs.declared.record.InstallPoint.{InstallPoint}
+use Rattle.nam_calls.specs.declared.reading.ReadPoint.{ReadPoint}
 use Rattle.nam_calls.specs.declared.reading.ReadingEnd.{ReadingEnd}
-use Rattle.nam_calls.specs.declared.ring.SlotPlace.{SlotPlace}
+use Rattle.nam_calls.specs.declared.ring.SlotPoint.{SlotPoint}
 use Rattle.nam_calls.specs.declared.ring.SlotEnd.{SlotEnd}
 use Rattle.nam_calls.specs.declared.ring.SlotEnd.TheVariants.{Free, NotMoved}
-use Rattle.nam_calls.specs.declared.ring.CopyPlace.{CopyPlace}
-use Rattle.nam_calls.specs.declared.lock.LockPlace.{LockPlace}
+use Rattle.nam_calls.specs.declared.ring.CopyPoint.{CopyPoint}
+use Rattle.nam_calls.specs.declared.lock.LockPoint.{LockPoint}
 use Rattle.nam_calls.specs.declared.lock.LockEnd.{LockEnd}
 use Rattle.nam_calls.specs.Index.{find_begin, claim_key_begin, find_after, claim_key_after}
 use Rattle.nam_calls.specs.Reading.{sight_of, read_after}
@@ -44,15 +44,15 @@ use Rattle.nam_calls.specs.declared.reading.ReadingEnd.TheVariants as read_end
 use Rattle.nam_calls.specs.declared.lock.LockEnd.TheVariants as lock_end
 use Rattle.nam_protocol.specs.declared.txn.Record.{Record}
 use Rattle.nam_protocol.specs.declared.txn.TxnState.{TxnState}
-use Rattle.nam_protocol.specs.declared.txn.CommitPlace.{CommitPlace}
-use Rattle.nam_protocol.specs.declared.txn.CommitPlace.TheVariants.{Locking, Checking, Returning, Saving, Copying}
-use Rattle.nam_protocol.specs.declared.txn.CommitPlace.TheVariants.{Installing, Publishing, Freeing}
-use Rattle.nam_protocol.specs.declared.txn.TxnPlace.{TxnPlace}
-use Rattle.nam_protocol.specs.declared.txn.TxnPlace.TheVariants.{Finding, Reading, Claiming, Committing}
+use Rattle.nam_protocol.specs.declared.txn.CommitPoint.{CommitPoint}
+use Rattle.nam_protocol.specs.declared.txn.CommitPoint.TheVariants.{Locking, Checking, Returning, Saving, Copying}
+use Rattle.nam_protocol.specs.declared.txn.CommitPoint.TheVariants.{Installing, Publishing, Freeing}
+use Rattle.nam_protocol.specs.declared.txn.TxnPoint.{TxnPoint}
+use Rattle.nam_protocol.specs.declared.txn.TxnPoint.TheVariants.{Finding, Reading, Claiming, Committing}
 use Rattle.nam_protocol.specs.declared.txn.TxnAnswer.{TxnAnswer}
 use Rattle.nam_protocol.specs.declared.txn.TxnAnswer.TheVariants.{Declined, Full, Committed, ReadOnly, Spent}
 use Rattle.nam_protocol.specs.Operations.{holding, own_value, read_of, answer_of, op_path}
-use Rattle.nam_protocol.specs.Txn.{Stepped, at, answered, with_op, ask_op, valued, on_find, on_read, on_claim}
+use Rattle.nam_protocol.specs.Txn.{Stepped, at, over, with_op, ask_op, on_value, on_find, on_read, on_claim}
 use Rattle.nam_protocol.specs.TxnCalls.{txn_after}
 use Rattle.nam_protocol.specs.Commit.{record_in, record_place, records_of, places, no_record}
 use Rattle.nam_protocol.specs.Commit.{ask_commit, go, on_lock, next_check, on_slot, on_return, on_words, on_copy}
@@ -71,8 +71,8 @@ abbrev NotFull : TxnAnswer → Type 0
 NotFull (Full lock) = ⊥
 NotFull _ = Unit {0}
 
--- the call is at a place of the operation, or was answered
-abbrev pub OfOp : Op → Now TxnPlace TxnAnswer → Type 0
+-- the call is at a point of the operation, or was over
+abbrev pub OfOp : Op → Now TxnPoint TxnAnswer → Type 0
 OfOp op (At place) = IsOfOp op place
 OfOp op (Over answer) = NotFull answer
 
@@ -89,12 +89,12 @@ abbrev StepOf : Op → Stepped → Type 0
 StepOf op step = OfOp op step.call
 
 module _ (shape : Shape) where
-  valued_of : (state : TxnState) (op : Op) (value : Option (List ℕ)) → StepOf op (valued shape state op value)
+  valued_of : (state : TxnState) (op : Op) (value : Option (List ℕ)) → StepOf op (on_value shape state op value)
   valued_of state op value =
       let state' = record state { read = read_of op value } in
       let claiming = at state' (Claiming op claim_key_begin) in
-      let done = answered state' (answer_of op value) in
-      either (StepOf op) (not (passes op (holding value))) (answered state' Declined)
+      let done = over state' (answer_of op value) in
+      either (StepOf op) (not (passes op (holding value))) (over state' Declined)
       (if op_claims op then claiming else done) tt
       (either (StepOf op) (op_claims op) claiming done refl (answer_not_full op value))
 
@@ -103,21 +103,21 @@ module _ (shape : Shape) where
   on_find_of state op (Over (found_key.At position)) = refl
   on_find_of state op (Over found_key.Absent) = valued_of state op None
 
-  on_read_of : (state : TxnState) (op : Op) (position : ℕ) (now : Now ReadPlace ReadingEnd)
+  on_read_of : (state : TxnState) (op : Op) (position : ℕ) (now : Now ReadPoint ReadingEnd)
       → StepOf op (on_read shape state op position now)
   on_read_of state op position (At place) = refl
   on_read_of state op position (Over (read_end.Got value)) = valued_of state op value
   on_read_of state op position (Over (read_end.Passed worker entry horizon)) = tt
   on_read_of state op position (Over read_end.Astray) = tt
 
-  on_claim_of : (state : TxnState) (op : Op) (now : Now ClaimKeyPlace ClaimKeyEnd)
+  on_claim_of : (state : TxnState) (op : Op) (now : Now ClaimKeyPoint ClaimKeyEnd)
       → StepOf op (on_claim shape state op now)
   on_claim_of state op (At place) = refl
   on_claim_of state op (Over claimed_key.NoSpace) = tt
   on_claim_of state op (Over (claimed_key.At position)) = answer_not_full op _
 
   -- a word is taken
-  pub take_of : (state : TxnState) (op : Op) (place : TxnPlace) (found : ℕ) → IsOfOp op place
+  pub take_of : (state : TxnState) (op : Op) (place : TxnPoint) (found : ℕ) → IsOfOp op place
       → StepOf op (txn_after shape state place found)
   take_of state op (Finding o passed) found e =
       subst (λ p. StepOf p (txn_after shape state (Finding o passed) found)) e
@@ -138,11 +138,11 @@ module _ (shape : Shape) where
       let none = record state { read = None } in
       let finding = at none (Finding op find_begin) in
       let claiming = at none (Claiming op claim_key_begin) in
-      let done = answered (with_op shape state' op own) (answer_of op own) in
+      let done = over (with_op shape state' op own) (answer_of op own) in
       either (StepOf op) (writes_key state.writes (op_key op))
-      (if not (passes op (holding own)) then answered state' Declined else done)
+      (if not (passes op (holding own)) then over state' Declined else done)
       (if op_reads op then finding else claiming)
-      (either (StepOf op) (not (passes op (holding own))) (answered state' Declined) done tt (answer_not_full op own))
+      (either (StepOf op) (not (passes op (holding own))) (over state' Declined) done tt (answer_not_full op own))
       (either (StepOf op) (op_reads op) finding claiming refl refl)
 
 -- 2. Written keys
@@ -187,17 +187,17 @@ module _ (shape : Shape) where
   FullFits keys (Full lock) = IsTableOf shape lock.table × (key_bound shape (lock_key lock) ≤ keys_bound shape keys)
   FullFits keys _ = Unit {0}
 
-  abbrev pub CommitRuns : List Op → TxnState → Now TxnPlace TxnAnswer → Type 0
+  abbrev pub CommitRuns : List Op → TxnState → Now TxnPoint TxnAnswer → Type 0
   CommitRuns ops state (At (Committing at)) = FullIsWritten state at
   CommitRuns ops state (At _) = ⊥
   CommitRuns ops state (Over answer) = (has_passed answer ≡ false) × FullFits (written_keys ops) answer
 
-  -- the commit goes on or was answered, and the keys are as before
+  -- the commit goes on or was over, and the keys are as before
   abbrev pub CommitStands : List Op → Stepped → Type 0
   CommitStands ops step = HasAsked step.state ops × CommitRuns ops step.state step.call
 
   module _ (ops : List Op) (state : TxnState) (asked : HasAsked state ops) where
-    on_lock_runs : (now : Now LockPlace LockEnd) → CommitStands ops (on_lock state now)
+    on_lock_runs : (now : Now LockPoint LockEnd) → CommitStands ops (on_lock state now)
     on_lock_runs (At place) = (asked, tt)
     on_lock_runs (Over (lock_end.Held headers)) = (asked, tt)
     on_lock_runs (Over (lock_end.Locked nth found)) = (asked, (refl, tt))
@@ -209,7 +209,7 @@ module _ (shape : Shape) where
         either (CommitStands ops) (length state'.counts == length state.writes) (go state' (Saving 0 words_begin))
         (go state' (Checking slot_begin)) (asked, tt) (asked, tt)
 
-    on_slot_runs : (now : Now SlotPlace SlotEnd) → StateFits shape state → state.records ≡ records_of state
+    on_slot_runs : (now : Now SlotPoint SlotEnd) → StateFits shape state → state.records ≡ records_of state
         → length state.counts < length state.writes
         → CommitStands ops (on_slot state now)
     on_slot_runs (At place) fits are l = (asked, tt)
@@ -242,12 +242,12 @@ module _ (shape : Shape) where
     on_words_runs nth (At got) = (asked, tt)
     on_words_runs nth (Over old) = (asked, tt)
 
-    on_copy_runs : (nth : ℕ) (old : List ℕ) (now : Now CopyPlace (Unit {0}))
+    on_copy_runs : (nth : ℕ) (old : List ℕ) (now : Now CopyPoint (Unit {0}))
         → CommitStands ops (on_copy state nth old now)
     on_copy_runs nth old (At place) = (asked, tt)
     on_copy_runs nth old (Over done) = (asked, tt)
 
-    on_install_runs : (nth : ℕ) (now : Now InstallPlace (Unit {0})) → CommitStands ops (on_install state nth now)
+    on_install_runs : (nth : ℕ) (now : Now InstallPoint (Unit {0})) → CommitStands ops (on_install state nth now)
     on_install_runs nth (At place) = (asked, tt)
     on_install_runs nth (Over done) =
         either (CommitStands ops) (nth + 1 == length state.writes) (go state Publishing)
@@ -255,11 +255,11 @@ module _ (shape : Shape) where
 
     next_free_runs : (nth : ℕ) → CommitStands ops (next_free state nth)
     next_free_runs nth =
-        either (CommitStands ops) (nth == length state.records) (answered state (Committed (state.last + 1)))
+        either (CommitStands ops) (nth == length state.records) (over state (Committed (state.last + 1)))
         (go state (Freeing nth)) (asked, (refl, tt)) (asked, tt)
 
     -- a word is taken
-    pub commit_runs : (at : CommitPlace) (found : ℕ) → StateFits shape state → CommitFits shape state at
+    pub commit_runs : (at : CommitPoint) (found : ℕ) → StateFits shape state → CommitFits shape state at
         → FullIsWritten state at
         → CommitStands ops (commit_after state at found)
     commit_runs (Locking at) found fits c w = on_lock_runs (lock_after (places state) state.seen at found)
@@ -281,7 +281,7 @@ module _ (shape : Shape) where
         let none = record state { read = None } in
         let locking = at (record state { read = None; records = records_of state; held = []; counts = [] })
         (Committing (Locking lock_begin)) in
-        either (CommitStands ops) (length state.writes == 0) (answered none ReadOnly)
-        (if state.last == greatest_number shape.form then answered none Spent else locking) (asked, (refl, tt))
-        (either (CommitStands ops) (state.last == greatest_number shape.form) (answered none Spent) locking
+        either (CommitStands ops) (length state.writes == 0) (over none ReadOnly)
+        (if state.last == greatest_number shape.form then over none Spent else locking) (asked, (refl, tt))
+        (either (CommitStands ops) (state.last == greatest_number shape.form) (over none Spent) locking
         (asked, (refl, tt)) (asked, tt))

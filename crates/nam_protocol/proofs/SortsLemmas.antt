@@ -7,25 +7,25 @@ use Rattle.si_model.specs.declared.op.Op.TheVariants as op
 use Rattle.nam_verbs.specs.declared.now.Now.{Now}
 use Rattle.nam_verbs.specs.declared.now.Now.TheVariants.{At}
 use Rattle.nam_catalog.specs.declared.shape.Shape.{Shape}
-use Rattle.nam_calls.specs.declared.mover.MovePlace.{MovePlace}
+use Rattle.nam_calls.specs.declared.mover.MovePoint.{MovePoint}
 use Rattle.nam_calls.specs.Index.{find_begin}
 use Rattle.nam_calls.specs.Mover.{move_begin}
 use Rattle.nam_calls.specs.Reading.{read_after, sight_of}
 use Rattle.nam_protocol.specs.declared.client.Answer.{Answer}
 use Rattle.nam_protocol.specs.declared.client.Call.{Call}
-use Rattle.nam_protocol.specs.declared.client.CallPlace.{CallPlace}
-use Rattle.nam_protocol.specs.declared.client.CallPlace.TheVariants.{Beginning, InTxn, Scanning, Seeking, Moving}
-use Rattle.nam_protocol.specs.declared.client.CallPlace.TheVariants.{Snapping, Collecting}
+use Rattle.nam_protocol.specs.declared.client.CallPoint.{CallPoint}
+use Rattle.nam_protocol.specs.declared.client.CallPoint.TheVariants.{Beginning, InTxn, Scanning, Seeking, Moving}
+use Rattle.nam_protocol.specs.declared.client.CallPoint.TheVariants.{Snapping, Collecting}
 use Rattle.nam_protocol.specs.declared.client.ClientState.{ClientState}
 use Rattle.nam_protocol.specs.declared.client.Open.{Open}
-use Rattle.nam_protocol.specs.declared.scan.ScanPlace.{ScanPlace}
-use Rattle.nam_protocol.specs.declared.scan.ScanPlace.TheVariants.{ScanKey, ScanRead}
+use Rattle.nam_protocol.specs.declared.scan.ScanPoint.{ScanPoint}
+use Rattle.nam_protocol.specs.declared.scan.ScanPoint.TheVariants.{ScanKey, ScanRead}
 use Rattle.nam_protocol.specs.declared.txn.TxnCall.{TxnCall}
 use Rattle.nam_protocol.specs.declared.txn.TxnCall.TheVariants.{Get, Put, Add, Del, Need, Guard, Commit}
-use Rattle.nam_protocol.specs.declared.txn.TxnPlace.{TxnPlace}
-use Rattle.nam_protocol.specs.declared.txn.TxnPlace.TheVariants.{Finding, Reading, Claiming, Committing}
-use Rattle.nam_protocol.specs.Client.{ask_scan, ask_txn, client_after, client_ask, counted, take_scan, take_txn}
-use Rattle.nam_protocol.specs.ClientFits.{CallFits, CallPlaceFits, ClientFits, NowFits, OpenPlaceFits}
+use Rattle.nam_protocol.specs.declared.txn.TxnPoint.{TxnPoint}
+use Rattle.nam_protocol.specs.declared.txn.TxnPoint.TheVariants.{Finding, Reading, Claiming, Committing}
+use Rattle.nam_protocol.specs.Client.{ask_scan, ask_txn, client_after, client_ask, with_call, take_scan, take_txn}
+use Rattle.nam_protocol.specs.ClientFits.{CallFits, CallPointFits, ClientFits, NowFits, OpenPointFits}
 use Rattle.nam_protocol.specs.Plain.{KeepsOpen, Plain, SameBegin}
 use Rattle.nam_protocol.specs.Reader.{Reader, ReadsAnew, reader_at, reader_of}
 use Rattle.nam_protocol.specs.Sorts.{AskOf, StepOf, word_taken, AsksPlain, AsksBegin, AsksCollect, AsksCommit, Finds}
@@ -42,7 +42,7 @@ use Rattle.nam_protocol.specs.declared.client.Call.TheVariants as call
 module _ (shape : Shape) (found : ℕ) where
   -- 1. A word is taken
 
-  txn_sort : (client : ClientState) (at : TxnPlace) (opened : Option Open) → OpenPlaceFits shape opened at
+  txn_sort : (client : ClientState) (at : TxnPoint) (opened : Option Open) → OpenPointFits shape opened at
       → let c = record client { call = Some (At (InTxn at)); txn = opened } in
       StepOf shape found c (take_txn shape c at opened found)
   txn_sort client at None fits = absurd fits
@@ -63,7 +63,7 @@ module _ (shape : Shape) (found : ℕ) where
       (claim_reads shape c attempt 0 op at found)
   txn_sort client (Committing at) (Some attempt) fits = Commits client attempt at
 
-  scan_sort : (client : ClientState) (table low high : ℕ) (at : ScanPlace) (opened : Option Open) → IsSome opened
+  scan_sort : (client : ClientState) (table low high : ℕ) (at : ScanPoint) (opened : Option Open) → IsSome opened
       → let c = record client { call = Some (At (Scanning table low high at)); txn = opened } in
       StepOf shape found c (take_scan shape c table low high at opened found)
   scan_sort client table low high at None some = absurd (cc)
@@ -86,7 +86,7 @@ module _ (shape : Shape) (found : ℕ) where
   seeks None table key passed = tt
   seeks (Some attempt) table key passed = tt
 
-  moves : (opened : Option Open) (table key position : ℕ) (at : MovePlace)
+  moves : (opened : Option Open) (table key position : ℕ) (at : MovePoint)
       → ReadsAnew (reader_at shape opened (Moving table key position at))
   moves None table key position at = tt
   moves (Some attempt) table key position at = tt
@@ -98,7 +98,7 @@ module _ (shape : Shape) (found : ℕ) where
       (λ next e. seeks client.txn table key next) (λ position e. moves client.txn table key position move_begin)
       (λ e. tt)
 
-  pub step_sort : (client : ClientState) (place : CallPlace) → CallPlaceFits shape client.txn place
+  pub step_sort : (client : ClientState) (place : CallPoint) → CallPointFits shape client.txn place
       → StepOf shape found (go client place) (word_taken shape found client place)
   step_sort client (Beginning txn nth at) fits = Begins client txn nth at
   step_sort client (InTxn at) fits = txn_sort client at client.txn fits
@@ -116,18 +116,18 @@ module _ (shape : Shape) (found : ℕ) where
       (collect_plain shape (go client (Collecting bucket prefix seen at)) bucket prefix seen at found)
 
   -- of a client whose call runs
-  pub word_sort : (client : ClientState) (place : CallPlace) → ClientFits shape client → client.call ≡ Some (At place)
+  pub word_sort : (client : ClientState) (place : CallPoint) → ClientFits shape client → client.call ≡ Some (At place)
       → StepOf shape found client (client_after shape client found)
   word_sort client place fits e =
-      let fits_here : CallPlaceFits shape client.txn place = subst (NowFits shape client.txn) e fits.2 in
+      let fits_here : CallPointFits shape client.txn place = subst (NowFits shape client.txn) e fits.2 in
       let same : go client place ≡ client =
-      ap (λ (call : Option (Now CallPlace Answer)). record client { call = call }) (sym e) in
+      ap (λ (call : Option (Now CallPoint Answer)). record client { call = call }) (sym e) in
       subst (λ c. StepOf shape found c (client_after shape c found)) same (step_sort client place fits_here)
 
 -- 2. A call is asked
 
 module _ (shape : Shape) where
-  -- the operations are counted, and the transaction is as it was
+  -- the operations are with_call, and the transaction is as it was
   recounted : (attempt counts : Open) (later : Option Open) → counts.state ≡ attempt.state
       → KeepsOpen (Some counts) later → KeepsOpen (Some attempt) later
   recounted attempt counts None same kept = tt
@@ -155,33 +155,33 @@ module _ (shape : Shape) where
   ask_txn_sort client (Get t k) (Some attempt) some =
       let c = record client { txn = Some attempt } in
       AsksPlain c (call.Txn (Get t k))
-      (asked_plain client attempt (counted attempt (Get t k)) (op.Get t k) refl)
-      (ask_reads shape c (counted attempt (Get t k)) 0 (op.Get t k))
+      (asked_plain client attempt (with_call attempt (Get t k)) (op.Get t k) refl)
+      (ask_reads shape c (with_call attempt (Get t k)) 0 (op.Get t k))
   ask_txn_sort client (Put t k v) (Some attempt) some =
       let c = record client { txn = Some attempt } in
       AsksPlain c (call.Txn (Put t k v))
-      (asked_plain client attempt (counted attempt (Put t k v)) (op.Put t k v) refl)
-      (ask_reads shape c (counted attempt (Put t k v)) 0 (op.Put t k v))
+      (asked_plain client attempt (with_call attempt (Put t k v)) (op.Put t k v) refl)
+      (ask_reads shape c (with_call attempt (Put t k v)) 0 (op.Put t k v))
   ask_txn_sort client (Add t k f up by) (Some attempt) some =
       let c = record client { txn = Some attempt } in
       AsksPlain c (call.Txn (Add t k f up by))
-      (asked_plain client attempt (counted attempt (Add t k f up by)) (op.Add t k f up by) refl)
-      (ask_reads shape c (counted attempt (Add t k f up by)) 0 (op.Add t k f up by))
+      (asked_plain client attempt (with_call attempt (Add t k f up by)) (op.Add t k f up by) refl)
+      (ask_reads shape c (with_call attempt (Add t k f up by)) 0 (op.Add t k f up by))
   ask_txn_sort client (Del t k) (Some attempt) some =
       let c = record client { txn = Some attempt } in
       AsksPlain c (call.Txn (Del t k))
-      (asked_plain client attempt (counted attempt (Del t k)) (op.Del t k) refl)
-      (ask_reads shape c (counted attempt (Del t k)) 0 (op.Del t k))
+      (asked_plain client attempt (with_call attempt (Del t k)) (op.Del t k) refl)
+      (ask_reads shape c (with_call attempt (Del t k)) 0 (op.Del t k))
   ask_txn_sort client (Need t k f least) (Some attempt) some =
       let c = record client { txn = Some attempt } in
       AsksPlain c (call.Txn (Need t k f least))
-      (asked_plain client attempt (counted attempt (Need t k f least)) (op.Need t k f least) refl)
-      (ask_reads shape c (counted attempt (Need t k f least)) 0 (op.Need t k f least))
+      (asked_plain client attempt (with_call attempt (Need t k f least)) (op.Need t k f least) refl)
+      (ask_reads shape c (with_call attempt (Need t k f least)) 0 (op.Need t k f least))
   ask_txn_sort client (Guard t k) (Some attempt) some =
       let c = record client { txn = Some attempt } in
       AsksPlain c (call.Txn (Guard t k))
-      (asked_plain client attempt (counted attempt (Guard t k)) (op.Guard t k) refl)
-      (ask_reads shape c (counted attempt (Guard t k)) 0 (op.Guard t k))
+      (asked_plain client attempt (with_call attempt (Guard t k)) (op.Guard t k) refl)
+      (ask_reads shape c (with_call attempt (Guard t k)) 0 (op.Guard t k))
   ask_txn_sort client Commit (Some attempt) some = AsksCommit client attempt
 
   ask_scan_sort : (client : ClientState) (table low high : ℕ) (opened : Option Open) → IsSome opened

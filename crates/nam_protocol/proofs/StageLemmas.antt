@@ -1,30 +1,30 @@
--- Each step of a client, and each call that it is asked, keeps what the place of its commit says.
+-- Each step of a client, and each call that it is asked, keeps what the point of its commit says.
 use Rattle.std.specs.Prelude.{is_some}
 use Rattle.std.proofs.Common.{List, None, Option, Some, ap, length, refl, ℕ, ◌+◌, ◌≡◌, []}
 use Rattle.nam_verbs.specs.declared.now.Now.{Now}
 use Rattle.nam_verbs.specs.declared.now.Now.TheVariants.{At, Over}
 use Rattle.nam_verbs.proofs.TestLemmas.{by_equal}
 use Rattle.nam_catalog.specs.declared.shape.Shape.{Shape}
-use Rattle.nam_calls.specs.declared.lock.LockPlace.{LockPlace}
-use Rattle.nam_calls.specs.declared.lock.LockPlace.TheVariants.{Peek, Seize, GiveBack}
-use Rattle.nam_calls.specs.declared.record.InstallPlace.{InstallPlace}
-use Rattle.nam_calls.specs.declared.record.InstallPlace.TheVariants.{InstallCount, InstallHead, InstallWord}
+use Rattle.nam_calls.specs.declared.lock.LockPoint.{LockPoint}
+use Rattle.nam_calls.specs.declared.lock.LockPoint.TheVariants.{Peek, Seize, GiveBack}
+use Rattle.nam_calls.specs.declared.record.InstallPoint.{InstallPoint}
+use Rattle.nam_calls.specs.declared.record.InstallPoint.TheVariants.{InstallCount, InstallHead, InstallWord}
 use Rattle.nam_calls.specs.Lock.{give_back, lock_after}
 use Rattle.nam_calls.specs.Record.{install_after, install_begin}
 use Rattle.nam_calls.proofs.GoesTests.{give_back_goes, peek_goes, seize_goes}
 use Rattle.nam_protocol.specs.declared.client.Answer.{Answer}
 use Rattle.nam_protocol.specs.declared.client.Call.{Call}
-use Rattle.nam_protocol.specs.declared.client.CallPlace.{CallPlace}
-use Rattle.nam_protocol.specs.declared.client.CallPlace.TheVariants.{Beginning, InTxn, Scanning, Seeking, Moving}
-use Rattle.nam_protocol.specs.declared.client.CallPlace.TheVariants.{Snapping, Collecting}
+use Rattle.nam_protocol.specs.declared.client.CallPoint.{CallPoint}
+use Rattle.nam_protocol.specs.declared.client.CallPoint.TheVariants.{Beginning, InTxn, Scanning, Seeking, Moving}
+use Rattle.nam_protocol.specs.declared.client.CallPoint.TheVariants.{Snapping, Collecting}
 use Rattle.nam_protocol.specs.declared.client.ClientState.{ClientState}
 use Rattle.nam_protocol.specs.declared.client.Open.{Open}
-use Rattle.nam_protocol.specs.declared.txn.CommitPlace.{CommitPlace}
-use Rattle.nam_protocol.specs.declared.txn.CommitPlace.TheVariants.{Checking, Copying, Freeing, Installing, Locking}
-use Rattle.nam_protocol.specs.declared.txn.CommitPlace.TheVariants.{Publishing, Returning, Saving}
+use Rattle.nam_protocol.specs.declared.txn.CommitPoint.{CommitPoint}
+use Rattle.nam_protocol.specs.declared.txn.CommitPoint.TheVariants.{Checking, Copying, Freeing, Installing, Locking}
+use Rattle.nam_protocol.specs.declared.txn.CommitPoint.TheVariants.{Publishing, Returning, Saving}
 use Rattle.nam_protocol.specs.declared.txn.TxnAnswer.{TxnAnswer}
-use Rattle.nam_protocol.specs.declared.txn.TxnPlace.{TxnPlace}
-use Rattle.nam_protocol.specs.declared.txn.TxnPlace.TheVariants.{Finding, Reading, Claiming, Committing}
+use Rattle.nam_protocol.specs.declared.txn.TxnPoint.{TxnPoint}
+use Rattle.nam_protocol.specs.declared.txn.TxnPoint.TheVariants.{Finding, Reading, Claiming, Committing}
 use Rattle.nam_protocol.specs.declared.txn.TxnState.{TxnState}
 use Rattle.nam_protocol.specs.Client.{client_abandon, client_after, client_ask}
 use Rattle.nam_protocol.specs.ClientFits.{ClientFits}
@@ -43,7 +43,7 @@ use Rattle.nam_protocol.proofs.SortsLemmas.{ask_sort, word_sort}
 use Rattle.nam_protocol.proofs.SteppedLemmas.{abandoned_view}
 use Rattle.nam_protocol.specs.Commit.{go as go_to}
 
-stage_aside : (call : Option (Now CallPlace Answer)) (opened : Option Open) → IsAside call → StageIn call opened
+stage_aside : (call : Option (Now CallPoint Answer)) (opened : Option Open) → IsAside call → StageIn call opened
 stage_aside None opened aside = tt
 stage_aside (Some (Over answer)) opened aside = tt
 stage_aside (Some (At (Beginning txn nth at))) opened aside = tt
@@ -68,7 +68,7 @@ module _ (state : TxnState) where
       give_back_goes (λ now. Stage (on_lock state now)) (places state) held given found (λ e f. tt) (λ e f. tt)
       (λ e. tt)
 
-  lock_stage : (at : LockPlace) (found : ℕ) → Stage (on_lock state (lock_after (places state) state.seen at found))
+  lock_stage : (at : LockPoint) (found : ℕ) → Stage (on_lock state (lock_after (places state) state.seen at found))
   lock_stage (Peek held) found =
       peek_goes (λ now. Stage (on_lock state now)) (places state) state.seen held found (λ e. given_back held 0 found)
       (λ free sees. (free, sees)) (λ e f. given_back held 0 found)
@@ -83,7 +83,7 @@ module _ (state : TxnState) where
   install_starts nth None e = tt
   install_starts nth (Some value) e = ap is_some e
 
-  install_stage : (nth : ℕ) (at : InstallPlace) → StageAt state (Installing nth at)
+  install_stage : (nth : ℕ) (at : InstallPoint) → StageAt state (Installing nth at)
       → Stage (on_install state nth (install_after (record_place state nth) at))
   install_stage nth (InstallWord word) some =
       by_equal (λ now. Stage (on_install state nth now)) (word + 1) (record_place state nth).width (At InstallCount)
@@ -93,7 +93,7 @@ module _ (state : TxnState) where
       by_equal Stage (nth + 1) (length state.writes) (go_to state Publishing) (go_to state (Saving (nth + 1) []))
       (λ e. tt) (λ e. tt)
 
-  commit_stage : (at : CommitPlace) (found : ℕ) → StageAt state at → Stage (commit_after state at found)
+  commit_stage : (at : CommitPoint) (found : ℕ) → StageAt state at → Stage (commit_after state at found)
   commit_stage (Locking at) found stage = lock_stage at found
   commit_stage (Checking at) found stage =
       on_slot_goes Stage state _ (λ next e. tt) (λ count e f. tt) (λ count e f. tt) (λ slot word e. tt)
@@ -111,7 +111,7 @@ stepped_stage : (client : ClientState) (attempt : Open) (before : ℕ) (step : S
     → StageClient (stepped client attempt before step)
 stepped_stage client attempt before step stage = by_call step.state step.call stage
   where
-    by_call : (state : TxnState) (call : Now TxnPlace TxnAnswer) → StageNow state call
+    by_call : (state : TxnState) (call : Now TxnPoint TxnAnswer) → StageNow state call
         → StageClient (stepped client attempt before record { state = state; call = call })
     by_call state (At (Finding op passed)) stage = tt
     by_call state (At (Reading op position at)) stage = tt
@@ -153,7 +153,7 @@ module _ (shape : Shape) where
 
   -- 3. Of any client
 
-  pub stage_word : (client : ClientState) (place : CallPlace) (found : ℕ) → ClientFits shape client
+  pub stage_word : (client : ClientState) (place : CallPoint) (found : ℕ) → ClientFits shape client
       → client.call ≡ Some (At place) → StageClient client → StageClient (client_after shape client found)
   stage_word client place found fits e stage =
       stage_step found client _ (word_sort shape found client place fits e) stage

@@ -6,12 +6,12 @@ use Rattle.si_model.specs.declared.log.Lock.{Lock}
 use Rattle.nam_verbs.specs.declared.now.Now.{Now}
 use Rattle.nam_verbs.specs.declared.now.Now.TheVariants.{At, Over}
 use Rattle.nam_protocol.specs.declared.client.Answer.{Answer}
-use Rattle.nam_protocol.specs.declared.client.CallPlace.{CallPlace}
-use Rattle.nam_protocol.specs.declared.client.CallPlace.TheVariants.{InTxn}
+use Rattle.nam_protocol.specs.declared.client.CallPoint.{CallPoint}
+use Rattle.nam_protocol.specs.declared.client.CallPoint.TheVariants.{InTxn}
 use Rattle.nam_protocol.specs.declared.client.ClientState.{ClientState}
 use Rattle.nam_protocol.specs.declared.client.Open.{Open}
 use Rattle.nam_protocol.specs.declared.txn.TxnAnswer.{TxnAnswer}
-use Rattle.nam_protocol.specs.declared.txn.TxnPlace.{TxnPlace}
+use Rattle.nam_protocol.specs.declared.txn.TxnPoint.{TxnPoint}
 use Rattle.nam_protocol.specs.declared.txn.TxnState.{TxnState}
 use Rattle.nam_protocol.specs.Client.{abandon_open, client_abandon}
 use Rattle.nam_protocol.specs.Log.{with_locks}
@@ -22,23 +22,23 @@ use Rattle.nam_protocol.specs.TxnCalls.{taken_at, taken_now}
 use Rattle.nam_protocol.proofs.GoesClient.{step_opens}
 use Rattle.nam_protocol.specs.declared.client.Answer.TheVariants as client_answer
 
--- 1. A view that looks at the call and the transaction's state alone: what it says of each place, and of an answered
+-- 1. A view that looks at the call and the transaction's state alone: what it says of each point, and of an answered
 -- client
 
-module _ {A : Type 0} (view : Option (Now CallPlace Answer) → Option Open → A) (of_place : TxnState → TxnPlace → A)
+module _ {A : Type 0} (view : Option (Now CallPoint Answer) → Option Open → A) (of_place : TxnState → TxnPoint → A)
     (at_rest : A) where
-  abbrev pub view_now : TxnState → Now TxnPlace TxnAnswer → A
+  abbrev pub view_now : TxnState → Now TxnPoint TxnAnswer → A
   view_now state (At place) = of_place state place
   view_now state (Over answer) = at_rest
 
-  pub stepped_view : ((attempt : Open) (place : TxnPlace)
+  pub stepped_view : ((attempt : Open) (place : TxnPoint)
       → view (Some (At (InTxn place))) (Some attempt) ≡ of_place attempt.state place)
       → ((answer : Answer) (opened : Option Open) → view (Some (Over answer)) opened ≡ at_rest)
       → (client : ClientState) (attempt : Open) (before : ℕ) (step : Stepped)
       → let d = stepped client attempt before step in view d.call d.txn ≡ view_now step.state step.call
   stepped_view places rests client attempt before step = by_call step.state step.call
     where
-      by_call : (state : TxnState) (call : Now TxnPlace TxnAnswer)
+      by_call : (state : TxnState) (call : Now TxnPoint TxnAnswer)
           → let d = stepped client attempt before record { state = state; call = call } in
           view d.call d.txn ≡ view_now state call
       by_call state (At place) = places (step_opens attempt before record { state = state; call = At place }) place
@@ -64,17 +64,17 @@ module _ (client : ClientState) (attempt : Open) where
       ∙ ap (λ (locks : ℕ). on_call client (record attempt { locks = locks; state = step.state }) step.call) none
 
   -- the state is as it was
-  pub quiet : (place : TxnPlace)
+  pub quiet : (place : TxnPoint)
       → stepped client attempt (length (taken_at attempt.state place)) (at attempt.state place)
       ≡ record client { txn = Some attempt; call = Some (At (InTxn place)) }
   quiet place = quiet_step (at attempt.state place) (taken_at attempt.state place) refl
 
 -- 3. A client at rest, and after it has given its transaction up
 
-module _ (View : Option (Now CallPlace Answer) → Option Open → Type 0)
+module _ (View : Option (Now CallPoint Answer) → Option Open → Type 0)
     (none : (opened : Option Open) → View None opened)
     (over : (answer : Answer) (opened : Option Open) → View (Some (Over answer)) opened) where
-  pub rested_view : (call : Option (Now CallPlace Answer)) (opened : Option Open) → Rests call → View call opened
+  pub rested_view : (call : Option (Now CallPoint Answer)) (opened : Option Open) → Rests call → View call opened
   rested_view None opened rests = none opened
   rested_view (Some (Over answer)) opened rests = over answer opened
   rested_view (Some (At place)) opened rests = absurd rests

@@ -9,8 +9,8 @@ use Rattle.nam_verbs.specs.declared.now.Now.{Now}
 use Rattle.nam_verbs.specs.declared.now.Now.TheVariants.{At, Over}
 use Rattle.nam_catalog.specs.declared.shape.Shape.{Shape}
 use Rattle.nam_protocol.specs.declared.txn.TxnState.{TxnState}
-use Rattle.nam_protocol.specs.declared.txn.TxnPlace.{TxnPlace}
-use Rattle.nam_protocol.specs.declared.txn.TxnPlace.TheVariants.{Finding, Reading, Claiming, Committing}
+use Rattle.nam_protocol.specs.declared.txn.TxnPoint.{TxnPoint}
+use Rattle.nam_protocol.specs.declared.txn.TxnPoint.TheVariants.{Finding, Reading, Claiming, Committing}
 use Rattle.nam_protocol.specs.declared.txn.TxnAnswer.{TxnAnswer}
 use Rattle.nam_protocol.specs.declared.txn.TxnAnswer.TheVariants.{Value, Written, Added, Met}
 use Rattle.nam_protocol.specs.Txn.{Stepped, new_txn, ask_op}
@@ -39,15 +39,15 @@ abbrev pub AnswerAsks : TxnState → List Op → Op → Bool → Type 0
 AnswerAsks state ops op true = HasAsked state (ops ++ op ∷ [])
 AnswerAsks state ops op false = HasAsked state ops
 
-abbrev pub NowAsks : TxnState → List Op → Op → Now TxnPlace TxnAnswer → Type 0
+abbrev pub NowAsks : TxnState → List Op → Op → Now TxnPoint TxnAnswer → Type 0
 NowAsks state ops op (At place) = HasAsked state ops
 NowAsks state ops op (Over answer) = AnswerAsks state ops op (has_passed answer)
 
 abbrev pub Asks : List Op → Op → Stepped → Type 0
 Asks ops op step = NowAsks step.state ops op step.call
 
--- the place is one of this operation's
-abbrev pub IsOfOp : Op → TxnPlace → Type 0
+-- the point is one of this operation's
+abbrev pub IsOfOp : Op → TxnPoint → Type 0
 IsOfOp op (Finding o passed) = o ≡ op
 IsOfOp op (Reading o position at) = o ≡ op
 IsOfOp op (Claiming o at) = o ≡ op
@@ -62,7 +62,7 @@ AskLaw = (shape : Shape) (state : TxnState) (ops : List Op) (op : Op) → HasAsk
     → Asks ops op (ask_op shape state op)
 
 abbrev pub TakeLaw : Type 0
-TakeLaw = (shape : Shape) (state : TxnState) (ops : List Op) (op : Op) (place : TxnPlace) (found : ℕ)
+TakeLaw = (shape : Shape) (state : TxnState) (ops : List Op) (op : Op) (place : TxnPoint) (found : ℕ)
     → HasAsked state ops → IsOfOp op place
     → Asks ops op (txn_after shape state place found)
 

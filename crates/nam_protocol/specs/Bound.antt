@@ -14,11 +14,11 @@ use Rattle.nam_calls.specs.Ring.{slot_left, copy_left}
 use Rattle.nam_calls.specs.Lock.{lock_left, unlock_left}
 use Rattle.nam_calls.specs.Reading.{sight_of, read_left, read_most}
 use Rattle.nam_protocol.specs.declared.txn.TxnState.{TxnState}
-use Rattle.nam_protocol.specs.declared.txn.CommitPlace.{CommitPlace}
-use Rattle.nam_protocol.specs.declared.txn.CommitPlace.TheVariants.{Locking, Checking, Returning, Saving, Copying}
-use Rattle.nam_protocol.specs.declared.txn.CommitPlace.TheVariants.{Installing, Publishing, Freeing}
-use Rattle.nam_protocol.specs.declared.txn.TxnPlace.{TxnPlace}
-use Rattle.nam_protocol.specs.declared.txn.TxnPlace.TheVariants.{Finding, Reading, Claiming, Committing}
+use Rattle.nam_protocol.specs.declared.txn.CommitPoint.{CommitPoint}
+use Rattle.nam_protocol.specs.declared.txn.CommitPoint.TheVariants.{Locking, Checking, Returning, Saving, Copying}
+use Rattle.nam_protocol.specs.declared.txn.CommitPoint.TheVariants.{Installing, Publishing, Freeing}
+use Rattle.nam_protocol.specs.declared.txn.TxnPoint.{TxnPoint}
+use Rattle.nam_protocol.specs.declared.txn.TxnPoint.TheVariants.{Finding, Reading, Claiming, Committing}
 use Rattle.nam_protocol.specs.Operations.{op_path}
 use Rattle.nam_protocol.specs.Commit.{places, record_place}
 
@@ -41,7 +41,7 @@ written_from state nth = drop nth (take (length state.writes) (places state))
 abbrev pub rest_from : TxnState → ℕ → ℕ
 rest_from state nth = installs_most (written_from state nth) + publish_most state
 
-abbrev pub commit_left : TxnState → CommitPlace → ℕ
+abbrev pub commit_left : TxnState → CommitPoint → ℕ
 commit_left state (Locking at) = lock_left (places state) (2 * length state.writes + rest_from state 0) at
 commit_left state (Checking at) =
     slot_left at + (2 * (length state.writes - length state.counts - 1) + rest_from state 0)
@@ -60,7 +60,7 @@ module _ (shape : Shape) where
   abbrev pub claim_most : Op → ℕ
   claim_most op = if op_claims op then 2 * capacity_of shape (op_key op).table else 0
 
-  abbrev pub txn_left : TxnState → TxnPlace → ℕ
+  abbrev pub txn_left : TxnState → TxnPoint → ℕ
   txn_left state (Finding op passed) =
       find_left (op_path shape op) passed + (read_most shape (op_key op).table + claim_most op)
   txn_left state (Reading op position at) = read_left (sight_of shape (op_key op).table position) at + claim_most op

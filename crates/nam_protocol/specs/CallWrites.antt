@@ -1,4 +1,4 @@
--- Which field the verb of a client's place may change: none where the call only reads there.
+-- Which field the verb of a client's point may change: none where the call only reads there.
 use Rattle.std.specs.Prelude.{None, Option, Some, slice_index}
 use Rattle.nam_catalog.specs.declared.shape.Shape.{Shape}
 use Rattle.nam_layout.specs.declared.field.Field.TheVariants.{Entry}
@@ -7,20 +7,20 @@ use Rattle.nam_layout.specs.Place.{cells_by, cells_of, place_of}
 use Rattle.nam_calls.specs.Lock.{header_field, nth_place}
 use Rattle.nam_calls.specs.Writes.{claim_key_writes, collect_writes, copy_writes, install_writes, lock_writes}
 use Rattle.nam_calls.specs.Writes.{move_writes}
-use Rattle.nam_protocol.specs.declared.client.CallPlace.TheVariants.{Collecting, InTxn, Moving}
-use Rattle.nam_protocol.specs.declared.client.CallPlace.{CallPlace}
+use Rattle.nam_protocol.specs.declared.client.CallPoint.TheVariants.{Collecting, InTxn, Moving}
+use Rattle.nam_protocol.specs.declared.client.CallPoint.{CallPoint}
 use Rattle.nam_protocol.specs.declared.client.ClientState.{ClientState}
 use Rattle.nam_protocol.specs.declared.client.Open.{Open}
-use Rattle.nam_protocol.specs.declared.txn.CommitPlace.TheVariants.{Checking, Copying, Freeing, Installing, Locking}
-use Rattle.nam_protocol.specs.declared.txn.CommitPlace.TheVariants.{Publishing, Returning, Saving}
-use Rattle.nam_protocol.specs.declared.txn.CommitPlace.{CommitPlace}
-use Rattle.nam_protocol.specs.declared.txn.TxnPlace.TheVariants.{Finding, Reading, Claiming, Committing}
-use Rattle.nam_protocol.specs.declared.txn.TxnPlace.{TxnPlace}
+use Rattle.nam_protocol.specs.declared.txn.CommitPoint.TheVariants.{Checking, Copying, Freeing, Installing, Locking}
+use Rattle.nam_protocol.specs.declared.txn.CommitPoint.TheVariants.{Publishing, Returning, Saving}
+use Rattle.nam_protocol.specs.declared.txn.CommitPoint.{CommitPoint}
+use Rattle.nam_protocol.specs.declared.txn.TxnPoint.TheVariants.{Finding, Reading, Claiming, Committing}
+use Rattle.nam_protocol.specs.declared.txn.TxnPoint.{TxnPoint}
 use Rattle.nam_protocol.specs.declared.txn.TxnState.{TxnState}
 use Rattle.nam_protocol.specs.Commit.{places, record_place}
 use Rattle.nam_protocol.specs.Operations.{op_path}
 
-abbrev pub commit_writes : TxnState → CommitPlace → Option Field
+abbrev pub commit_writes : TxnState → CommitPoint → Option Field
 commit_writes state (Locking at) = lock_writes (places state) at
 commit_writes state (Checking at) = None
 commit_writes state (Returning given full) = Some (header_field (nth_place (places state) given))
@@ -31,17 +31,17 @@ commit_writes state Publishing = Some (Entry state.worker)
 commit_writes state (Freeing nth) = Some (header_field (nth_place (places state) nth))
 
 module _ (shape : Shape) where
-  abbrev pub txn_writes : TxnState → TxnPlace → Option Field
+  abbrev pub txn_writes : TxnState → TxnPoint → Option Field
   txn_writes state (Finding op passed) = None
   txn_writes state (Reading op position at) = None
   txn_writes state (Claiming op at) = claim_key_writes (op_path shape op) at
   txn_writes state (Committing at) = commit_writes state at
 
-  abbrev pub open_writes : Option Open → TxnPlace → Option Field
+  abbrev pub open_writes : Option Open → TxnPoint → Option Field
   open_writes None at = None
   open_writes (Some attempt) at = txn_writes attempt.state at
 
-  abbrev pub call_writes : ClientState → CallPlace → Option Field
+  abbrev pub call_writes : ClientState → CallPoint → Option Field
   call_writes client (InTxn at) = open_writes client.txn at
   call_writes client (Moving table key position at) =
       let place = place_of shape table position in move_writes place (cells_by shape place) at

@@ -7,14 +7,14 @@ use Rattle.nam_catalog.specs.declared.shape.Shape.{Shape}
 use Rattle.nam_protocol.specs.declared.client.Call.{Call}
 use Rattle.nam_protocol.specs.declared.client.Call.TheVariants.{Txn, Scan}
 use Rattle.nam_protocol.specs.declared.client.Answer.{Answer}
-use Rattle.nam_protocol.specs.declared.client.CallPlace.{CallPlace}
-use Rattle.nam_protocol.specs.declared.client.CallPlace.TheVariants.{InTxn}
+use Rattle.nam_protocol.specs.declared.client.CallPoint.{CallPoint}
+use Rattle.nam_protocol.specs.declared.client.CallPoint.TheVariants.{InTxn}
 use Rattle.nam_protocol.specs.declared.client.Open.{Open}
 use Rattle.nam_protocol.specs.declared.client.ClientState.{ClientState}
 use Rattle.nam_protocol.specs.Client.{client_ask, client_after}
 use Rattle.nam_protocol.specs.CutClient.{into_log}
 use Rattle.nam_protocol.specs.AttemptLaw.{has_passed}
-use Rattle.nam_protocol.specs.ClientFits.{CallPlaceFits}
+use Rattle.nam_protocol.specs.ClientFits.{CallPointFits}
 use Rattle.nam_protocol.specs.declared.client.Answer.TheVariants as answer
 
 -- 1. What an answer lists
@@ -34,7 +34,7 @@ is_open_after was (answer.Scanned items) = true
 is_open_after was _ = was
 
 -- a call runs or was answered: of so many events the client has listed no more but with the answer
-abbrev pub NowLists : ℕ → Bool → List Event → Option Open → Option (Now CallPlace Answer) → Type 0
+abbrev pub NowLists : ℕ → Bool → List Event → Option Open → Option (Now CallPoint Answer) → Type 0
 NowLists n was events txn None = ⊥
 NowLists n was events txn (Some (At at)) = (length events ≤ n) × (is_some txn ≡ was)
 NowLists n was events txn (Some (Over end)) =
@@ -52,7 +52,7 @@ NeedsOpen client call = Unit {0}
 -- 2. A client is closed
 
 -- a call that was cut in its middle lists an event, and one that has published one more; so does an open transaction
-abbrev pub closing : Option Open → Option (Now CallPlace Answer) → ℕ
+abbrev pub closing : Option Open → Option (Now CallPoint Answer) → ℕ
 closing txn (Some (At (InTxn at))) = 2
 closing txn (Some (At place)) = 1
 closing txn _ = if is_some txn then 1 else 0
@@ -60,8 +60,8 @@ closing txn _ = if is_some txn then 1 else 0
 -- 3. By a word that is taken, by a call that is asked, and by closing the client
 
 pub record ClientEvents (shape : Shape) : Type 0 where
-  pub word : (client : ClientState) (place : CallPlace) (found : ℕ) → client.call ≡ Some (At place)
-      → CallPlaceFits shape client.txn place
+  pub word : (client : ClientState) (place : CallPoint) (found : ℕ) → client.call ≡ Some (At place)
+      → CallPointFits shape client.txn place
       → ClientLists (length client.log.events) (is_some client.txn) (client_after shape client found)
   pub asked : (client : ClientState) (call : Call) → NeedsOpen client call
       → ClientLists (length client.log.events) (is_some client.txn) (client_ask shape client call)

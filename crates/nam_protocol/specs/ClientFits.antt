@@ -1,4 +1,4 @@
--- What holds of a client and of the places of its calls, and how many verbs a call takes.
+-- What holds of a client and of the points of its calls, and how many verbs a call takes.
 use Rattle.std.specs.Prelude.{◌≡◌, ℕ, ◌*◌, ◌<◌, length, Option, Some, None, IsNone, IsSome}
 use Rattle.nam_verbs.specs.declared.now.Now.{Now}
 use Rattle.nam_verbs.specs.declared.now.Now.TheVariants.{At}
@@ -7,21 +7,21 @@ use Rattle.nam_layout.specs.Place.{place_of, cells_of, cells_by}
 use Rattle.nam_vector.specs.Snap.{SnapFits}
 use Rattle.nam_calls.specs.Words.{capacity_of}
 use Rattle.nam_calls.specs.Fits.{IsOf, FindFits, MoveFits, CollectFits, IsTableOf}
-use Rattle.nam_protocol.specs.declared.txn.TxnPlace.{TxnPlace}
+use Rattle.nam_protocol.specs.declared.txn.TxnPoint.{TxnPoint}
 use Rattle.nam_protocol.specs.declared.txn.TxnCall.{TxnCall}
 use Rattle.nam_protocol.specs.declared.client.Call.{Call}
 use Rattle.nam_protocol.specs.declared.client.Call.TheVariants.{Begin, Txn, Scan, Tidy, Collect}
 use Rattle.nam_protocol.specs.declared.client.Answer.{Answer}
-use Rattle.nam_protocol.specs.declared.client.CallPlace.{CallPlace}
-use Rattle.nam_protocol.specs.declared.client.CallPlace.TheVariants.{Beginning, InTxn, Scanning, Seeking, Moving}
-use Rattle.nam_protocol.specs.declared.client.CallPlace.TheVariants.{Snapping, Collecting}
+use Rattle.nam_protocol.specs.declared.client.CallPoint.{CallPoint}
+use Rattle.nam_protocol.specs.declared.client.CallPoint.TheVariants.{Beginning, InTxn, Scanning, Seeking, Moving}
+use Rattle.nam_protocol.specs.declared.client.CallPoint.TheVariants.{Snapping, Collecting}
 use Rattle.nam_protocol.specs.declared.client.Open.{Open}
 use Rattle.nam_protocol.specs.declared.client.ClientState.{ClientState}
 use Rattle.nam_protocol.specs.Bound.{scan_bound, tidy_bound, collect_bound}
-use Rattle.nam_protocol.specs.TxnFits.{StateFits, TxnPlaceFits, ScanFits, TxnCallFits, txn_call_bound}
+use Rattle.nam_protocol.specs.TxnFits.{StateFits, TxnPointFits, ScanFits, TxnCallFits, txn_call_bound}
 
 module _ (shape : Shape) where
-  -- 1. Places
+  -- 1. Points
 
   -- what the open transaction has at hand
   abbrev pub OpenFits : Option Open → Type 0
@@ -29,24 +29,24 @@ module _ (shape : Shape) where
   OpenFits (Some attempt) = StateFits shape attempt.state
 
   -- a call of a transaction stands only where one is open
-  abbrev pub OpenPlaceFits : Option Open → TxnPlace → Type 0
-  OpenPlaceFits None at = ⊥
-  OpenPlaceFits (Some attempt) at = TxnPlaceFits shape attempt.state at
+  abbrev pub OpenPointFits : Option Open → TxnPoint → Type 0
+  OpenPointFits None at = ⊥
+  OpenPointFits (Some attempt) at = TxnPointFits shape attempt.state at
 
-  abbrev pub CallPlaceFits : Option Open → CallPlace → Type 0
-  CallPlaceFits opened (Beginning txn nth at) = SnapFits shape.workers at
-  CallPlaceFits opened (InTxn at) = OpenPlaceFits opened at
-  CallPlaceFits opened (Scanning table low high at) = IsSome opened × IsTableOf shape table × ScanFits shape table at
-  CallPlaceFits opened (Seeking table key passed) = IsTableOf shape table × FindFits (capacity_of shape table) passed
-  CallPlaceFits opened (Moving table key position at) =
+  abbrev pub CallPointFits : Option Open → CallPoint → Type 0
+  CallPointFits opened (Beginning txn nth at) = SnapFits shape.workers at
+  CallPointFits opened (InTxn at) = OpenPointFits opened at
+  CallPointFits opened (Scanning table low high at) = IsSome opened × IsTableOf shape table × ScanFits shape table at
+  CallPointFits opened (Seeking table key passed) = IsTableOf shape table × FindFits (capacity_of shape table) passed
+  CallPointFits opened (Moving table key position at) =
       IsTableOf shape table × (position < capacity_of shape table)
       × MoveFits (place_of shape table position) (cells_by shape (place_of shape table position)) at
-  CallPlaceFits opened (Snapping bucket at) = (bucket < shape.buckets) × SnapFits shape.workers at
-  CallPlaceFits opened (Collecting bucket prefix seen at) =
+  CallPointFits opened (Snapping bucket at) = (bucket < shape.buckets) × SnapFits shape.workers at
+  CallPointFits opened (Collecting bucket prefix seen at) =
       (bucket < shape.buckets) × (length seen ≡ shape.workers) × CollectFits (cells_of shape bucket) shape.workers at
 
-  abbrev pub NowFits : Option Open → Option (Now CallPlace Answer) → Type 0
-  NowFits opened (Some (At place)) = CallPlaceFits opened place
+  abbrev pub NowFits : Option Open → Option (Now CallPoint Answer) → Type 0
+  NowFits opened (Some (At place)) = CallPointFits opened place
   NowFits opened _ = Unit {0}
 
   abbrev pub ClientFits : ClientState → Type 0

@@ -14,7 +14,7 @@ use Rattle.nam_layout.specs.declared.field.Field.TheVariants.{Key, Header}
 use Rattle.nam_layout.specs.Rows.{row_of}
 use Rattle.nam_calls.specs.Memory.{memory}
 use Rattle.nam_calls.specs.declared.reading.Sight.{Sight}
-use Rattle.nam_calls.specs.declared.reading.ReadPlace.{ReadPlace}
+use Rattle.nam_calls.specs.declared.reading.ReadPoint.{ReadPoint}
 use Rattle.nam_calls.specs.declared.reading.ReadingEnd.{ReadingEnd}
 use Rattle.nam_calls.specs.declared.reading.ReadingEnd.TheVariants.{Got}
 use Rattle.nam_calls.specs.Reading.{sight_of, read_begin, read_verb, read_after, read_left}
@@ -22,7 +22,7 @@ use Rattle.nam_protocol.specs.World.{World}
 use Rattle.nam_protocol.specs.Schedule.{logs_of}
 
 -- a read on words that nobody changes, of at most so many verbs
-abbrev pub read_alone : Sight → List ℕ → (Field → ℕ) → ℕ → Now ReadPlace ReadingEnd → Option (List ℕ)
+abbrev pub read_alone : Sight → List ℕ → (Field → ℕ) → ℕ → Now ReadPoint ReadingEnd → Option (List ℕ)
 read_alone sight seen words verbs (Over (Got value)) = value
 read_alone sight seen words (suc verbs) (At place) =
     read_alone sight seen words verbs (read_after sight seen place (found_at words (read_verb sight place)))

@@ -17,12 +17,12 @@ use Rattle.nam_layout.specs.declared.field.Place.{Place}
 use Rattle.nam_layout.specs.Place.{no_place}
 use Rattle.nam_layout.specs.declared.field.Field.{Field}
 use Rattle.nam_vector.specs.Publish.{publish_verb}
-use Rattle.nam_calls.specs.declared.record.InstallPlace.{InstallPlace}
-use Rattle.nam_calls.specs.declared.ring.SlotPlace.{SlotPlace}
+use Rattle.nam_calls.specs.declared.record.InstallPoint.{InstallPoint}
+use Rattle.nam_calls.specs.declared.ring.SlotPoint.{SlotPoint}
 use Rattle.nam_calls.specs.declared.ring.SlotEnd.{SlotEnd}
 use Rattle.nam_calls.specs.declared.ring.SlotEnd.TheVariants.{Free, NotMoved}
-use Rattle.nam_calls.specs.declared.ring.CopyPlace.{CopyPlace}
-use Rattle.nam_calls.specs.declared.lock.LockPlace.{LockPlace}
+use Rattle.nam_calls.specs.declared.ring.CopyPoint.{CopyPoint}
+use Rattle.nam_calls.specs.declared.lock.LockPoint.{LockPoint}
 use Rattle.nam_calls.specs.declared.lock.LockEnd.{LockEnd}
 use Rattle.nam_calls.specs.Record.{words_begin, words_verb, words_after, install_begin, install_verb, install_after}
 use Rattle.nam_calls.specs.Ring.{slot_begin, slot_verb, slot_after, copy_begin, copy_verb, copy_after}
@@ -30,12 +30,12 @@ use Rattle.nam_calls.specs.Lock.{nth_place, lock_begin, lock_verb, lock_after, t
 use Rattle.nam_calls.specs.declared.lock.LockEnd.TheVariants as lock_end
 use Rattle.nam_protocol.specs.declared.txn.Record.{Record}
 use Rattle.nam_protocol.specs.declared.txn.TxnState.{TxnState}
-use Rattle.nam_protocol.specs.declared.txn.CommitPlace.{CommitPlace}
-use Rattle.nam_protocol.specs.declared.txn.CommitPlace.TheVariants.{Locking, Checking, Returning, Saving, Copying}
-use Rattle.nam_protocol.specs.declared.txn.CommitPlace.TheVariants.{Installing, Publishing, Freeing}
-use Rattle.nam_protocol.specs.declared.txn.TxnPlace.TheVariants.{Committing}
+use Rattle.nam_protocol.specs.declared.txn.CommitPoint.{CommitPoint}
+use Rattle.nam_protocol.specs.declared.txn.CommitPoint.TheVariants.{Locking, Checking, Returning, Saving, Copying}
+use Rattle.nam_protocol.specs.declared.txn.CommitPoint.TheVariants.{Installing, Publishing, Freeing}
+use Rattle.nam_protocol.specs.declared.txn.TxnPoint.TheVariants.{Committing}
 use Rattle.nam_protocol.specs.declared.txn.TxnAnswer.TheVariants.{Committed, ReadOnly, Spent, Locked, Newer, Full}
-use Rattle.nam_protocol.specs.Txn.{Stepped, at, answered}
+use Rattle.nam_protocol.specs.Txn.{Stepped, at, over}
 
 -- 1. The records
 
@@ -86,14 +86,14 @@ new_header state nth = version_word (record_place state nth).form (own_stamp sta
 
 abbrev pub ask_commit : Shape → TxnState → Stepped
 ask_commit shape state =
-    if length state.writes == 0 then answered (record state { read = None }) ReadOnly
-    else if state.last == greatest_number shape.form then answered (record state { read = None }) Spent
+    if length state.writes == 0 then over (record state { read = None }) ReadOnly
+    else if state.last == greatest_number shape.form then over (record state { read = None }) Spent
     else at (record state { read = None; records = records_of state; held = []; counts = [] })
     (Committing (Locking lock_begin))
 
 -- 3. The verb that stands
 
-abbrev pub commit_verb : TxnState → CommitPlace → VerbAt Field
+abbrev pub commit_verb : TxnState → CommitPoint → VerbAt Field
 commit_verb state (Locking at) = lock_verb state.worker (places state) at
 commit_verb state (Checking at) = slot_verb (record_place state (length state.counts)) at
 commit_verb state (Returning given full) = unlock_verb (places state) state.held given
@@ -108,40 +108,40 @@ commit_verb state (Freeing nth) = unlock_verb (places state) state.held nth
 
 -- 4. A word is taken
 
-abbrev pub go : TxnState → CommitPlace → Stepped
+abbrev pub go : TxnState → CommitPoint → Stepped
 go state place = at state (Committing place)
 
 -- step 1: the locks
-abbrev pub on_lock : TxnState → Now LockPlace LockEnd → Stepped
+abbrev pub on_lock : TxnState → Now LockPoint LockEnd → Stepped
 on_lock state (At place) = go state (Locking place)
 on_lock state (Over (lock_end.Held headers)) = go (record state { held = headers }) (Checking slot_begin)
-on_lock state (Over (lock_end.Locked nth found)) = answered state (Locked (lock_at state nth found))
-on_lock state (Over (lock_end.Newer nth found)) = answered state (Newer (lock_at state nth found))
+on_lock state (Over (lock_end.Locked nth found)) = over state (Locked (lock_at state nth found))
+on_lock state (Over (lock_end.Newer nth found)) = over state (Newer (lock_at state nth found))
 
 -- step 2: the slots of the written records
 abbrev pub next_check : TxnState → Stepped
 next_check state = if length state.counts == length state.writes then go state (Saving 0 words_begin)
     else go state (Checking slot_begin)
 
-abbrev pub on_slot : TxnState → Now SlotPlace SlotEnd → Stepped
+abbrev pub on_slot : TxnState → Now SlotPoint SlotEnd → Stepped
 on_slot state (At place) = go state (Checking place)
 on_slot state (Over (Free count)) = next_check (record state { counts = state.counts ++ count ∷ [] })
 on_slot state (Over (NotMoved slot found)) = go state (Returning 0 (lock_at state (length state.counts) found))
 
 abbrev pub on_return : TxnState → Lock → Now ℕ (Unit {0}) → Stepped
 on_return state full (At given) = go state (Returning given full)
-on_return state full (Over done) = answered state (Full full)
+on_return state full (Over done) = over state (Full full)
 
 -- step 3: record after record its words, the copy into the slot, and the new version
 abbrev pub on_words : TxnState → ℕ → Now (List ℕ) (List ℕ) → Stepped
 on_words state nth (At got) = go state (Saving nth got)
 on_words state nth (Over old) = go state (Copying nth old copy_begin)
 
-abbrev pub on_copy : TxnState → ℕ → List ℕ → Now CopyPlace (Unit {0}) → Stepped
+abbrev pub on_copy : TxnState → ℕ → List ℕ → Now CopyPoint (Unit {0}) → Stepped
 on_copy state nth old (At place) = go state (Copying nth old place)
 on_copy state nth old (Over done) = go state (Installing nth (install_begin (value_at state nth)))
 
-abbrev pub on_install : TxnState → ℕ → Now InstallPlace (Unit {0}) → Stepped
+abbrev pub on_install : TxnState → ℕ → Now InstallPoint (Unit {0}) → Stepped
 on_install state nth (At place) = go state (Installing nth place)
 on_install state nth (Over done) =
     if nth + 1 == length state.writes then go state Publishing else go state (Saving (nth + 1) words_begin)
@@ -149,9 +149,9 @@ on_install state nth (Over done) =
 -- steps 4 and 5: the worker's entry, then the guards
 abbrev pub next_free : TxnState → ℕ → Stepped
 next_free state nth =
-    if nth == length state.records then answered state (Committed (state.last + 1)) else go state (Freeing nth)
+    if nth == length state.records then over state (Committed (state.last + 1)) else go state (Freeing nth)
 
-abbrev pub commit_after : TxnState → CommitPlace → ℕ → Stepped
+abbrev pub commit_after : TxnState → CommitPoint → ℕ → Stepped
 commit_after state (Locking at) found = on_lock state (lock_after (places state) state.seen at found)
 commit_after state (Checking at) found = on_slot state (slot_after (record_place state (length state.counts)) at found)
 commit_after state (Returning given full) found = on_return state full (unlock_after (places state) given)
@@ -163,6 +163,6 @@ commit_after state (Freeing nth) found = next_free state (nth + 1)
 
 -- 5. The locks that it has taken: while it locks, those so far
 
-abbrev pub locks_taken : TxnState → CommitPlace → List ℕ
+abbrev pub locks_taken : TxnState → CommitPoint → List ℕ
 locks_taken state (Locking at) = taken at
 locks_taken state _ = state.held

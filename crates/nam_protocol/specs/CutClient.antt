@@ -10,52 +10,52 @@ use Rattle.nam_verbs.specs.declared.now.Now.TheVariants.{At}
 use Rattle.nam_catalog.specs.declared.shape.Shape.{Shape}
 use Rattle.nam_layout.specs.Place.{place_of, bucket_of}
 use Rattle.nam_calls.specs.Mover.{move_claimed}
-use Rattle.nam_protocol.specs.declared.txn.CommitPlace.TheVariants.{Freeing}
-use Rattle.nam_protocol.specs.declared.txn.TxnPlace.{TxnPlace}
-use Rattle.nam_protocol.specs.declared.txn.TxnPlace.TheVariants.{Committing}
+use Rattle.nam_protocol.specs.declared.txn.CommitPoint.TheVariants.{Freeing}
+use Rattle.nam_protocol.specs.declared.txn.TxnPoint.{TxnPoint}
+use Rattle.nam_protocol.specs.declared.txn.TxnPoint.TheVariants.{Committing}
 use Rattle.nam_protocol.specs.declared.client.Answer.{Answer}
-use Rattle.nam_protocol.specs.declared.client.CallPlace.{CallPlace}
-use Rattle.nam_protocol.specs.declared.client.CallPlace.TheVariants.{Beginning, InTxn, Scanning, Seeking, Moving}
-use Rattle.nam_protocol.specs.declared.client.CallPlace.TheVariants.{Snapping, Collecting}
+use Rattle.nam_protocol.specs.declared.client.CallPoint.{CallPoint}
+use Rattle.nam_protocol.specs.declared.client.CallPoint.TheVariants.{Beginning, InTxn, Scanning, Seeking, Moving}
+use Rattle.nam_protocol.specs.declared.client.CallPoint.TheVariants.{Snapping, Collecting}
 use Rattle.nam_protocol.specs.declared.client.Open.{Open}
 use Rattle.nam_protocol.specs.declared.client.ClientState.{ClientState}
 use Rattle.nam_protocol.specs.Log.{unbegun}
-use Rattle.nam_protocol.specs.Telling.{told, ended, committed}
+use Rattle.nam_protocol.specs.Telling.{with_listed, with_end, with_commit}
 
 abbrev pub client_cut : ClientState → ClientState
 client_cut client = record client { cut = true }
 
 -- a commit that has published is one, though the guards' locks stand
-abbrev pub cut_in_txn : ClientState → Open → TxnPlace → ClientState
-cut_in_txn client attempt (Committing (Freeing nth)) = told (committed client attempt (attempt.state.last + 1)) TailCut
-cut_in_txn client attempt _ = ended client attempt outcome.Cut
+abbrev pub cut_in_txn : ClientState → Open → TxnPoint → ClientState
+cut_in_txn client attempt (Committing (Freeing nth)) = with_listed (with_commit client attempt (attempt.state.last + 1)) TailCut
+cut_in_txn client attempt _ = with_end client attempt outcome.Cut
 
-abbrev pub cut_open : ClientState → TxnPlace → Option Open → ClientState
+abbrev pub cut_open : ClientState → TxnPoint → Option Open → ClientState
 cut_open client at None = client
 cut_open client at (Some attempt) = cut_in_txn client attempt at
 
--- the open transaction, where one is, ended so
+-- the open transaction, where one is, with_end so
 abbrev pub left_open : ClientState → Option Open → ClientState
 left_open client None = client
-left_open client (Some attempt) = ended client attempt (if client.cut then outcome.Cut else outcome.Left)
+left_open client (Some attempt) = with_end client attempt (if client.cut then outcome.Cut else outcome.Left)
 
 -- a move is listed from the claim of its cell on
 abbrev pub cut_move : ClientState → ℕ → ℕ → ℕ → Option Stamp → ClientState
-cut_move client table key bucket None = told client (TidyCut table key)
-cut_move client table key bucket (Some stamp) = told client (Moved bucket table key stamp moved.Cut)
+cut_move client table key bucket None = with_listed client (TidyCut table key)
+cut_move client table key bucket (Some stamp) = with_listed client (Moved bucket table key stamp moved.Cut)
 
-abbrev pub cut_call : Shape → ClientState → CallPlace → ClientState
-cut_call shape client (Beginning txn nth at) = told client (unbegun txn nth outcome.Cut)
+abbrev pub cut_call : Shape → ClientState → CallPoint → ClientState
+cut_call shape client (Beginning txn nth at) = with_listed client (unbegun txn nth outcome.Cut)
 cut_call shape client (InTxn at) = cut_open client at client.txn
 cut_call shape client (Scanning table low high at) = left_open client client.txn
-cut_call shape client (Seeking table key passed) = told client (TidyCut table key)
+cut_call shape client (Seeking table key passed) = with_listed client (TidyCut table key)
 cut_call shape client (Moving table key position at) =
     let place = place_of shape table position in
     cut_move client table key (bucket_of shape place.row) (move_claimed place at)
-cut_call shape client (Snapping bucket at) = told client (CollectCut bucket)
-cut_call shape client (Collecting bucket prefix seen at) = told client (Collected bucket prefix seen true)
+cut_call shape client (Snapping bucket at) = with_listed client (CollectCut bucket)
+cut_call shape client (Collecting bucket prefix seen at) = with_listed client (Collected bucket prefix seen true)
 
-abbrev pub closed_call : Shape → ClientState → Option (Now CallPlace Answer) → ClientState
+abbrev pub closed_call : Shape → ClientState → Option (Now CallPoint Answer) → ClientState
 closed_call shape client (Some (At place)) = cut_call shape client place
 closed_call shape client _ = left_open client client.txn
 

@@ -13,8 +13,8 @@ use Rattle.nam_protocol.specs.declared.txn.TxnAnswer.{TxnAnswer}
 use Rattle.nam_protocol.specs.declared.client.Call.{Call}
 use Rattle.nam_protocol.specs.declared.client.Answer.{Answer}
 use Rattle.nam_protocol.specs.declared.session.Job.{Job}
-use Rattle.nam_protocol.specs.declared.session.DriverPlace.{DriverPlace}
-use Rattle.nam_protocol.specs.declared.session.DriverPlace.TheVariants.{ToBegin, ToAsk, ToTidy, ToCollect}
+use Rattle.nam_protocol.specs.declared.session.DriverPoint.{DriverPoint}
+use Rattle.nam_protocol.specs.declared.session.DriverPoint.TheVariants.{ToBegin, ToAsk, ToTidy, ToCollect}
 use Rattle.nam_protocol.specs.declared.session.DriverState.{DriverState}
 use Rattle.nam_protocol.specs.declared.txn.TxnAnswer.TheVariants as txn_answer
 use Rattle.nam_protocol.specs.declared.client.Call.TheVariants as call
@@ -42,7 +42,7 @@ op_call (Some op) = call_of op
 abbrev pub key_number : List Key → ℕ → Key
 key_number keys nth = slice_index_or keys nth (key_at 0 0)
 
-abbrev pub place_call : Job → ℕ → DriverPlace → Call
+abbrev pub place_call : Job → ℕ → DriverPoint → Call
 place_call job nth ToBegin = call.Begin job.txn nth
 place_call job nth (ToAsk op) = op_call (slice_get job.ops op)
 place_call job nth (ToTidy keys key again retry) = call.Tidy (key_number keys key).table (key_number keys key).key
@@ -119,7 +119,7 @@ on_tidy driver keys nth false retry (client_answer.NoRoom bucket) =
     record driver { place = ToCollect bucket keys nth retry }
 on_tidy driver keys nth again retry _ = tidying driver keys (nth + 1) retry
 
-abbrev pub place_taken : List Job → DriverState → DriverPlace → Answer → DriverState
+abbrev pub place_taken : List Job → DriverState → DriverPoint → Answer → DriverState
 place_taken jobs driver ToBegin answer = on_begin driver answer
 place_taken jobs driver (ToAsk nth) answer = on_ask jobs driver nth answer
 place_taken jobs driver (ToTidy keys nth again retry) answer = on_tidy driver keys nth again retry answer

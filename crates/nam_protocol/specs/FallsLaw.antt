@@ -10,18 +10,18 @@ use Rattle.nam_calls.specs.Reading.{read_begin}
 use Rattle.nam_calls.specs.Fits.{IsTableOf}
 use Rattle.nam_protocol.specs.declared.txn.TxnState.{TxnState}
 use Rattle.nam_protocol.specs.declared.txn.TxnCall.{TxnCall}
-use Rattle.nam_protocol.specs.declared.txn.TxnPlace.{TxnPlace}
-use Rattle.nam_protocol.specs.declared.scan.ScanPlace.{ScanPlace}
-use Rattle.nam_protocol.specs.declared.scan.ScanPlace.TheVariants.{ScanRead}
+use Rattle.nam_protocol.specs.declared.txn.TxnPoint.{TxnPoint}
+use Rattle.nam_protocol.specs.declared.scan.ScanPoint.{ScanPoint}
+use Rattle.nam_protocol.specs.declared.scan.ScanPoint.TheVariants.{ScanRead}
 use Rattle.nam_protocol.specs.declared.client.Call.{Call}
-use Rattle.nam_protocol.specs.declared.client.CallPlace.{CallPlace}
+use Rattle.nam_protocol.specs.declared.client.CallPoint.{CallPoint}
 use Rattle.nam_protocol.specs.declared.client.ClientState.{ClientState}
 use Rattle.nam_protocol.specs.TxnCalls.{txn_ask, txn_after}
 use Rattle.nam_protocol.specs.Scan.{scan_begin, scan_skip, scan_read, scan_after, scan_left, position_of}
 use Rattle.nam_protocol.specs.Scan.{positions_left}
 use Rattle.nam_protocol.specs.Client.{client_ask, client_after}
 use Rattle.nam_protocol.specs.Bound.{txn_left, scan_bound}
-use Rattle.nam_protocol.specs.TxnFits.{StateFits, TxnPlaceFits, TxnFalls, TxnBegins, TxnCallFits, txn_call_bound}
+use Rattle.nam_protocol.specs.TxnFits.{StateFits, TxnPointFits, TxnFalls, TxnBegins, TxnCallFits, txn_call_bound}
 use Rattle.nam_protocol.specs.TxnFits.{ScanFits, ScanEnds, after_scan}
 use Rattle.nam_protocol.specs.Left.{client_left}
 use Rattle.nam_protocol.specs.ClientFits.{ClientFits, CallStands, call_bound}
@@ -30,8 +30,8 @@ use Rattle.nam_protocol.specs.ClientFits.{ClientFits, CallStands, call_bound}
 
 abbrev pub TxnLaw : Type 0
 TxnLaw =
-    (shape : Shape) → FitsLimits shape → (state : TxnState) (place : TxnPlace) (found : ℕ) → StateFits shape state
-    → TxnPlaceFits shape state place
+    (shape : Shape) → FitsLimits shape → (state : TxnState) (place : TxnPoint) (found : ℕ) → StateFits shape state
+    → TxnPointFits shape state place
     → TxnFalls shape (txn_left shape state place) (txn_after shape state place found)
 
 abbrev pub TxnBeginsLaw : Type 0
@@ -43,7 +43,7 @@ TxnBeginsLaw = (shape : Shape) → FitsLimits shape → (state : TxnState) (call
 
 pub record ScanFacts (shape : Shape) (table : ℕ) : Type 0 where
   pub begins : ScanFits shape table scan_begin × (scan_left shape table scan_begin ≤ scan_bound shape table)
-  pub falls : (low high : ℕ) (seen : List ℕ) (at : ScanPlace) (found : ℕ) → ScanFits shape table at
+  pub falls : (low high : ℕ) (seen : List ℕ) (at : ScanPoint) (found : ℕ) → ScanFits shape table at
       → FallsTo (ScanFits shape table) (ScanEnds shape table) (scan_left shape table)
       (after_scan shape table (position_of at))
       (scan_left shape table at) (scan_after shape table low high seen at found)
@@ -64,7 +64,7 @@ ScanLaw = (shape : Shape) → FitsLimits shape → (table : ℕ) → IsTableOf s
 -- 3. A client, which takes a word only where it isn't cut off
 
 abbrev pub ClientLaw : Type 0
-ClientLaw = (shape : Shape) → FitsLimits shape → (client : ClientState) (place : CallPlace) (found : ℕ)
+ClientLaw = (shape : Shape) → FitsLimits shape → (client : ClientState) (place : CallPoint) (found : ℕ)
     → ClientFits shape client
     → client.cut ≡ false → client.call ≡ Some (At place)
     → ClientFits shape (client_after shape client found)

@@ -11,24 +11,24 @@ use Rattle.nam_layout.specs.declared.field.Place.{Place}
 use Rattle.nam_layout.specs.Address.{IsRow, IsField}
 use Rattle.nam_layout.specs.FieldAt.{field_at}
 use Rattle.nam_layout.specs.Place.{place_at}
-use Rattle.nam_calls.specs.declared.index.ClaimKeyPlace.{ClaimKeyPlace}
-use Rattle.nam_calls.specs.declared.reading.ReadPlace.{ReadPlace}
+use Rattle.nam_calls.specs.declared.index.ClaimKeyPoint.{ClaimKeyPoint}
+use Rattle.nam_calls.specs.declared.reading.ReadPoint.{ReadPoint}
 use Rattle.nam_calls.specs.Memory.{verb_there}
 use Rattle.nam_calls.specs.Words.{capacity_of, path_of}
 use Rattle.nam_calls.specs.Index.{find_verb, claim_key_verb}
 use Rattle.nam_calls.specs.Reading.{sight_of, read_verb}
 use Rattle.nam_calls.specs.Fits.{FindFits, ClaimKeyFits, ReadFits, IsTableOf}
-use Rattle.nam_protocol.specs.declared.scan.ScanPlace.{ScanPlace}
+use Rattle.nam_protocol.specs.declared.scan.ScanPoint.{ScanPoint}
 use Rattle.nam_protocol.specs.declared.txn.TxnState.{TxnState}
-use Rattle.nam_protocol.specs.declared.txn.TxnPlace.{TxnPlace}
-use Rattle.nam_protocol.specs.declared.txn.CommitPlace.{CommitPlace}
-use Rattle.nam_protocol.specs.declared.client.CallPlace.{CallPlace}
+use Rattle.nam_protocol.specs.declared.txn.TxnPoint.{TxnPoint}
+use Rattle.nam_protocol.specs.declared.txn.CommitPoint.{CommitPoint}
+use Rattle.nam_protocol.specs.declared.client.CallPoint.{CallPoint}
 use Rattle.nam_protocol.specs.declared.client.ClientState.{ClientState}
 use Rattle.nam_protocol.specs.Commit.{record_place, commit_verb}
 use Rattle.nam_protocol.specs.TxnCalls.{txn_verb}
 use Rattle.nam_protocol.specs.Scan.{scan_verb}
 use Rattle.nam_protocol.specs.Client.{call_verb, client_verb}
-use Rattle.nam_protocol.specs.TxnFits.{StateFits, CommitFits, TxnPlaceFits, ScanFits}
+use Rattle.nam_protocol.specs.TxnFits.{StateFits, CommitFits, TxnPointFits, ScanFits}
 use Rattle.nam_protocol.specs.ClientFits.{ClientFits}
 
 -- the verb is at a field of the shape
@@ -40,12 +40,12 @@ IsAtField shape verb = IsField shape (target verb)
 pub record TableAtFields (shape : Shape) (table : ℕ) : Type 0 where
   pub find : (key passed : ℕ) → FindFits (capacity_of shape table) passed
       → IsAtField shape (find_verb (path_of shape table key) passed)
-  pub claim_key : (key : ℕ) (at : ClaimKeyPlace) → ClaimKeyFits (capacity_of shape table) at
+  pub claim_key : (key : ℕ) (at : ClaimKeyPoint) → ClaimKeyFits (capacity_of shape table) at
       → IsAtField shape (claim_key_verb (path_of shape table key) at)
-  pub read : (position : ℕ) (at : ReadPlace) → position < capacity_of shape table
+  pub read : (position : ℕ) (at : ReadPoint) → position < capacity_of shape table
       → ReadFits (sight_of shape table position) at
       → IsAtField shape (read_verb (sight_of shape table position) at)
-  pub scan : (at : ScanPlace) → ScanFits shape table at → IsAtField shape (scan_verb shape table at)
+  pub scan : (at : ScanPoint) → ScanFits shape table at → IsAtField shape (scan_verb shape table at)
 
 abbrev pub TableFieldsLaw : Type 0
 TableFieldsLaw = (shape : Shape) → FitsLimits shape → (table : ℕ) → IsTableOf shape table → TableAtFields shape table
@@ -57,25 +57,25 @@ pub record IsRowPlace (shape : Shape) (place : Place) : Type 0 where
   pub row_is : IsRow shape place.row
   pub place_is : place ≡ place_at shape place.row
 
-pub record CommitAtFields (shape : Shape) (state : TxnState) (at : CommitPlace) : Type 0 where
+pub record CommitAtFields (shape : Shape) (state : TxnState) (at : CommitPoint) : Type 0 where
   pub places : (nth : ℕ) → nth < length state.records → IsRowPlace shape (record_place state nth)
   pub verb : IsAtField shape (commit_verb state at)
 
 abbrev pub CommitFieldsLaw : Type 0
 CommitFieldsLaw =
-    (shape : Shape) → FitsLimits shape → (state : TxnState) (at : CommitPlace) → StateFits shape state
+    (shape : Shape) → FitsLimits shape → (state : TxnState) (at : CommitPoint) → StateFits shape state
     → CommitFits shape state at → CommitAtFields shape state at
 
 abbrev pub TxnFieldsLaw : Type 0
 TxnFieldsLaw =
-    (shape : Shape) → FitsLimits shape → (state : TxnState) (place : TxnPlace) → StateFits shape state
-    → TxnPlaceFits shape state place → IsAtField shape (txn_verb shape state place)
+    (shape : Shape) → FitsLimits shape → (state : TxnState) (place : TxnPoint) → StateFits shape state
+    → TxnPointFits shape state place → IsAtField shape (txn_verb shape state place)
 
 -- 3. Of a client
 
 abbrev pub CallFieldsLaw : Type 0
 CallFieldsLaw =
-    (shape : Shape) → FitsLimits shape → (client : ClientState) (place : CallPlace) → ClientFits shape client
+    (shape : Shape) → FitsLimits shape → (client : ClientState) (place : CallPoint) → ClientFits shape client
     → client.call ≡ Some (At place) → IsAtField shape (call_verb shape client place)
 
 abbrev pub ClientFieldsLaw : Type 0

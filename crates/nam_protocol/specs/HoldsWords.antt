@@ -5,7 +5,7 @@ use Rattle.si_model.specs.declared.op.Op.{Op}
 use Rattle.si_model.specs.declared.op.Op.TheVariants.{Get, Put, Add, Del, Need, Guard, Scan}
 use Rattle.si_model.specs.declared.row.Item.{Item}
 use Rattle.si_model.specs.declared.row.Row.{Row}
-use Rattle.si_model.specs.Evaluation.{changed, field_of}
+use Rattle.si_model.specs.Evaluation.{new_number, field_of}
 use Rattle.nam_verbs.specs.declared.now.Now.{Now}
 use Rattle.nam_verbs.specs.declared.now.Now.TheVariants.{At}
 use Rattle.nam_catalog.specs.declared.form.Form.{Form}
@@ -16,19 +16,19 @@ use Rattle.nam_calls.specs.Holds.{SnapHolds}
 use Rattle.nam_calls.specs.Words.{key_word}
 use Rattle.nam_protocol.specs.declared.client.Answer.{Answer}
 use Rattle.nam_protocol.specs.declared.client.Call.{Call}
-use Rattle.nam_protocol.specs.declared.client.CallPlace.{CallPlace}
-use Rattle.nam_protocol.specs.declared.client.CallPlace.TheVariants.{Collecting, InTxn, Moving, Snapping}
+use Rattle.nam_protocol.specs.declared.client.CallPoint.{CallPoint}
+use Rattle.nam_protocol.specs.declared.client.CallPoint.TheVariants.{Collecting, InTxn, Moving, Snapping}
 use Rattle.nam_protocol.specs.declared.client.ClientState.{ClientState}
 use Rattle.nam_protocol.specs.declared.client.Open.{Open}
 use Rattle.nam_protocol.specs.declared.session.Job.{Job}
 use Rattle.nam_protocol.specs.declared.session.SessionState.{SessionState}
-use Rattle.nam_protocol.specs.declared.txn.CommitPlace.{CommitPlace}
-use Rattle.nam_protocol.specs.declared.txn.CommitPlace.TheVariants.{Copying, Locking, Saving}
+use Rattle.nam_protocol.specs.declared.txn.CommitPoint.{CommitPoint}
+use Rattle.nam_protocol.specs.declared.txn.CommitPoint.TheVariants.{Copying, Locking, Saving}
 use Rattle.nam_protocol.specs.declared.txn.TxnAnswer.{TxnAnswer}
 use Rattle.nam_protocol.specs.declared.txn.TxnAnswer.TheVariants.{Committed}
 use Rattle.nam_protocol.specs.declared.txn.TxnCall.{TxnCall}
-use Rattle.nam_protocol.specs.declared.txn.TxnPlace.{TxnPlace}
-use Rattle.nam_protocol.specs.declared.txn.TxnPlace.TheVariants.{Finding, Reading, Claiming, Committing}
+use Rattle.nam_protocol.specs.declared.txn.TxnPoint.{TxnPoint}
+use Rattle.nam_protocol.specs.declared.txn.TxnPoint.TheVariants.{Finding, Reading, Claiming, Committing}
 use Rattle.nam_protocol.specs.declared.txn.TxnState.{TxnState}
 use Rattle.nam_protocol.specs.Driver.{call_of}
 use Rattle.nam_protocol.specs.Operations.{value_in}
@@ -81,10 +81,10 @@ pub record HandHolds (form : Form) (last : ℕ) (writes : List Item) (read : Opt
 
 -- the field that an addition leaves is a word
 abbrev pub ResultHolds : Op → Option (List ℕ) → Type 0
-ResultHolds (Add t k f up by) value = IsWord (changed up (field_of value f) by)
+ResultHolds (Add t k f up by) value = IsWord (new_number up (field_of value f) by)
 ResultHolds _ value = Unit {0}
 
-abbrev pub CommitPlaceHolds : CommitPlace → Type 0
+abbrev pub CommitPlaceHolds : CommitPoint → Type 0
 CommitPlaceHolds (Locking at) = LockHolds at
 CommitPlaceHolds (Saving nth got) = AreWords got
 CommitPlaceHolds (Copying nth old at) = AreWords old
@@ -95,7 +95,7 @@ module _ (form : Form) where
   StateHolds state = HandHolds form state.last state.writes state.read state.held
 
   -- a commit has a number of the form to publish
-  abbrev pub TxnPlaceHolds : TxnState → TxnPlace → Type 0
+  abbrev pub TxnPlaceHolds : TxnState → TxnPoint → Type 0
   TxnPlaceHolds state (Finding op passed) = OpHolds op
   TxnPlaceHolds state (Reading op position at) = OpHolds op × ReadHolds at
   TxnPlaceHolds state (Claiming op at) = OpHolds op × ResultHolds op (value_in state.read)
@@ -115,19 +115,19 @@ module _ (form : Form) where
   OpenHolds None = Unit {0}
   OpenHolds (Some attempt) = StateHolds attempt.state
 
-  abbrev pub OpenPlaceHolds : Option Open → TxnPlace → Type 0
+  abbrev pub OpenPlaceHolds : Option Open → TxnPoint → Type 0
   OpenPlaceHolds None at = Unit {0}
   OpenPlaceHolds (Some attempt) at = TxnPlaceHolds attempt.state at
 
   -- a begin's snapshot and a scan's rows are not written
-  abbrev pub CallPlaceHolds : Option Open → CallPlace → Type 0
+  abbrev pub CallPlaceHolds : Option Open → CallPoint → Type 0
   CallPlaceHolds opened (InTxn at) = OpenPlaceHolds opened at
   CallPlaceHolds opened (Moving table key position at) = MoveHolds at
   CallPlaceHolds opened (Snapping bucket at) = SnapHolds at
   CallPlaceHolds opened (Collecting bucket prefix seen at) = AreWords seen × CollectHolds at
   CallPlaceHolds opened _ = Unit {0}
 
-  abbrev pub RunHolds : Option Open → Option (Now CallPlace Answer) → Type 0
+  abbrev pub RunHolds : Option Open → Option (Now CallPoint Answer) → Type 0
   RunHolds opened (Some (At place)) = CallPlaceHolds opened place
   RunHolds opened _ = Unit {0}
 

@@ -17,16 +17,16 @@ use Rattle.nam_calls.specs.Index.{find_left}
 use Rattle.nam_calls.specs.Mover.{move_left}
 use Rattle.nam_calls.specs.Horizon.{collect_left}
 use Rattle.nam_calls.specs.Left.{move_most, collect_most}
-use Rattle.nam_protocol.specs.declared.txn.TxnPlace.{TxnPlace}
+use Rattle.nam_protocol.specs.declared.txn.TxnPoint.{TxnPoint}
 use Rattle.nam_protocol.specs.declared.client.Answer.{Answer}
-use Rattle.nam_protocol.specs.declared.client.CallPlace.{CallPlace}
-use Rattle.nam_protocol.specs.declared.client.CallPlace.TheVariants.{Beginning, InTxn, Scanning, Seeking, Moving}
-use Rattle.nam_protocol.specs.declared.client.CallPlace.TheVariants.{Snapping, Collecting}
+use Rattle.nam_protocol.specs.declared.client.CallPoint.{CallPoint}
+use Rattle.nam_protocol.specs.declared.client.CallPoint.TheVariants.{Beginning, InTxn, Scanning, Seeking, Moving}
+use Rattle.nam_protocol.specs.declared.client.CallPoint.TheVariants.{Snapping, Collecting}
 use Rattle.nam_protocol.specs.declared.client.Open.{Open}
 use Rattle.nam_protocol.specs.declared.client.ClientState.{ClientState}
 use Rattle.nam_protocol.specs.declared.session.Job.{Job}
-use Rattle.nam_protocol.specs.declared.session.DriverPlace.{DriverPlace}
-use Rattle.nam_protocol.specs.declared.session.DriverPlace.TheVariants.{ToBegin, ToAsk, ToTidy, ToCollect}
+use Rattle.nam_protocol.specs.declared.session.DriverPoint.{DriverPoint}
+use Rattle.nam_protocol.specs.declared.session.DriverPoint.TheVariants.{ToBegin, ToAsk, ToTidy, ToCollect}
 use Rattle.nam_protocol.specs.declared.session.DriverState.{DriverState}
 use Rattle.nam_protocol.specs.declared.session.SessionState.{SessionState}
 use Rattle.nam_protocol.specs.Scan.{scan_left}
@@ -35,11 +35,11 @@ use Rattle.nam_protocol.specs.Bound.{txn_left, ops_bound, writes_bound, verb_bou
 module _ (shape : Shape) where
   -- 1. What is to come of a client's call
 
-  abbrev pub open_left : Option Open → TxnPlace → ℕ
+  abbrev pub open_left : Option Open → TxnPoint → ℕ
   open_left None at = 0
   open_left (Some attempt) at = txn_left shape attempt.state at
 
-  abbrev pub call_left : ClientState → CallPlace → ℕ
+  abbrev pub call_left : ClientState → CallPoint → ℕ
   call_left client (Beginning txn nth at) = snap_left shape.workers at
   call_left client (InTxn at) = open_left client.txn at
   call_left client (Scanning table low high at) = scan_left shape table at
@@ -49,7 +49,7 @@ module _ (shape : Shape) where
   call_left client (Snapping bucket at) = snap_left shape.workers at + collect_most shape
   call_left client (Collecting bucket prefix seen at) = collect_left (cells_of shape bucket) shape.workers at
 
-  abbrev pub left_of : ClientState → Option (Now CallPlace Answer) → ℕ
+  abbrev pub left_of : ClientState → Option (Now CallPoint Answer) → ℕ
   left_of client (Some (At place)) = call_left client place
   left_of client _ = 0
 
@@ -84,7 +84,7 @@ module _ (shape : Shape) where
   jobs_bound policy (job ∷ jobs) = policy.tries * try_bound job.ops + jobs_bound policy jobs
 
   -- of a try what follows the call that is asked next
-  abbrev pub after_call_bound : List Op → DriverPlace → ℕ
+  abbrev pub after_call_bound : List Op → DriverPoint → ℕ
   after_call_bound ops ToBegin = ops_bound shape ops + commit_bound ops + keys_bound (written_keys ops)
   after_call_bound ops (ToAsk nth) = if is_some (slice_get ops nth)
       then ops_bound shape (drop (nth + 1) ops) + commit_bound ops + keys_bound (written_keys ops)

@@ -5,7 +5,7 @@ use Rattle.si_model.specs.declared.row.Item.{Item}
 use Rattle.si_model.specs.declared.op.Op.{Op}
 use Rattle.si_model.specs.declared.op.Op.TheVariants.{Get, Put, Add, Del, Need, Guard, Scan}
 use Rattle.si_model.specs.Rows.{Rows, overlay}
-use Rattle.si_model.specs.Evaluation.{found, field_of, changed, op_key}
+use Rattle.si_model.specs.Evaluation.{found, field_of, new_number, op_key}
 use Rattle.nam_catalog.specs.declared.shape.Shape.{Shape}
 use Rattle.nam_calls.specs.Words.{path_of}
 use Rattle.nam_calls.specs.declared.index.Path.{Path}
@@ -37,7 +37,7 @@ value_in (Some item) = item.value
 abbrev pub answer_of : Op → Option (List ℕ) → TxnAnswer
 answer_of (Get t k) value = Value value
 answer_of (Put t k v) value = Written
-answer_of (Add t k f up by) value = Added (changed up (field_of value f) by)
+answer_of (Add t k f up by) value = Added (new_number up (field_of value f) by)
 answer_of (Del t k) value = Written
 answer_of (Need t k f least) value = Met
 answer_of (Guard t k) value = Value value

@@ -5,19 +5,19 @@ use Rattle.nam_verbs.specs.declared.now.Now.{Now}
 use Rattle.nam_verbs.specs.declared.now.Now.TheVariants.{At}
 use Rattle.nam_catalog.specs.declared.shape.Shape.{Shape}
 use Rattle.nam_header.specs.Stamp.{is_locked, sees}
-use Rattle.nam_calls.specs.declared.lock.LockPlace.TheVariants.{Seize}
-use Rattle.nam_calls.specs.declared.record.InstallPlace.TheVariants.{InstallWord}
+use Rattle.nam_calls.specs.declared.lock.LockPoint.TheVariants.{Seize}
+use Rattle.nam_calls.specs.declared.record.InstallPoint.TheVariants.{InstallWord}
 use Rattle.nam_protocol.specs.declared.client.Answer.{Answer}
 use Rattle.nam_protocol.specs.declared.client.Call.{Call}
-use Rattle.nam_protocol.specs.declared.client.CallPlace.{CallPlace}
-use Rattle.nam_protocol.specs.declared.client.CallPlace.TheVariants.{InTxn, Scanning}
+use Rattle.nam_protocol.specs.declared.client.CallPoint.{CallPoint}
+use Rattle.nam_protocol.specs.declared.client.CallPoint.TheVariants.{InTxn, Scanning}
 use Rattle.nam_protocol.specs.declared.client.ClientState.{ClientState}
 use Rattle.nam_protocol.specs.declared.client.Open.{Open}
-use Rattle.nam_protocol.specs.declared.txn.CommitPlace.{CommitPlace}
-use Rattle.nam_protocol.specs.declared.txn.CommitPlace.TheVariants.{Installing, Locking}
+use Rattle.nam_protocol.specs.declared.txn.CommitPoint.{CommitPoint}
+use Rattle.nam_protocol.specs.declared.txn.CommitPoint.TheVariants.{Installing, Locking}
 use Rattle.nam_protocol.specs.declared.txn.TxnAnswer.{TxnAnswer}
-use Rattle.nam_protocol.specs.declared.txn.TxnPlace.{TxnPlace}
-use Rattle.nam_protocol.specs.declared.txn.TxnPlace.TheVariants.{Committing}
+use Rattle.nam_protocol.specs.declared.txn.TxnPoint.{TxnPoint}
+use Rattle.nam_protocol.specs.declared.txn.TxnPoint.TheVariants.{Committing}
 use Rattle.nam_protocol.specs.declared.txn.TxnState.{TxnState}
 use Rattle.nam_protocol.specs.ClientFits.{CallFits}
 use Rattle.nam_protocol.specs.Commit.{record_place, value_at}
@@ -40,21 +40,21 @@ pub record OwnOk (shape : Shape) (worker : ℕ) (client : ClientState) : Type 0 
   pub start_is : client.start ≡ shape.start
   pub opened : OwnOpen client.worker client.last client.log.snaps client.txn
 
--- 2. Its stage: what the place of its commit says
+-- 2. Its stage: what the point of its commit says
 
 -- the header to be exchanged is unlocked, and its stamp seen; words are written of a value
-abbrev pub StageAt : TxnState → CommitPlace → Type 0
+abbrev pub StageAt : TxnState → CommitPoint → Type 0
 StageAt state (Locking (Seize held header)) =
     let form = (record_place state (length held)).form in
     (is_locked form header ≡ false) × (sees form state.seen header ≡ true)
 StageAt state (Installing nth (InstallWord word)) = is_some (value_at state nth) ≡ true
 StageAt state _ = Unit {0}
 
-abbrev pub StageNow : TxnState → Now TxnPlace TxnAnswer → Type 0
+abbrev pub StageNow : TxnState → Now TxnPoint TxnAnswer → Type 0
 StageNow state (At (Committing at)) = StageAt state at
 StageNow state _ = Unit {0}
 
-abbrev pub StageIn : Option (Now CallPlace Answer) → Option Open → Type 0
+abbrev pub StageIn : Option (Now CallPoint Answer) → Option Open → Type 0
 StageIn (Some (At (InTxn (Committing at)))) (Some attempt) = StageAt attempt.state at
 StageIn _ _ = Unit {0}
 
@@ -64,12 +64,12 @@ StageClient client = StageIn client.call client.txn
 -- 3. A transaction is open exactly for its calls
 
 -- where a call runs
-abbrev pub IsOpenAt : Option Open → CallPlace → Type 0
+abbrev pub IsOpenAt : Option Open → CallPoint → Type 0
 IsOpenAt opened (InTxn at) = IsSome opened
 IsOpenAt opened (Scanning table low high at) = IsSome opened
 IsOpenAt opened _ = IsNone opened
 
-abbrev pub IsOpenNow : Option Open → Option (Now CallPlace Answer) → Type 0
+abbrev pub IsOpenNow : Option Open → Option (Now CallPoint Answer) → Type 0
 IsOpenNow opened (Some (At place)) = IsOpenAt opened place
 IsOpenNow opened _ = Unit {0}
 
@@ -77,7 +77,7 @@ abbrev pub OpenClient : ClientState → Type 0
 OpenClient client = IsOpenNow client.txn client.call
 
 -- no call runs
-abbrev pub Rests : Option (Now CallPlace Answer) → Type 0
+abbrev pub Rests : Option (Now CallPoint Answer) → Type 0
 Rests (Some (At place)) = ⊥
 Rests _ = Unit {0}
 

@@ -3,21 +3,21 @@ use Rattle.std.specs.Prelude.{None, Option, Some, ◌≡◌}
 use Rattle.nam_verbs.specs.declared.now.Now.{Now}
 use Rattle.nam_verbs.specs.declared.now.Now.TheVariants.{At}
 use Rattle.nam_protocol.specs.declared.client.Answer.{Answer}
-use Rattle.nam_protocol.specs.declared.client.CallPlace.{CallPlace}
-use Rattle.nam_protocol.specs.declared.client.CallPlace.TheVariants.{Beginning, InTxn, Snapping}
+use Rattle.nam_protocol.specs.declared.client.CallPoint.{CallPoint}
+use Rattle.nam_protocol.specs.declared.client.CallPoint.TheVariants.{Beginning, InTxn, Snapping}
 use Rattle.nam_protocol.specs.declared.client.ClientState.{ClientState}
 use Rattle.nam_protocol.specs.declared.client.Open.{Open}
-use Rattle.nam_protocol.specs.declared.txn.TxnPlace.{TxnPlace}
-use Rattle.nam_protocol.specs.declared.txn.TxnPlace.TheVariants.{Committing}
+use Rattle.nam_protocol.specs.declared.txn.TxnPoint.{TxnPoint}
+use Rattle.nam_protocol.specs.declared.txn.TxnPoint.TheVariants.{Committing}
 use Rattle.nam_protocol.specs.declared.txn.TxnState.{TxnState}
 
--- an operation's place
-abbrev pub IsOperation : TxnPlace → Type 0
+-- an operation's point
+abbrev pub IsOperation : TxnPoint → Type 0
 IsOperation (Committing at) = ⊥
 IsOperation _ = Unit {0}
 
 -- no snapshot is being taken, and no commit runs
-abbrev pub IsAside : Option (Now CallPlace Answer) → Type 0
+abbrev pub IsAside : Option (Now CallPoint Answer) → Type 0
 IsAside (Some (At (Beginning txn nth at))) = ⊥
 IsAside (Some (At (Snapping bucket at))) = ⊥
 IsAside (Some (At (InTxn (Committing at)))) = ⊥

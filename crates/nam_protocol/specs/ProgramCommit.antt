@@ -19,7 +19,7 @@ use Rattle.nam_calls.specs.Program.{standing}
 use Rattle.nam_calls.specs.Words.{wrapped}
 use Rattle.nam_calls.specs.declared.lock.LockEnd.TheVariants as lock_end
 use Rattle.nam_protocol.specs.declared.txn.TxnState.{TxnState}
-use Rattle.nam_protocol.specs.declared.txn.TxnPlace.{TxnPlace}
+use Rattle.nam_protocol.specs.declared.txn.TxnPoint.{TxnPoint}
 use Rattle.nam_protocol.specs.declared.txn.TxnAnswer.{TxnAnswer}
 use Rattle.nam_protocol.specs.declared.txn.TxnAnswer.TheVariants.{ReadOnly, Spent, Committed, Locked, Newer, Full}
 use Rattle.nam_protocol.specs.Txn.{Stepped}
@@ -124,7 +124,7 @@ module _ (shape : Shape) where
   abbrev pub txn_stands : Stepped → Now (VerbAt Field) TxnAnswer
   txn_stands step = standing (txn_verb shape step.state) step.call
 
-  abbrev pub call_taken : Stepped → Now TxnPlace TxnAnswer → ℕ → Stepped
+  abbrev pub call_taken : Stepped → Now TxnPoint TxnAnswer → ℕ → Stepped
   call_taken step (At place) found = txn_after shape step.state place found
   call_taken step (Over answer) found = step
 

@@ -12,8 +12,8 @@ use Rattle.nam_protocol.specs.declared.client.Call.{Call}
 use Rattle.nam_protocol.specs.declared.client.Call.TheVariants.{Begin, Txn, Scan, Tidy, Collect}
 use Rattle.nam_protocol.specs.declared.client.Answer.{Answer}
 use Rattle.nam_protocol.specs.declared.session.Job.{Job}
-use Rattle.nam_protocol.specs.declared.session.DriverPlace.{DriverPlace}
-use Rattle.nam_protocol.specs.declared.session.DriverPlace.TheVariants.{ToBegin, ToAsk, ToTidy, ToCollect}
+use Rattle.nam_protocol.specs.declared.session.DriverPoint.{DriverPoint}
+use Rattle.nam_protocol.specs.declared.session.DriverPoint.TheVariants.{ToBegin, ToAsk, ToTidy, ToCollect}
 use Rattle.nam_protocol.specs.declared.session.DriverState.{DriverState}
 use Rattle.nam_protocol.specs.Driver.{new_driver, driver_next, driver_take}
 use Rattle.nam_protocol.specs.Left.{Room, writes_in, ops_weight, room_for}
@@ -45,7 +45,7 @@ pub record IsWithin (small great : Room) : Type 0 where
 abbrev pub TidyCounts : ℕ → ℕ → List Key → ℕ → Bool → Type 0
 TidyCounts tries try keys nth retry = (nth < length keys) × (retry ≡ true → try < tries)
 
-abbrev pub PlaceCounts : ℕ → ℕ → DriverPlace → Type 0
+abbrev pub PlaceCounts : ℕ → ℕ → DriverPoint → Type 0
 PlaceCounts tries try ToBegin = Unit {0}
 PlaceCounts tries try (ToAsk nth) = Unit {0}
 PlaceCounts tries try (ToTidy keys nth again retry) = TidyCounts tries try keys nth retry
@@ -56,7 +56,7 @@ DriverCounts driver =
     (1 ≤ driver.nth) × (driver.nth ≤ driver.policy.tries) × PlaceCounts driver.policy.tries driver.nth driver.place
 
 -- the begin of this try
-abbrev pub begin_here : DriverPlace → ℕ
+abbrev pub begin_here : DriverPoint → ℕ
 begin_here ToBegin = 1
 begin_here place = 0
 
@@ -77,7 +77,7 @@ abbrev pub keys_tidies : Policy → ℕ → List Op → List Key → ℕ → Boo
 keys_tidies policy try ops keys nth retry = 3 * (length keys - nth - 1) + retry_tidies policy try ops retry
 
 -- a tidying, a collection, and a tidying once more
-abbrev pub place_tidies : Policy → ℕ → List Op → DriverPlace → ℕ
+abbrev pub place_tidies : Policy → ℕ → List Op → DriverPoint → ℕ
 place_tidies policy try ops ToBegin = try_tidies policy try ops
 place_tidies policy try ops (ToAsk nth) = try_tidies policy try ops
 place_tidies policy try ops (ToTidy keys nth false retry) = 3 + keys_tidies policy try ops keys nth retry
@@ -86,7 +86,7 @@ place_tidies policy try ops (ToCollect bucket keys nth retry) = 2 + keys_tidies 
 
 module _ (shape : Shape) where
   -- the operations of this try
-  abbrev pub place_ops : List Op → DriverPlace → ℕ
+  abbrev pub place_ops : List Op → DriverPoint → ℕ
   place_ops ops ToBegin = ops_weight shape ops
   place_ops ops (ToAsk nth) = ops_weight shape (drop nth ops)
   place_ops ops place = 0

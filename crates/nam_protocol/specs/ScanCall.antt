@@ -8,15 +8,15 @@ use Rattle.nam_verbs.specs.declared.now.Now.{Now}
 use Rattle.nam_verbs.specs.declared.now.Now.TheVariants.{At, Over}
 use Rattle.nam_catalog.specs.declared.shape.Shape.{Shape}
 use Rattle.nam_protocol.specs.declared.txn.TxnAnswer.{TxnAnswer}
-use Rattle.nam_protocol.specs.declared.scan.ScanPlace.{ScanPlace}
+use Rattle.nam_protocol.specs.declared.scan.ScanPoint.{ScanPoint}
 use Rattle.nam_protocol.specs.declared.scan.ScanAnswer.{ScanAnswer}
-use Rattle.nam_protocol.specs.declared.client.CallPlace.TheVariants.{Scanning}
+use Rattle.nam_protocol.specs.declared.client.CallPoint.TheVariants.{Scanning}
 use Rattle.nam_protocol.specs.declared.client.Open.{Open}
 use Rattle.nam_protocol.specs.declared.client.Scanned.{Scanned}
 use Rattle.nam_protocol.specs.declared.client.ClientState.{ClientState}
 use Rattle.nam_protocol.specs.Operations.{own_value}
 use Rattle.nam_protocol.specs.Scan.{scan_skip, scan_read}
-use Rattle.nam_protocol.specs.Telling.{go, answered, ended, read_listed}
+use Rattle.nam_protocol.specs.Telling.{go, with_answer, with_end, read_listed}
 use Rattle.nam_protocol.specs.declared.txn.TxnAnswer.TheVariants as txn_answer
 use Rattle.nam_protocol.specs.declared.scan.ScanAnswer.TheVariants as scan_answer
 use Rattle.nam_protocol.specs.declared.client.Answer.TheVariants as client_answer
@@ -40,25 +40,25 @@ abbrev pub scanned_items : ℕ → List Scanned → List Item
 scanned_items table rows = map (item_of table) (sorted_onto [] rows)
 
 -- what a position's key holds, where it is present
-abbrev pub gathered : ClientState → ℕ → ℕ → Option (List ℕ) → ClientState
-gathered client position key None = client
-gathered client position key (Some value) =
+abbrev pub with_gathered : ClientState → ℕ → ℕ → Option (List ℕ) → ClientState
+with_gathered client position key None = client
+with_gathered client position key (Some value) =
     record client { scanned = client.scanned ++ record { position = position; key = key; value = value } ∷ [] }
 
 abbrev pub scan_listed : ClientState → Open → ℕ → ClientState
 scan_listed client attempt table =
     let items = scanned_items table client.scanned in
-    answered (record (read_listed client attempt items) { scanned = [] }) (client_answer.Scanned (length items))
+    with_answer (record (read_listed client attempt items) { scanned = [] }) (client_answer.Scanned (length items))
 
 -- the scan ends the attempt and lists no read
 abbrev pub scan_ended : ClientState → Open → Outcome → TxnAnswer → ClientState
 scan_ended client attempt outcome end =
-    answered (ended (record client { scanned = [] }) attempt outcome) (client_answer.Txn end)
+    with_answer (with_end (record client { scanned = [] }) attempt outcome) (client_answer.Txn end)
 
 -- 2. What follows
 
 -- how a scan goes on once a position is left
-abbrev pub on_skip : ClientState → Open → ℕ → ℕ → ℕ → Now ScanPlace ScanAnswer → ClientState
+abbrev pub on_skip : ClientState → Open → ℕ → ℕ → ℕ → Now ScanPoint ScanAnswer → ClientState
 on_skip client attempt table low high (At place) = go client (Scanning table low high place)
 on_skip client attempt table low high (Over end) = scan_listed client attempt table
 
@@ -68,16 +68,16 @@ module _ (shape : Shape) where
   on_key client attempt table low high position key =
       let own = key_at table key in
       if writes_key attempt.state.writes own
-      then on_skip (gathered client position key (own_value attempt.state.writes own)) attempt table low high
+      then on_skip (with_gathered client position key (own_value attempt.state.writes own)) attempt table low high
       (scan_skip shape table position)
       else on_skip client attempt table low high (scan_read position key)
 
-  abbrev pub on_scan : ClientState → Open → ℕ → ℕ → ℕ → ℕ → Now ScanPlace ScanAnswer → ClientState
+  abbrev pub on_scan : ClientState → Open → ℕ → ℕ → ℕ → ℕ → Now ScanPoint ScanAnswer → ClientState
   on_scan client attempt table low high position (At place) = go client (Scanning table low high place)
   on_scan client attempt table low high position (Over (scan_answer.Key key)) =
       on_key client attempt table low high position key
   on_scan client attempt table low high position (Over (scan_answer.Row item)) =
-      on_skip (gathered client position item.key item.value) attempt table low high (scan_skip shape table position)
+      on_skip (with_gathered client position item.key item.value) attempt table low high (scan_skip shape table position)
   on_scan client attempt table low high position (Over scan_answer.Done) = scan_listed client attempt table
   on_scan client attempt table low high position (Over (scan_answer.TooOld worker entry horizon)) =
       scan_ended client attempt (outcome.TooOld worker entry horizon) (txn_answer.TooOld worker entry horizon)

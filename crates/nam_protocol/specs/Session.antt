@@ -9,7 +9,7 @@ use Rattle.nam_verbs.specs.VerbAt.{VerbAt}
 use Rattle.nam_catalog.specs.declared.shape.Shape.{Shape}
 use Rattle.nam_layout.specs.declared.field.Field.{Field}
 use Rattle.nam_protocol.specs.declared.client.Answer.{Answer}
-use Rattle.nam_protocol.specs.declared.client.CallPlace.{CallPlace}
+use Rattle.nam_protocol.specs.declared.client.CallPoint.{CallPoint}
 use Rattle.nam_protocol.specs.declared.client.ClientState.{ClientState}
 use Rattle.nam_protocol.specs.declared.session.Job.{Job}
 use Rattle.nam_protocol.specs.declared.session.SessionState.{SessionState}
@@ -18,7 +18,7 @@ use Rattle.nam_protocol.specs.CutClient.{client_cut, into_log}
 use Rattle.nam_protocol.specs.Driver.{new_driver, driver_next, driver_take}
 
 -- the answer of a call that was asked and doesn't run
-abbrev pub answer_now : Option (Now CallPlace Answer) → Option Answer
+abbrev pub answer_now : Option (Now CallPoint Answer) → Option Answer
 answer_now (Some (Over answer)) = Some answer
 answer_now _ = None
 

@@ -1,4 +1,4 @@
--- What holds of a session between two verbs: its driver has a place in its jobs, and the call that runs is the one that
+-- What holds of a session between two verbs: its driver has a point in its jobs, and the call that runs is the one that
 -- the driver asked.
 use Rattle.std.specs.Prelude.{◌≡◌, ℕ, ◌<◌, ◌≤◌, ◌||◌, Bool, true, false, not, List, [], take, length, slice_get, Option}
 use Rattle.std.specs.Prelude.{Some, None, is_some}
@@ -15,18 +15,18 @@ use Rattle.nam_catalog.specs.declared.shape.Shape.{Shape}
 use Rattle.nam_catalog.specs.Tables.{widths_of}
 use Rattle.nam_calls.specs.Fits.{IsTableOf}
 use Rattle.nam_protocol.specs.declared.txn.TxnState.{TxnState}
-use Rattle.nam_protocol.specs.declared.txn.TxnPlace.{TxnPlace}
-use Rattle.nam_protocol.specs.declared.txn.TxnPlace.TheVariants.{Committing}
-use Rattle.nam_protocol.specs.declared.txn.CommitPlace.{CommitPlace}
-use Rattle.nam_protocol.specs.declared.txn.CommitPlace.TheVariants.{Returning}
+use Rattle.nam_protocol.specs.declared.txn.TxnPoint.{TxnPoint}
+use Rattle.nam_protocol.specs.declared.txn.TxnPoint.TheVariants.{Committing}
+use Rattle.nam_protocol.specs.declared.txn.CommitPoint.{CommitPoint}
+use Rattle.nam_protocol.specs.declared.txn.CommitPoint.TheVariants.{Returning}
 use Rattle.nam_protocol.specs.declared.client.Answer.{Answer}
-use Rattle.nam_protocol.specs.declared.client.CallPlace.{CallPlace}
-use Rattle.nam_protocol.specs.declared.client.CallPlace.TheVariants.{Beginning, InTxn, Scanning, Seeking, Moving}
-use Rattle.nam_protocol.specs.declared.client.CallPlace.TheVariants.{Snapping, Collecting}
+use Rattle.nam_protocol.specs.declared.client.CallPoint.{CallPoint}
+use Rattle.nam_protocol.specs.declared.client.CallPoint.TheVariants.{Beginning, InTxn, Scanning, Seeking, Moving}
+use Rattle.nam_protocol.specs.declared.client.CallPoint.TheVariants.{Snapping, Collecting}
 use Rattle.nam_protocol.specs.declared.client.Open.{Open}
 use Rattle.nam_protocol.specs.declared.session.Job.{Job}
-use Rattle.nam_protocol.specs.declared.session.DriverPlace.{DriverPlace}
-use Rattle.nam_protocol.specs.declared.session.DriverPlace.TheVariants.{ToBegin, ToAsk, ToTidy, ToCollect}
+use Rattle.nam_protocol.specs.declared.session.DriverPoint.{DriverPoint}
+use Rattle.nam_protocol.specs.declared.session.DriverPoint.TheVariants.{ToBegin, ToAsk, ToTidy, ToCollect}
 use Rattle.nam_protocol.specs.declared.session.DriverState.{DriverState}
 use Rattle.nam_protocol.specs.declared.session.SessionState.{SessionState}
 use Rattle.nam_protocol.specs.AttemptLaw.{HasAsked, IsOfOp}
@@ -36,7 +36,7 @@ use Rattle.nam_protocol.specs.Session.{session_verb, has_ended}
 -- 1. The call that runs
 
 -- where a commit gives its locks back, the record that was full is one that it writes
-abbrev pub FullIsWritten : TxnState → CommitPlace → Type 0
+abbrev pub FullIsWritten : TxnState → CommitPoint → Type 0
 FullIsWritten state (Returning given full) = writes_key state.writes (lock_key full) ≡ true
 FullIsWritten state _ = Unit {0}
 
@@ -45,22 +45,22 @@ abbrev pub OpenAsked : Option Open → List Op → Type 0
 OpenAsked None ops = ⊥
 OpenAsked (Some attempt) ops = HasAsked attempt.state ops
 
--- the open transaction is at a place of this operation, or of the commit where there is none
-abbrev pub OpenRuns : Option Open → Option Op → TxnPlace → Type 0
+-- the open transaction is at a point of this operation, or of the commit where there is none
+abbrev pub OpenRuns : Option Open → Option Op → TxnPoint → Type 0
 OpenRuns None op at = ⊥
 OpenRuns (Some attempt) (Some op) at = IsOfOp op at
 OpenRuns (Some attempt) None (Committing at) = FullIsWritten attempt.state at
 OpenRuns (Some attempt) None at = ⊥
 
 -- the nth operation runs, or the commit after the last, and those before it have passed
-abbrev pub AskRuns : List Op → ℕ → Option Open → CallPlace → Type 0
+abbrev pub AskRuns : List Op → ℕ → Option Open → CallPoint → Type 0
 AskRuns ops nth txn (InTxn at) = OpenAsked txn (take nth ops) × OpenRuns txn (slice_get ops nth) at
 AskRuns ops nth txn (Scanning table low high at) =
     OpenAsked txn (take nth ops) × (slice_get ops nth ≡ Some (Scan table low high))
 AskRuns ops nth txn place = ⊥
 
--- the client is at a place of the call that a driver here has asked
-abbrev pub PlaceRuns : DriverPlace → List Op → Option Open → CallPlace → Type 0
+-- the client is at a point of the call that a driver here has asked
+abbrev pub PlaceRuns : DriverPoint → List Op → Option Open → CallPoint → Type 0
 PlaceRuns ToBegin ops txn (Beginning t n at) = Unit {0}
 PlaceRuns ToBegin ops txn place = ⊥
 PlaceRuns (ToAsk nth) ops txn place = AskRuns ops nth txn place
@@ -71,12 +71,12 @@ PlaceRuns (ToCollect bucket keys nth retry) ops txn (Snapping b at) = Unit {0}
 PlaceRuns (ToCollect bucket keys nth retry) ops txn (Collecting b prefix seen at) = Unit {0}
 PlaceRuns (ToCollect bucket keys nth retry) ops txn place = ⊥
 
-abbrev pub NowRuns : DriverPlace → List Op → Option Open → Option (Now CallPlace Answer) → Type 0
+abbrev pub NowRuns : DriverPoint → List Op → Option Open → Option (Now CallPoint Answer) → Type 0
 NowRuns place ops txn (Some (At at)) = PlaceRuns place ops txn at
 NowRuns place ops txn _ = Unit {0}
 
 -- does a call run
-abbrev pub is_running : Option (Now CallPlace Answer) → Bool
+abbrev pub is_running : Option (Now CallPoint Answer) → Bool
 is_running (Some (At at)) = true
 is_running _ = false
 
@@ -86,7 +86,7 @@ ops_of None = []
 ops_of (Some job) = job.ops
 
 module _ (shape : Shape) where
-  -- 2. Jobs, and the driver's place in them
+  -- 2. Jobs, and the driver's point in them
 
   abbrev pub JobFits : Job → Type 0
   JobFits job = AllByRecursion (OpFits (widths_of shape.tables)) job.ops
@@ -98,18 +98,18 @@ module _ (shape : Shape) where
   abbrev pub TidiesFit : ℕ → ℕ → List Key → ℕ → Bool → Type 0
   TidiesFit tries try keys nth retry = AreOfTables keys × (nth < length keys) × (retry ≡ true → try < tries)
 
-  abbrev pub DriverPlaceFits : ℕ → ℕ → DriverPlace → Type 0
-  DriverPlaceFits tries try ToBegin = Unit {0}
-  DriverPlaceFits tries try (ToAsk nth) = Unit {0}
-  DriverPlaceFits tries try (ToTidy keys nth again retry) = TidiesFit tries try keys nth retry
-  DriverPlaceFits tries try (ToCollect bucket keys nth retry) =
+  abbrev pub DriverPointFits : ℕ → ℕ → DriverPoint → Type 0
+  DriverPointFits tries try ToBegin = Unit {0}
+  DriverPointFits tries try (ToAsk nth) = Unit {0}
+  DriverPointFits tries try (ToTidy keys nth again retry) = TidiesFit tries try keys nth retry
+  DriverPointFits tries try (ToCollect bucket keys nth retry) =
       (bucket < shape.buckets) × TidiesFit tries try keys nth retry
 
   -- tries count from 1 up to those of the policy
   abbrev pub DriverFits : DriverState → Type 0
   DriverFits driver =
       (1 ≤ driver.nth) × (driver.nth ≤ driver.policy.tries)
-      × DriverPlaceFits driver.policy.tries driver.nth driver.place
+      × DriverPointFits driver.policy.tries driver.nth driver.place
 
   -- 3. A session: a call runs exactly as long as a job is left, and it is the driver's
 

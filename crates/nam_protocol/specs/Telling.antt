@@ -8,11 +8,11 @@ use Rattle.si_model.specs.declared.log.Outcome.TheVariants as outcome
 use Rattle.nam_verbs.specs.declared.now.Now.{Now}
 use Rattle.nam_verbs.specs.declared.now.Now.TheVariants.{At, Over}
 use Rattle.nam_protocol.specs.declared.txn.TxnState.{TxnState}
-use Rattle.nam_protocol.specs.declared.txn.TxnPlace.{TxnPlace}
+use Rattle.nam_protocol.specs.declared.txn.TxnPoint.{TxnPoint}
 use Rattle.nam_protocol.specs.declared.txn.TxnAnswer.{TxnAnswer}
 use Rattle.nam_protocol.specs.declared.client.Answer.{Answer}
-use Rattle.nam_protocol.specs.declared.client.CallPlace.{CallPlace}
-use Rattle.nam_protocol.specs.declared.client.CallPlace.TheVariants.{InTxn}
+use Rattle.nam_protocol.specs.declared.client.CallPoint.{CallPoint}
+use Rattle.nam_protocol.specs.declared.client.CallPoint.TheVariants.{InTxn}
 use Rattle.nam_protocol.specs.declared.client.Open.{Open}
 use Rattle.nam_protocol.specs.declared.client.ClientState.{ClientState}
 use Rattle.nam_protocol.specs.Txn.{Stepped, new_txn}
@@ -34,16 +34,16 @@ new_client worker start = record {
   cut = false;
 }
 
--- the client at a place of its call, and with the call's answer
-abbrev pub go : ClientState → CallPlace → ClientState
+-- the client at a point of its call, and with the call's answer
+abbrev pub go : ClientState → CallPoint → ClientState
 go client place = record client { call = Some (At place) }
 
-abbrev pub answered : ClientState → Answer → ClientState
-answered client answer = record client { call = Some (Over answer) }
+abbrev pub with_answer : ClientState → Answer → ClientState
+with_answer client answer = record client { call = Some (Over answer) }
 
 -- an attempt that has got its snapshot
-abbrev pub opened : ClientState → ℕ → ℕ → ℕ → List ℕ → Open
-opened client txn nth prefix seen = record {
+abbrev pub new_attempt : ClientState → ℕ → ℕ → ℕ → List ℕ → Open
+new_attempt client txn nth prefix seen = record {
   txn = txn;
   nth = nth;
   prefix = prefix;
@@ -56,16 +56,16 @@ opened client txn nth prefix seen = record {
 
 -- 1. What is listed
 
-abbrev pub told : ClientState → Event → ClientState
-told client event = record client { log = with_event client.log event }
+abbrev pub with_listed : ClientState → Event → ClientState
+with_listed client event = record client { log = with_event client.log event }
 
--- the attempt has ended so: the transaction is no longer open
-abbrev pub ended : ClientState → Open → Outcome → ClientState
-ended client attempt outcome = record client { txn = None; log = with_event client.log (attempt_of attempt outcome 0) }
+-- the attempt has with_end so: the transaction is no longer open
+abbrev pub with_end : ClientState → Open → Outcome → ClientState
+with_end client attempt outcome = record client { txn = None; log = with_event client.log (attempt_of attempt outcome 0) }
 
--- it has committed, and lists what it wrote
-abbrev pub committed : ClientState → Open → ℕ → ClientState
-committed client attempt number = record client {
+-- it has with_commit, and lists what it wrote
+abbrev pub with_commit : ClientState → Open → ℕ → ClientState
+with_commit client attempt number = record client {
   last = number;
   txn = None;
   log = with_writes (with_event client.log (attempt_of attempt (outcome.Commit number) (length attempt.state.writes)))
@@ -81,10 +81,10 @@ abbrev pub read_listed : ClientState → Open → List Item → ClientState
 read_listed client attempt items =
     record client { txn = Some (with_read attempt items); log = with_reads client.log items }
 
--- the items that were read are listed, and the attempt has ended so
+-- the items that were read are listed, and the attempt has with_end so
 abbrev pub read_ended : ClientState → Open → List Item → Outcome → ClientState
 read_ended client attempt items outcome =
-    ended (record client { log = with_reads client.log items }) (with_read attempt items) outcome
+    with_end (record client { log = with_reads client.log items }) (with_read attempt items) outcome
 
 abbrev pub items_of : Option Item → List Item
 items_of None = []
@@ -99,7 +99,7 @@ locks_from state nth (header ∷ headers) = lock_at state nth header ∷ locks_f
 abbrev pub new_locks : TxnState → ℕ → List ℕ → List Lock
 new_locks state before headers = locks_from state before (drop before headers)
 
--- 2. A transaction's call was answered
+-- 2. A transaction's call was with_answer
 
 -- a call lists what it has read when it answers; each end but the first four is the attempt's
 abbrev pub on_answer : ClientState → Open → TxnAnswer → ClientState
@@ -107,23 +107,23 @@ on_answer client attempt (txn_answer.Value value) = read_listed client attempt (
 on_answer client attempt txn_answer.Written = read_listed client attempt (items_of attempt.state.read)
 on_answer client attempt (txn_answer.Added n) = read_listed client attempt (items_of attempt.state.read)
 on_answer client attempt txn_answer.Met = read_listed client attempt (items_of attempt.state.read)
-on_answer client attempt (txn_answer.Committed number) = committed client attempt number
-on_answer client attempt txn_answer.ReadOnly = ended client attempt outcome.ReadOnly
+on_answer client attempt (txn_answer.Committed number) = with_commit client attempt number
+on_answer client attempt txn_answer.ReadOnly = with_end client attempt outcome.ReadOnly
 on_answer client attempt (txn_answer.TooOld worker entry horizon) =
-    ended client attempt (outcome.TooOld worker entry horizon)
+    with_end client attempt (outcome.TooOld worker entry horizon)
 on_answer client attempt (txn_answer.NoSpace table) =
     read_ended client attempt (items_of attempt.state.read) (outcome.NoSpace table)
 on_answer client attempt txn_answer.Declined =
     read_ended client attempt (items_of attempt.state.read) (outcome.Declined attempt.ops)
-on_answer client attempt txn_answer.Spent = ended client attempt outcome.Spent
-on_answer client attempt (txn_answer.Locked lock) = ended client attempt (outcome.Locked lock)
-on_answer client attempt (txn_answer.Newer lock) = ended client attempt (outcome.Newer lock)
-on_answer client attempt (txn_answer.Full lock) = ended client attempt (outcome.Full lock)
-on_answer client attempt txn_answer.Astray = ended client attempt outcome.Left
+on_answer client attempt txn_answer.Spent = with_end client attempt outcome.Spent
+on_answer client attempt (txn_answer.Locked lock) = with_end client attempt (outcome.Locked lock)
+on_answer client attempt (txn_answer.Newer lock) = with_end client attempt (outcome.Newer lock)
+on_answer client attempt (txn_answer.Full lock) = with_end client attempt (outcome.Full lock)
+on_answer client attempt txn_answer.Astray = with_end client attempt outcome.Left
 
-abbrev pub on_call : ClientState → Open → Now TxnPlace TxnAnswer → ClientState
+abbrev pub on_call : ClientState → Open → Now TxnPoint TxnAnswer → ClientState
 on_call client attempt (At place) = go (record client { txn = Some attempt }) (InTxn place)
-on_call client attempt (Over answer) = answered (on_answer client attempt answer) (client_answer.Txn answer)
+on_call client attempt (Over answer) = with_answer (on_answer client attempt answer) (client_answer.Txn answer)
 
 -- the transaction has stepped; before it had taken so many locks, and each new one is listed at once
 abbrev pub stepped : ClientState → Open → ℕ → Stepped → ClientState

@@ -10,9 +10,9 @@ use Rattle.nam_catalog.specs.declared.shape.Shape.{Shape}
 use Rattle.nam_catalog.specs.Tables.{widths_of}
 use Rattle.nam_layout.specs.Place.{place_of}
 use Rattle.nam_calls.specs.declared.index.FindEnd.{FindEnd}
-use Rattle.nam_calls.specs.declared.index.ClaimKeyPlace.{ClaimKeyPlace}
+use Rattle.nam_calls.specs.declared.index.ClaimKeyPoint.{ClaimKeyPoint}
 use Rattle.nam_calls.specs.declared.index.ClaimKeyEnd.{ClaimKeyEnd}
-use Rattle.nam_calls.specs.declared.reading.ReadPlace.{ReadPlace}
+use Rattle.nam_calls.specs.declared.reading.ReadPoint.{ReadPoint}
 use Rattle.nam_calls.specs.declared.reading.ReadingEnd.{ReadingEnd}
 use Rattle.nam_calls.specs.Index.{find_begin, claim_key_begin}
 use Rattle.nam_calls.specs.Reading.{read_begin}
@@ -21,16 +21,16 @@ use Rattle.nam_calls.specs.declared.index.ClaimKeyEnd.TheVariants as claimed_key
 use Rattle.nam_calls.specs.declared.reading.ReadingEnd.TheVariants as read_end
 use Rattle.nam_protocol.specs.declared.txn.Record.{Record}
 use Rattle.nam_protocol.specs.declared.txn.TxnState.{TxnState}
-use Rattle.nam_protocol.specs.declared.txn.TxnPlace.{TxnPlace}
-use Rattle.nam_protocol.specs.declared.txn.TxnPlace.TheVariants.{Finding, Reading, Claiming}
+use Rattle.nam_protocol.specs.declared.txn.TxnPoint.{TxnPoint}
+use Rattle.nam_protocol.specs.declared.txn.TxnPoint.TheVariants.{Finding, Reading, Claiming}
 use Rattle.nam_protocol.specs.declared.txn.TxnAnswer.{TxnAnswer}
 use Rattle.nam_protocol.specs.declared.txn.TxnAnswer.TheVariants.{TooOld, NoSpace, Declined, Astray}
 use Rattle.nam_protocol.specs.Operations.{holding, own_value, read_of, value_in, answer_of}
 
--- a transaction, and where its call stands or how it was answered
+-- a transaction, and where its call stands or how it was over
 pub record Stepped : Type 0 where
   pub state : TxnState
-  pub call : Now TxnPlace TxnAnswer
+  pub call : Now TxnPoint TxnAnswer
 
 -- a new transaction
 abbrev pub new_txn : ℕ → ℕ → List ℕ → TxnState
@@ -47,13 +47,13 @@ new_txn worker last seen = record {
   counts = [];
 }
 
-abbrev pub at : TxnState → TxnPlace → Stepped
+abbrev pub at : TxnState → TxnPoint → Stepped
 at state place = record { state = state; call = At place }
 
-abbrev pub answered : TxnState → TxnAnswer → Stepped
-answered state answer = record { state = state; call = Over answer }
+abbrev pub over : TxnState → TxnAnswer → Stepped
+over state answer = record { state = state; call = Over answer }
 
--- the claimed keys with one more, each once
+-- the after_claim keys with one more, each once
 abbrev pub with_claim : List Record → Record → List Record
 with_claim [] r = r ∷ []
 with_claim (c ∷ cs) r = if same_key c.key r.key then c ∷ cs else c ∷ with_claim cs r
@@ -71,8 +71,8 @@ module _ (shape : Shape) where
   -- a key of the write set takes no verb
   abbrev pub with_own : TxnState → Op → Option (List ℕ) → Stepped
   with_own state op value =
-      if not (passes op (holding value)) then answered state Declined
-      else answered (with_op state op value) (answer_of op value)
+      if not (passes op (holding value)) then over state Declined
+      else over (with_op state op value) (answer_of op value)
 
   abbrev pub ask_op : TxnState → Op → Stepped
   ask_op state op =
@@ -83,25 +83,25 @@ module _ (shape : Shape) where
 
   -- 2. The value is known: a decline stands before any claim
 
-  abbrev pub decided : TxnState → Op → Option (List ℕ) → Stepped
-  decided state op value =
-      if not (passes op (holding value)) then answered state Declined
+  abbrev pub on_decision : TxnState → Op → Option (List ℕ) → Stepped
+  on_decision state op value =
+      if not (passes op (holding value)) then over state Declined
       else if op_claims op then at state (Claiming op claim_key_begin)
-      else answered state (answer_of op value)
+      else over state (answer_of op value)
 
-  abbrev pub valued : TxnState → Op → Option (List ℕ) → Stepped
-  valued state op value = decided (record state { read = read_of op value }) op value
+  abbrev pub on_value : TxnState → Op → Option (List ℕ) → Stepped
+  on_value state op value = on_decision (record state { read = read_of op value }) op value
 
   abbrev pub on_find : TxnState → Op → Now ℕ FindEnd → Stepped
   on_find state op (At passed) = at state (Finding op passed)
   on_find state op (Over (found_key.At position)) = at state (Reading op position read_begin)
-  on_find state op (Over found_key.Absent) = valued state op None
+  on_find state op (Over found_key.Absent) = on_value state op None
 
-  abbrev pub on_read : TxnState → Op → ℕ → Now ReadPlace ReadingEnd → Stepped
+  abbrev pub on_read : TxnState → Op → ℕ → Now ReadPoint ReadingEnd → Stepped
   on_read state op position (At place) = at state (Reading op position place)
-  on_read state op position (Over (read_end.Got value)) = valued state op value
-  on_read state op position (Over (read_end.Passed worker entry horizon)) = answered state (TooOld worker entry horizon)
-  on_read state op position (Over read_end.Astray) = answered state Astray
+  on_read state op position (Over (read_end.Got value)) = on_value state op value
+  on_read state op position (Over (read_end.Passed worker entry horizon)) = over state (TooOld worker entry horizon)
+  on_read state op position (Over read_end.Astray) = over state Astray
 
   -- 3. The key has its position
 
@@ -109,12 +109,12 @@ module _ (shape : Shape) where
   record_of op position = record { key = op_key op; place = place_of shape (op_key op).table position }
 
   -- the operation on the value that it read
-  abbrev pub claimed : TxnState → Op → ℕ → TxnState
-  claimed state op position =
+  abbrev pub after_claim : TxnState → Op → ℕ → TxnState
+  after_claim state op position =
       with_op (record state { claims = with_claim state.claims (record_of op position) }) op (value_in state.read)
 
-  abbrev pub on_claim : TxnState → Op → Now ClaimKeyPlace ClaimKeyEnd → Stepped
+  abbrev pub on_claim : TxnState → Op → Now ClaimKeyPoint ClaimKeyEnd → Stepped
   on_claim state op (At place) = at state (Claiming op place)
-  on_claim state op (Over claimed_key.NoSpace) = answered state (NoSpace (op_key op).table)
+  on_claim state op (Over claimed_key.NoSpace) = over state (NoSpace (op_key op).table)
   on_claim state op (Over (claimed_key.At position)) =
-      answered (claimed state op position) (answer_of op (value_in state.read))
+      over (after_claim state op position) (answer_of op (value_in state.read))

@@ -12,8 +12,8 @@ use Rattle.nam_calls.specs.Reading.{sight_of, read_verb, read_after}
 use Rattle.nam_protocol.specs.declared.txn.TxnCall.{TxnCall}
 use Rattle.nam_protocol.specs.declared.txn.TxnCall.TheVariants.{Get, Put, Add, Del, Need, Guard, Commit}
 use Rattle.nam_protocol.specs.declared.txn.TxnState.{TxnState}
-use Rattle.nam_protocol.specs.declared.txn.TxnPlace.{TxnPlace}
-use Rattle.nam_protocol.specs.declared.txn.TxnPlace.TheVariants.{Finding, Reading, Claiming, Committing}
+use Rattle.nam_protocol.specs.declared.txn.TxnPoint.{TxnPoint}
+use Rattle.nam_protocol.specs.declared.txn.TxnPoint.TheVariants.{Finding, Reading, Claiming, Committing}
 use Rattle.nam_protocol.specs.declared.txn.TxnAnswer.{TxnAnswer}
 use Rattle.nam_protocol.specs.Operations.{op_path}
 use Rattle.nam_protocol.specs.Txn.{Stepped, ask_op, on_find, on_read, on_claim}
@@ -29,13 +29,13 @@ module _ (shape : Shape) where
   txn_ask state (Guard t k) = ask_op shape state (op.Guard t k)
   txn_ask state Commit = ask_commit shape state
 
-  abbrev pub txn_verb : TxnState → TxnPlace → VerbAt Field
+  abbrev pub txn_verb : TxnState → TxnPoint → VerbAt Field
   txn_verb state (Finding op passed) = find_verb (op_path shape op) passed
   txn_verb state (Reading op position at) = read_verb (sight_of shape (op_key op).table position) at
   txn_verb state (Claiming op at) = claim_key_verb (op_path shape op) at
   txn_verb state (Committing at) = commit_verb state at
 
-  abbrev pub txn_after : TxnState → TxnPlace → ℕ → Stepped
+  abbrev pub txn_after : TxnState → TxnPoint → ℕ → Stepped
   txn_after state (Finding op passed) found =
       on_find shape state op (find_after (op_path shape op) passed found)
   txn_after state (Reading op position at) found =
@@ -45,10 +45,10 @@ module _ (shape : Shape) where
   txn_after state (Committing at) found = commit_after state at found
 
 -- the headers of the locks that the transaction has taken so far
-abbrev pub taken_at : TxnState → TxnPlace → List ℕ
+abbrev pub taken_at : TxnState → TxnPoint → List ℕ
 taken_at state (Committing at) = locks_taken state at
 taken_at state _ = []
 
-abbrev pub taken_now : TxnState → Now TxnPlace TxnAnswer → List ℕ
+abbrev pub taken_now : TxnState → Now TxnPoint TxnAnswer → List ℕ
 taken_now state (At place) = taken_at state place
 taken_now state (Over answer) = state.held

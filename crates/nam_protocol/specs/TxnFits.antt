@@ -1,4 +1,4 @@
--- What holds of a transaction and of the places of its calls, of a scan, and of a client.
+-- What holds of a transaction and of the points of its calls, of a scan, and of a client.
 use Rattle.std.specs.Prelude.{◌≡◌, ℕ, ◌+◌, ◌-◌, ◌*◌, ◌<◌, ◌≤◌, Bool, true, false, if◌then◌else◌, List, [], ◌∷◌}
 use Rattle.std.specs.Prelude.{length, map}
 use Rattle.std.specs.List.{AllByRecursion}
@@ -20,18 +20,18 @@ use Rattle.nam_calls.specs.Words.{width_of, capacity_of}
 use Rattle.nam_calls.specs.Reading.{sight_of, read_begin}
 use Rattle.nam_calls.specs.Fits.{HasWidth, IsOf, FindFits, ClaimKeyFits, ReadFits, WordsFit, WordsEnd, CopyFits}
 use Rattle.nam_calls.specs.Fits.{InstallFits, LockFits}
-use Rattle.nam_protocol.specs.declared.scan.ScanPlace.{ScanPlace}
-use Rattle.nam_protocol.specs.declared.scan.ScanPlace.TheVariants.{ScanKey, ScanRead}
+use Rattle.nam_protocol.specs.declared.scan.ScanPoint.{ScanPoint}
+use Rattle.nam_protocol.specs.declared.scan.ScanPoint.TheVariants.{ScanKey, ScanRead}
 use Rattle.nam_protocol.specs.declared.scan.ScanAnswer.{ScanAnswer}
 use Rattle.nam_protocol.specs.declared.txn.Record.{Record}
 use Rattle.nam_protocol.specs.declared.txn.TxnState.{TxnState}
 use Rattle.nam_protocol.specs.declared.txn.TxnCall.{TxnCall}
 use Rattle.nam_protocol.specs.declared.txn.TxnCall.TheVariants.{Get, Put, Add, Del, Need, Guard, Commit}
-use Rattle.nam_protocol.specs.declared.txn.TxnPlace.{TxnPlace}
-use Rattle.nam_protocol.specs.declared.txn.TxnPlace.TheVariants.{Finding, Reading, Claiming, Committing}
-use Rattle.nam_protocol.specs.declared.txn.CommitPlace.{CommitPlace}
-use Rattle.nam_protocol.specs.declared.txn.CommitPlace.TheVariants.{Locking, Checking, Returning, Saving, Copying}
-use Rattle.nam_protocol.specs.declared.txn.CommitPlace.TheVariants.{Installing, Publishing, Freeing}
+use Rattle.nam_protocol.specs.declared.txn.TxnPoint.{TxnPoint}
+use Rattle.nam_protocol.specs.declared.txn.TxnPoint.TheVariants.{Finding, Reading, Claiming, Committing}
+use Rattle.nam_protocol.specs.declared.txn.CommitPoint.{CommitPoint}
+use Rattle.nam_protocol.specs.declared.txn.CommitPoint.TheVariants.{Locking, Checking, Returning, Saving, Copying}
+use Rattle.nam_protocol.specs.declared.txn.CommitPoint.TheVariants.{Installing, Publishing, Freeing}
 use Rattle.nam_protocol.specs.Txn.{Stepped}
 use Rattle.nam_protocol.specs.Operations.{value_in}
 use Rattle.nam_protocol.specs.Commit.{records_of, record_place}
@@ -39,7 +39,7 @@ use Rattle.nam_protocol.specs.Scan.{positions_left, scan_left}
 use Rattle.nam_protocol.specs.Bound.{txn_left, op_bound, writes_bound}
 use Rattle.nam_protocol.specs.declared.scan.ScanAnswer.TheVariants as scan
 
--- a call begins at a place that fits, with at most n verbs to come, or takes none
+-- a call begins at a point that fits, with at most n verbs to come, or takes none
 abbrev pub Begins : {P E : Type 0} → (P → Type 0) → (E → Type 0) → (P → ℕ) → ℕ → Now P E → Type 0
 Begins Fits Ends left n (At place) = Fits place × (left place ≤ n)
 Begins Fits Ends left n (Over end) = Ends end
@@ -68,58 +68,58 @@ module _ (shape : Shape) where
   abbrev pub StateFits : TxnState → Type 0
   StateFits state = KeysFit state.worker state.claims state.writes state.guards
 
-  -- 2. Places of a commit
+  -- 2. Points of a commit
 
-  abbrev pub CommitPlaceFits : TxnState → CommitPlace → Type 0
-  CommitPlaceFits state (Locking at) = LockFits (length state.records) at × (length state.counts ≡ 0)
-  CommitPlaceFits state (Checking at) =
+  abbrev pub CommitPointFits : TxnState → CommitPoint → Type 0
+  CommitPointFits state (Locking at) = LockFits (length state.records) at × (length state.counts ≡ 0)
+  CommitPointFits state (Checking at) =
       (length state.held ≡ length state.records) × (length state.counts < length state.writes)
-  CommitPlaceFits state (Returning given full) =
+  CommitPointFits state (Returning given full) =
       (length state.held ≡ length state.records) × (given < length state.records)
-  CommitPlaceFits state (Saving nth got) =
+  CommitPointFits state (Saving nth got) =
       (length state.held ≡ length state.records) × (length state.counts ≡ length state.writes)
       × (nth < length state.writes)
       × WordsFit (record_place state nth) got
-  CommitPlaceFits state (Copying nth old at) =
+  CommitPointFits state (Copying nth old at) =
       (length state.held ≡ length state.records) × (length state.counts ≡ length state.writes)
       × (nth < length state.writes)
       × WordsEnd (record_place state nth) old × CopyFits (record_place state nth) at
-  CommitPlaceFits state (Installing nth at) =
+  CommitPointFits state (Installing nth at) =
       (length state.held ≡ length state.records) × (length state.counts ≡ length state.writes)
       × (nth < length state.writes)
       × InstallFits (record_place state nth) at
-  CommitPlaceFits state Publishing =
+  CommitPointFits state Publishing =
       (length state.held ≡ length state.records) × (length state.counts ≡ length state.writes)
-  CommitPlaceFits state (Freeing nth) =
+  CommitPointFits state (Freeing nth) =
       (length state.held ≡ length state.records) × (length state.counts ≡ length state.writes)
       × (length state.writes ≤ nth) × (nth < length state.records)
 
   -- the records of the commit are those of its keys, of which at least one is written
-  abbrev pub CommitFits : TxnState → CommitPlace → Type 0
-  CommitFits state at = (state.records ≡ records_of state) × (1 ≤ length state.writes) × CommitPlaceFits state at
+  abbrev pub CommitFits : TxnState → CommitPoint → Type 0
+  CommitFits state at = (state.records ≡ records_of state) × (1 ≤ length state.writes) × CommitPointFits state at
 
-  -- 3. Places of a transaction
+  -- 3. Points of a transaction
 
   -- an operation on one key, of the tables' widths
   abbrev pub OpStands : Op → Type 0
   OpStands op = OpFits (widths_of shape.tables) op × (is_scan op ≡ false)
 
-  abbrev pub TxnPlaceFits : TxnState → TxnPlace → Type 0
-  TxnPlaceFits state (Finding op passed) = OpStands op × FindFits (capacity_of shape (op_key op).table) passed
-  TxnPlaceFits state (Reading op position at) =
+  abbrev pub TxnPointFits : TxnState → TxnPoint → Type 0
+  TxnPointFits state (Finding op passed) = OpStands op × FindFits (capacity_of shape (op_key op).table) passed
+  TxnPointFits state (Reading op position at) =
       OpStands op × (position < capacity_of shape (op_key op).table)
       × ReadFits (sight_of shape (op_key op).table position) at
-  TxnPlaceFits state (Claiming op at) =
+  TxnPointFits state (Claiming op at) =
       OpStands op × ClaimKeyFits (capacity_of shape (op_key op).table) at
       × HasWidth (width_of shape (op_key op).table) (value_in state.read)
-  TxnPlaceFits state (Committing at) = CommitFits state at
+  TxnPointFits state (Committing at) = CommitFits state at
 
   -- a transaction has stepped: what it has at hand fits, and its call goes on with fewer verbs to come or was answered
   abbrev pub TxnFalls : ℕ → Stepped → Type 0
-  TxnFalls n step = StateFits step.state × Falls (TxnPlaceFits step.state) Any (txn_left shape step.state) n step.call
+  TxnFalls n step = StateFits step.state × Falls (TxnPointFits step.state) Any (txn_left shape step.state) n step.call
 
   abbrev pub TxnBegins : ℕ → Stepped → Type 0
-  TxnBegins n step = StateFits step.state × Begins (TxnPlaceFits step.state) Any (txn_left shape step.state) n step.call
+  TxnBegins n step = StateFits step.state × Begins (TxnPointFits step.state) Any (txn_left shape step.state) n step.call
 
   -- 4. Calls of a transaction, and how many verbs they take at the most
 
@@ -148,7 +148,7 @@ module _ (shape : Shape) where
 
   -- 5. A scan
 
-  abbrev pub ScanFits : ℕ → ScanPlace → Type 0
+  abbrev pub ScanFits : ℕ → ScanPoint → Type 0
   ScanFits table (ScanKey position) = position < capacity_of shape table
   ScanFits table (ScanRead position key at) =
       (position < capacity_of shape table) × ReadFits (sight_of shape table position) at

@@ -1,10 +1,10 @@
 //! A worker's client: its calls one at a time, and its log.
 
-use crate::scan::ScanPlace;
-use crate::txn::{TxnAnswer, TxnCall, TxnPlace, TxnState};
+use crate::scan::ScanPoint;
+use crate::txn::{TxnAnswer, TxnCall, TxnPoint, TxnState};
 use lists::List;
-use nam_calls::{CollectPlace, MovePlace};
-use nam_vector::SnapPlace;
+use nam_calls::{CollectPoint, MovePoint};
+use nam_vector::SnapPoint;
 use nam_verbs::Now;
 use si_model::{Log, Snapshot, Value};
 
@@ -58,23 +58,23 @@ pub enum Answer {
 
 /// Where a client's call stands.
 #[derive(Debug, Drop)]
-pub enum CallPlace {
+pub enum CallPoint {
     /// Take a transaction's snapshot.
     Beginning {
         txn: u32,
         nth: u32,
-        at: SnapPlace,
+        at: SnapPoint,
     },
     /// A call of the open transaction.
     InTxn {
-        at: TxnPlace,
+        at: TxnPoint,
     },
     /// Scan a table.
     Scanning {
         table: u32,
         low: u64,
         high: u64,
-        at: ScanPlace,
+        at: ScanPoint,
     },
     /// Search the position of the key to be tidied, having passed so many of its path.
     Seeking {
@@ -87,19 +87,19 @@ pub enum CallPlace {
         table: u32,
         key: u64,
         position: u32,
-        at: MovePlace,
+        at: MovePoint,
     },
     /// Take a collection's snapshot.
     Snapping {
         bucket: u32,
-        at: SnapPlace,
+        at: SnapPoint,
     },
     /// Collect the bucket.
     Collecting {
         bucket: u32,
         prefix: u64,
         seen: Snapshot,
-        at: CollectPlace,
+        at: CollectPoint,
     },
 }
 
@@ -139,7 +139,7 @@ pub struct ClientState {
     /// What the scan that runs has found, position by position.
     pub scanned: List<Scanned>,
     /// The call that was asked last, if there was one.
-    pub call: Option<Now<CallPlace, Answer>>,
+    pub call: Option<Now<CallPoint, Answer>>,
     /// It was stopped for good.
     pub cut: bool,
 }

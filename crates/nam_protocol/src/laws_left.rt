@@ -5,7 +5,7 @@ ghost use Rattle.nam_protocol.specs.AttemptLaw.{NewAskedLaw, AskLaw, TakeLaw, At
 ghost use Rattle.nam_protocol.specs.FieldLaw.{TableFieldsLaw, CommitFieldsLaw, TxnFieldsLaw, CallFieldsLaw};
 ghost use Rattle.nam_protocol.specs.FieldLaw.{ClientFieldsLaw, WithinLaw};
 
-/// At each place of a call of a transaction, its commit included, that fits, each word leads to a place that fits with
+/// At each point of a call of a transaction, its commit included, that fits, each word leads to a point that fits with
 /// fewer verbs to come, or to an answer: what the transaction has at hand fits after each word, and a call begins with
 /// no more verbs than its bound.
 pub fn txn_falls()
@@ -36,7 +36,7 @@ pub fn attempt_bound()
 {}
 
 /// Each verb of each call at a table's positions, of each call of a transaction, its commit included, and of each call
-/// of a client is at a field of the shape, and so is a client's next verb. This needs no more than that the place fits,
+/// of a client is at a field of the shape, and so is a client's next verb. This needs no more than that the point fits,
 /// which the other laws keep. The place of each record of a commit is that of its row.
 pub fn calls_at_fields()
     ensures table { TableFieldsLaw }

@@ -22,7 +22,7 @@ mod scan;
 mod session;
 mod txn;
 
-pub use client::{Answer, Call, CallPlace, ClientState, Open, Scanned};
+pub use client::{Answer, Call, CallPoint, ClientState, Open, Scanned};
 pub use laws_ends::{runs_end, sessions_settle, turns_fall};
 pub use laws_growth::{commit_program_law, logs_grow_law, session_logs_grow_law};
 pub use laws_left::{
@@ -32,6 +32,6 @@ pub use laws_opening::{blank_law, opening_law};
 pub use laws_room::{events_within, room_suffices};
 pub use laws_steps::step_law;
 pub use laws_words::words_law;
-pub use scan::{ScanAnswer, ScanPlace};
-pub use session::{DriverPlace, DriverState, Job, SessionState};
-pub use txn::{CommitPlace, Record, TxnAnswer, TxnCall, TxnPlace, TxnState};
+pub use scan::{ScanAnswer, ScanPoint};
+pub use session::{DriverPoint, DriverState, Job, SessionState};
+pub use txn::{CommitPoint, Record, TxnAnswer, TxnCall, TxnPoint, TxnState};

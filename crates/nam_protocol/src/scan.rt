@@ -1,11 +1,11 @@
 //! Scanning a table's positions for the keys of a range.
 
-use nam_calls::ReadPlace;
+use nam_calls::ReadPoint;
 use si_model::Item;
 
 /// Where a scan stands.
 #[derive(Debug, Drop)]
-pub enum ScanPlace {
+pub enum ScanPoint {
     /// Read the position's key word.
     ScanKey {
         position: u32,
@@ -14,7 +14,7 @@ pub enum ScanPlace {
     ScanRead {
         position: u32,
         key: u64,
-        at: ReadPlace,
+        at: ReadPoint,
     },
 }
 

@@ -13,7 +13,7 @@ pub struct Job {
 
 /// What is to be asked next.
 #[derive(Debug, Drop)]
-pub enum DriverPlace {
+pub enum DriverPoint {
     /// The begin of a try.
     ToBegin,
     /// An operation, counted from 0, or the commit after the last.
@@ -42,7 +42,7 @@ pub struct DriverState {
     pub policy: Policy,
     pub job: u32,
     pub nth: u32,
-    pub place: DriverPlace,
+    pub place: DriverPoint,
 }
 
 /// A client, its driver and its jobs.

@@ -1,7 +1,7 @@
 //! Transactions: their calls, and what they have at hand.
 
 use lists::ShortList;
-use nam_calls::{ClaimKeyPlace, CopyPlace, InstallPlace, LockPlace, ReadPlace, SlotPlace};
+use nam_calls::{ClaimKeyPoint, CopyPoint, InstallPoint, LockPoint, ReadPoint, SlotPoint};
 use nam_layout::Place;
 use si_model::{Item, Key, Lock, Op, Snapshot, Value};
 
@@ -79,19 +79,19 @@ pub struct TxnState {
 
 /// Where a commit stands. Records are counted from 0, in the commit's order.
 #[derive(Debug, Drop)]
-pub enum CommitPlace {
+pub enum CommitPoint {
     /// Lock the records.
-    Locking { at: LockPlace },
+    Locking { at: LockPoint },
     /// Look at the slot of the next written record.
-    Checking { at: SlotPlace },
+    Checking { at: SlotPoint },
     /// Write a record's header back, since a written record's slot is not free.
     Returning { given: u32, full: Lock },
     /// Read a written record's data word after those got.
     Saving { nth: u32, got: Value },
     /// Copy a written record's current version into its slot.
-    Copying { nth: u32, old: Value, at: CopyPlace },
+    Copying { nth: u32, old: Value, at: CopyPoint },
     /// Install a written record's next version.
-    Installing { nth: u32, at: InstallPlace },
+    Installing { nth: u32, at: InstallPoint },
     /// Write the worker's entry of the vector.
     Publishing,
     /// Write a guarded record's header back.
@@ -100,7 +100,7 @@ pub enum CommitPlace {
 
 /// Where a transaction's call stands.
 #[derive(Debug, Drop)]
-pub enum TxnPlace {
+pub enum TxnPoint {
     /// Search the key's position, having passed so many of its path.
     Finding {
         op: Op,
@@ -110,16 +110,16 @@ pub enum TxnPlace {
     Reading {
         op: Op,
         position: u32,
-        at: ReadPlace,
+        at: ReadPoint,
     },
     /// Claim a position for the key.
     Claiming {
         op: Op,
-        at: ClaimKeyPlace,
+        at: ClaimKeyPoint,
     },
     /// Commit.
     Committing {
-        at: CommitPlace,
+        at: CommitPoint,
     },
 }
 

@@ -12,8 +12,8 @@ use Rattle.nam_header.specs.Stamp.{is_locked, is_deleted, same_stamp, sees}
 use Rattle.nam_layout.specs.declared.field.Place.{Place}
 use Rattle.nam_layout.specs.declared.field.Field.{Field}
 use Rattle.nam_layout.specs.declared.field.Field.TheVariants as field
-use Rattle.nam_calls.specs.declared.record.CurrentPlace.{CurrentPlace}
-use Rattle.nam_calls.specs.declared.record.CurrentPlace.TheVariants.{CurrentHead, CurrentWords, CurrentAgain}
+use Rattle.nam_calls.specs.declared.record.CurrentPoint.{CurrentPoint}
+use Rattle.nam_calls.specs.declared.record.CurrentPoint.TheVariants.{CurrentHead, CurrentWords, CurrentAgain}
 use Rattle.nam_calls.specs.declared.record.CurrentEnd.{CurrentEnd}
 use Rattle.nam_calls.specs.declared.record.CurrentEnd.TheVariants.{Found, Unsure, GoOld}
 use Rattle.nam_calls.specs.Record.{current_verb, current_after}
@@ -40,13 +40,13 @@ none_of_both true b none other = absurd (cc)
 none_of_both false b none other = other
 
 module _ (place : Place) (seen : List ℕ) where
-  abbrev verb : CurrentPlace → VerbAt Field
+  abbrev verb : CurrentPoint → VerbAt Field
   verb = current_verb place
 
-  abbrev after : CurrentPlace → ℕ → Now CurrentPlace CurrentEnd
+  abbrev after : CurrentPoint → ℕ → Now CurrentPoint CurrentEnd
   after = current_after place seen
 
-  abbrev EndsSo : Now CurrentPlace CurrentEnd → List (Step Field) → CurrentEnd → Type 0
+  abbrev EndsSo : Now CurrentPoint CurrentEnd → List (Step Field) → CurrentEnd → Type 0
   EndsSo = Ends verb after
 
   abbrev visible_at : ℕ → Bool
@@ -65,7 +65,7 @@ module _ (place : Place) (seen : List ℕ) where
   abbrev looked_on : ℕ → List ℕ → List (Step Field) → List (Step Field)
   looked_on first value rest = looked first ∷ saw_words (field.Word place.row) value ++ rest
 
-  abbrev goes_again : ℕ → List ℕ → Now CurrentPlace CurrentEnd
+  abbrev goes_again : ℕ → List ℕ → Now CurrentPoint CurrentEnd
   goes_again header value = At (CurrentAgain header value)
 
   -- what each end tells of the steps
@@ -95,7 +95,7 @@ module _ (place : Place) (seen : List ℕ) where
       let shown = λ (rest : List (Step Field)). looked_on first value (looked again ∷ rest) in
       let looks : SawTwice place seen (shown []) value first again =
       record { whole = whole; steps_are = refl; visible = visible; present = present } in
-      let Claim = λ (now : Now CurrentPlace CurrentEnd). EndsSo now steps end → Tells end (shown steps) in
+      let Claim = λ (now : Now CurrentPoint CurrentEnd). EndsSo now steps end → Tells end (shown steps) in
       let unsure = Over (Unsure value first) in
       let found = Over (Found (Some value)) in
       let told : Tells end (shown steps) =
@@ -125,7 +125,7 @@ module _ (place : Place) (seen : List ℕ) where
       let header = step.found in
       let is : looked header ≡ step = sym (step_of _ step ends.0) in
       let shown = λ (rest : List (Step Field)). looked header ∷ rest in
-      let Claim = λ (now : Now CurrentPlace CurrentEnd). EndsSo now steps end → Tells end (shown steps) in
+      let Claim = λ (now : Now CurrentPoint CurrentEnd). EndsSo now steps end → Tells end (shown steps) in
       let reads = At (CurrentWords header []) in
       let told : Tells end (shown steps) =
       by_test Claim (visible_at header) (if deleted_at header then Over (Found None) else reads) (Over GoOld)

@@ -13,8 +13,8 @@ use Rattle.nam_verbs.specs.VerbAt.{VerbAt, WriteAt}
 use Rattle.nam_layout.specs.declared.field.Place.{Place}
 use Rattle.nam_layout.specs.declared.field.Field.{Field}
 use Rattle.nam_layout.specs.declared.field.Field.TheVariants as field
-use Rattle.nam_calls.specs.declared.record.InstallPlace.{InstallPlace}
-use Rattle.nam_calls.specs.declared.record.InstallPlace.TheVariants.{InstallWord, InstallCount}
+use Rattle.nam_calls.specs.declared.record.InstallPoint.{InstallPoint}
+use Rattle.nam_calls.specs.declared.record.InstallPoint.TheVariants.{InstallWord, InstallCount}
 use Rattle.nam_calls.specs.Record.{words_verb, words_after, install_verb, install_after}
 use Rattle.nam_calls.specs.Fits.{HasWidth}
 use Rattle.nam_calls.specs.Words.{wrapped}
@@ -71,7 +71,7 @@ module _ (place : Place) (some : 0 < place.width) where
 -- 3. An install
 
 module _ (place : Place) (some : 0 < place.width) (count header : ℕ) where
-  abbrev call : Option (List ℕ) → Running Field InstallPlace (Unit {0})
+  abbrev call : Option (List ℕ) → Running Field InstallPoint (Unit {0})
   call value = install.running (installing place value count header)
 
   abbrev writes : Option (List ℕ) → List (VerbAt Field)
@@ -91,6 +91,6 @@ module _ (place : Place) (some : 0 < place.width) (count header : ℕ) where
       → (EndsWith (call value) steps tt → verbs_of steps ≡ writes value)
       × (verbs_of steps ≡ writes value → EndsWith (call value) steps tt)
   only_writes value wide steps =
-      let law = law_of_verbs Field InstallPlace (Unit {0}) (call value) (writes value) tt (install_writes value wide)
+      let law = law_of_verbs Field InstallPoint (Unit {0}) (call value) (writes value) tt (install_writes value wide)
       steps tt in
       (λ ends. (law.0 ends).0, λ same. law.1 (same, refl))

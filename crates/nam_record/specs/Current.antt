@@ -6,7 +6,7 @@ use Rattle.nam_verbs.specs.Running.{Running}
 use Rattle.nam_layout.specs.declared.field.Place.{Place}
 use Rattle.nam_layout.specs.Place.{position_address, place_end}
 use Rattle.nam_layout.specs.declared.field.Field.{Field}
-use Rattle.nam_calls.specs.declared.record.CurrentPlace.{CurrentPlace}
+use Rattle.nam_calls.specs.declared.record.CurrentPoint.{CurrentPoint}
 use Rattle.nam_calls.specs.declared.record.CurrentEnd.{CurrentEnd}
 use Rattle.nam_calls.specs.Record.{current_begin, current_verb, current_after, current_left}
 
@@ -14,14 +14,14 @@ use Rattle.nam_calls.specs.Record.{current_begin, current_verb, current_after, c
 pub record CurrentReading : Type 0 where
   pub place : Place
   pub seen : List ℕ
-  pub state : Now CurrentPlace CurrentEnd
+  pub state : Now CurrentPoint CurrentEnd
 
 -- a new reading
 abbrev pub reading_current : Place → List ℕ → CurrentReading
 reading_current place seen = record { place = place; seen = seen; state = At current_begin }
 
 -- the same as a running call
-abbrev pub running : CurrentReading → Running Field CurrentPlace CurrentEnd
+abbrev pub running : CurrentReading → Running Field CurrentPoint CurrentEnd
 running a = record {
   address = position_address a.place;
   reach = place_end a.place;

@@ -18,7 +18,7 @@ pub record Rechecking : Type 0 where
 abbrev pub rechecking : Place → ℕ → Rechecking
 rechecking place header = record { place = place; header = header; state = At tt }
 
--- the same as a running call, whose one place is before the read
+-- the same as a running call, whose one point is before the read
 abbrev pub running : Rechecking → Running Field (Unit {0}) Bool
 running a = record {
   address = position_address a.place;

@@ -10,7 +10,7 @@ ghost use Rattle.nam_calls.specs.Record.{current_begin, current_verb, current_af
 ghost use Rattle.nam_calls.specs.Fits.{CurrentFits};
 ghost use Rattle.nam_record.specs.Current.{reading_current, running};
 
-use nam_calls::{CurrentEnd, CurrentPlace};
+use nam_calls::{CurrentEnd, CurrentPoint};
 use nam_header::{is_deleted, is_locked, same_stamp, sees};
 use nam_layout::{Field, Place};
 use nam_verbs::{Machine, Now, Verb};
@@ -19,22 +19,22 @@ use std::marker::Model;
 use std::mem::replace;
 
 /// Where the reading of a current version begins.
-pub fn current_begin() -> CurrentPlace
+pub fn current_begin() -> CurrentPoint
     ensures { result ≡ current_begin }
 {
-    CurrentPlace::CurrentHead
+    CurrentPoint::CurrentHead
 }
 
-/// The verb that stands at a place.
-pub fn current_verb(place: &Place, at: &CurrentPlace) -> Verb
+/// The verb that stands at a point.
+pub fn current_verb(place: &Place, at: &CurrentPoint) -> Verb
     requires fits { FitsPlace place.now }
     requires at { CurrentFits place.now at.now }
     ensures value { result ≡ verb_by (position_address place.now) (current_verb place.now at.now) }
     ensures within { address_of result < place_end place.now }
 {
     let at = match at {
-        CurrentPlace::CurrentHead | CurrentPlace::CurrentAgain { .. } => place.header_at,
-        CurrentPlace::CurrentWords { got, .. } => place.word(got.len() as u32),
+        CurrentPoint::CurrentHead | CurrentPoint::CurrentAgain { .. } => place.header_at,
+        CurrentPoint::CurrentWords { got, .. } => place.word(got.len() as u32),
     };
     Verb::Read { at }
 }
@@ -43,35 +43,35 @@ pub fn current_verb(place: &Place, at: &CurrentPlace) -> Verb
 pub fn current_after(
     place: &Place,
     seen: &Snapshot,
-    at: CurrentPlace,
+    at: CurrentPoint,
     found: u64,
-) -> Now<CurrentPlace, CurrentEnd>
+) -> Now<CurrentPoint, CurrentEnd>
     requires fits { FitsPlace place.now }
     requires at { CurrentFits place.now at }
     ensures { result ≡ current_after place.now seen.now at found }
 {
     match at {
-        CurrentPlace::CurrentHead => {
+        CurrentPoint::CurrentHead => {
             if !sees(place.form, seen, found) {
                 Now::Over(CurrentEnd::GoOld)
             } else if is_deleted(place.form, found) {
                 Now::Over(CurrentEnd::Found(None))
             } else {
-                Now::At(CurrentPlace::CurrentWords {
+                Now::At(CurrentPoint::CurrentWords {
                     header: found,
                     got: Value::new(),
                 })
             }
         }
-        CurrentPlace::CurrentWords { header, mut got } => {
+        CurrentPoint::CurrentWords { header, mut got } => {
             got.push(found);
             if got.len() == place.width as usize {
-                Now::At(CurrentPlace::CurrentAgain { header, value: got })
+                Now::At(CurrentPoint::CurrentAgain { header, value: got })
             } else {
-                Now::At(CurrentPlace::CurrentWords { header, got })
+                Now::At(CurrentPoint::CurrentWords { header, got })
             }
         }
-        CurrentPlace::CurrentAgain { header, value } => {
+        CurrentPoint::CurrentAgain { header, value } => {
             // Under a lock, at either look, the words may be those of the next version.
             if !same_stamp(place.form, found, header) {
                 Now::Over(CurrentEnd::GoOld)
@@ -84,17 +84,17 @@ pub fn current_after(
     }
 }
 
-/// A number of verbs that are to come from a place at the most.
-pub fn current_left(place: &Place, at: &CurrentPlace) -> u64
+/// A number of verbs that are to come from a point at the most.
+pub fn current_left(place: &Place, at: &CurrentPoint) -> u64
     requires fits { FitsPlace place.now }
     requires at { CurrentFits place.now at.now }
     ensures { result ≡ current_left place.now at.now }
 {
     let width = place.width as u64;
     match at {
-        CurrentPlace::CurrentHead => width + 2,
-        CurrentPlace::CurrentWords { got, .. } => width - got.len() as u64 + 1,
-        CurrentPlace::CurrentAgain { .. } => 1,
+        CurrentPoint::CurrentHead => width + 2,
+        CurrentPoint::CurrentWords { got, .. } => width - got.len() as u64 + 1,
+        CurrentPoint::CurrentAgain { .. } => 1,
     }
 }
 
@@ -104,7 +104,7 @@ pub fn current_left(place: &Place, at: &CurrentPlace) -> u64
 pub struct ReadCurrent {
     place: Place,
     seen: Snapshot,
-    state: Now<CurrentPlace, CurrentEnd>,
+    state: Now<CurrentPoint, CurrentEnd>,
 }
 
 impl Model for ReadCurrent {
@@ -140,21 +140,21 @@ impl Machine for ReadCurrent {
 
     type Word = Field;
 
-    type Place = CurrentPlace;
+    type Point = CurrentPoint;
 
     type End = CurrentEnd;
 
     ghost running = { running };
 
-    fn state(&self) -> &Now<CurrentPlace, CurrentEnd> {
+    fn state(&self) -> &Now<CurrentPoint, CurrentEnd> {
         &self.state
     }
 
-    fn verb_from(&self, at: &CurrentPlace) -> Verb {
+    fn verb_from(&self, at: &CurrentPoint) -> Verb {
         current_verb(&self.place, at)
     }
 
-    fn left_from(&self, at: &CurrentPlace) -> u64 {
+    fn left_from(&self, at: &CurrentPoint) -> u64 {
         current_left(&self.place, at)
     }
 

@@ -10,7 +10,7 @@ ghost use Rattle.nam_calls.specs.Record.{install_begin, word_in, install_verb, i
 ghost use Rattle.nam_calls.specs.Fits.{HasWidth, InstallFits};
 ghost use Rattle.nam_record.specs.Install.{installing, running};
 
-use nam_calls::InstallPlace;
+use nam_calls::InstallPoint;
 use nam_layout::{Field, Place};
 use nam_verbs::{Machine, Now, Verb};
 use si_model::Value;
@@ -18,12 +18,12 @@ use std::marker::Model;
 use std::mem::replace;
 
 /// Where the install of a version begins. A deletion has no value, and leaves the data words as they are.
-pub fn install_begin(value: &Option<Value>) -> InstallPlace
+pub fn install_begin(value: &Option<Value>) -> InstallPoint
     ensures { result ≡ install_begin value.now }
 {
     match value {
-        None => InstallPlace::InstallCount,
-        Some(_) => InstallPlace::InstallWord { nth: 0 },
+        None => InstallPoint::InstallCount,
+        Some(_) => InstallPoint::InstallWord { nth: 0 },
     }
 }
 
@@ -39,13 +39,13 @@ fn word_in(place: &Place, value: &Option<Value>, nth: u32) -> u64
     }
 }
 
-/// The verb that stands at a place, of the install of a version after that of number `count`.
+/// The verb that stands at a point, of the install of a version after that of number `count`.
 pub fn install_verb(
     place: &Place,
     value: &Option<Value>,
     count: u64,
     header: u64,
-    at: &InstallPlace,
+    at: &InstallPoint,
 ) -> Verb
     requires fits { FitsPlace place.now }
     requires value { HasWidth place.now.width value.now }
@@ -55,15 +55,15 @@ pub fn install_verb(
     ensures within { address_of result < place_end place.now }
 {
     match at {
-        InstallPlace::InstallWord { nth } => Verb::Write {
+        InstallPoint::InstallWord { nth } => Verb::Write {
             at: place.word(*nth),
             word: word_in(place, value, *nth),
         },
-        InstallPlace::InstallCount => Verb::Write {
+        InstallPoint::InstallCount => Verb::Write {
             at: place.count_at,
             word: count.wrapping_add(1),
         },
-        InstallPlace::InstallHead => Verb::Write {
+        InstallPoint::InstallHead => Verb::Write {
             at: place.header_at,
             word: header,
         },
@@ -71,35 +71,35 @@ pub fn install_verb(
 }
 
 /// The install after its write.
-pub fn install_after(place: &Place, at: InstallPlace) -> Now<InstallPlace, ()>
+pub fn install_after(place: &Place, at: InstallPoint) -> Now<InstallPoint, ()>
     requires fits { FitsPlace place.now }
     requires at { InstallFits place.now at }
     ensures { result ≡ install_after place.now at }
 {
     // The header is last: until it is written its lock tells readers that the words may be of either version.
     match at {
-        InstallPlace::InstallWord { nth } => {
+        InstallPoint::InstallWord { nth } => {
             if nth + 1 == place.width {
-                Now::At(InstallPlace::InstallCount)
+                Now::At(InstallPoint::InstallCount)
             } else {
-                Now::At(InstallPlace::InstallWord { nth: nth + 1 })
+                Now::At(InstallPoint::InstallWord { nth: nth + 1 })
             }
         }
-        InstallPlace::InstallCount => Now::At(InstallPlace::InstallHead),
-        InstallPlace::InstallHead => Now::Over(()),
+        InstallPoint::InstallCount => Now::At(InstallPoint::InstallHead),
+        InstallPoint::InstallHead => Now::Over(()),
     }
 }
 
-/// How many verbs are to come from a place.
-pub fn install_left(place: &Place, at: &InstallPlace) -> u64
+/// How many verbs are to come from a point.
+pub fn install_left(place: &Place, at: &InstallPoint) -> u64
     requires fits { FitsPlace place.now }
     requires at { InstallFits place.now at.now }
     ensures { result ≡ install_left place.now at.now }
 {
     match at {
-        InstallPlace::InstallWord { nth } => place.width as u64 - *nth as u64 + 2,
-        InstallPlace::InstallCount => 2,
-        InstallPlace::InstallHead => 1,
+        InstallPoint::InstallWord { nth } => place.width as u64 - *nth as u64 + 2,
+        InstallPoint::InstallCount => 2,
+        InstallPoint::InstallHead => 1,
     }
 }
 
@@ -110,7 +110,7 @@ pub struct Install {
     value: Option<Value>,
     count: u64,
     header: u64,
-    state: Now<InstallPlace, ()>,
+    state: Now<InstallPoint, ()>,
 }
 
 impl Model for Install {
@@ -159,21 +159,21 @@ impl Machine for Install {
 
     type Word = Field;
 
-    type Place = InstallPlace;
+    type Point = InstallPoint;
 
     type End = ();
 
     ghost running = { running };
 
-    fn state(&self) -> &Now<InstallPlace, ()> {
+    fn state(&self) -> &Now<InstallPoint, ()> {
         &self.state
     }
 
-    fn verb_from(&self, at: &InstallPlace) -> Verb {
+    fn verb_from(&self, at: &InstallPoint) -> Verb {
         install_verb(&self.place, &self.value, self.count, self.header, at)
     }
 
-    fn left_from(&self, at: &InstallPlace) -> u64 {
+    fn left_from(&self, at: &InstallPoint) -> u64 {
         install_left(&self.place, at)
     }
 

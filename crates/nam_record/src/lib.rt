@@ -1,6 +1,6 @@
 //! A record's current version: reading it under a snapshot, and installing the next one.
 //!
-//! Four calls, each as functions on its places and as a machine: `ReadCurrent` reads the header, the data words and
+//! Four calls, each as functions on its points and as a machine: `ReadCurrent` reads the header, the data words and
 //! the header again, `Recheck` looks at the header once more, `ReadWords` reads the data words alone, and `Install`
 //! writes the next version. Whatever words their verbs find, `current_law`, `recheck_law`, `words_law` and
 //! `install_law` say exactly how they end and what they did, and `field_law` that each verb is at a field of the

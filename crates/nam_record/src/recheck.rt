@@ -71,7 +71,7 @@ impl Machine for Recheck {
 
     type Word = Field;
 
-    type Place = ();
+    type Point = ();
 
     type End = bool;
 

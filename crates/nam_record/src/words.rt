@@ -16,7 +16,7 @@ use si_model::Value;
 use std::marker::Model;
 use std::mem::replace;
 
-/// Where the reading of the data words begins: no word is got. Each place is the words got so far.
+/// Where the reading of the data words begins: no word is got. Each point is the words got so far.
 pub fn words_begin() -> Value
     ensures { result ≡ words_begin }
 {
@@ -98,7 +98,7 @@ impl Machine for ReadWords {
 
     type Word = Field;
 
-    type Place = Value;
+    type Point = Value;
 
     type End = Value;
 

@@ -5,7 +5,7 @@ use Rattle.nam_verbs.proofs.WritingLemmas.{writes_words}
 use Rattle.nam_verbs.specs.VerbAt.{WriteAt}
 use Rattle.nam_layout.specs.Place.{slot_of}
 use Rattle.nam_layout.specs.declared.field.Field.TheVariants as field
-use Rattle.nam_calls.specs.declared.ring.CopyPlace.TheVariants.{CopyWord, CopyHead}
+use Rattle.nam_calls.specs.declared.ring.CopyPoint.TheVariants.{CopyWord, CopyHead}
 use Rattle.nam_calls.specs.Ring.{copy_verb, copy_after}
 use Rattle.nam_ring.specs.CopyLaw.{CopyLaw}
 

@@ -15,16 +15,16 @@ use Rattle.nam_layout.specs.declared.field.Place.{Place}
 use Rattle.nam_layout.specs.PlaceFits.{FitsPlace}
 use Rattle.nam_layout.specs.declared.field.Field.{Field}
 use Rattle.nam_layout.specs.declared.field.Field.TheVariants as field
-use Rattle.nam_calls.specs.declared.ring.RingPlace.{RingPlace}
-use Rattle.nam_calls.specs.declared.ring.RingPlace.TheVariants.{SlotHead, SlotEnding, SlotWords, SlotAgain}
+use Rattle.nam_calls.specs.declared.ring.RingPoint.{RingPoint}
+use Rattle.nam_calls.specs.declared.ring.RingPoint.TheVariants.{SlotHead, SlotEnding, SlotWords, SlotAgain}
 use Rattle.nam_calls.specs.declared.ring.SearchEnd.{SearchEnd}
 use Rattle.nam_calls.specs.declared.ring.SearchEnd.TheVariants.{Found, NotThere}
 use Rattle.nam_calls.specs.Ring.{ring_verb, ring_after, next_slot}
-use Rattle.nam_ring.specs.SearchLaw.{saw_header, saw_end, HasSeen, looked, SlotEnded, SlotGives}
+use Rattle.nam_ring.specs.SearchLaw.{saw_header, saw_end, HasSeen, look_steps, SlotEnded, SlotGives}
 use Rattle.nam_ring.specs.SearchLaw.{by_header, by_end, by_change}
 
 module _ (place : Place) (fits : FitsPlace place) (seen : List ℕ) where
-  abbrev EndsFrom : Now RingPlace SearchEnd → List (Step Field) → SearchEnd → Type 0
+  abbrev EndsFrom : Now RingPoint SearchEnd → List (Step Field) → SearchEnd → Type 0
   EndsFrom now steps end = Ends (ring_verb place) (ring_after place seen) now steps end
 
   -- the slot ends the search so
@@ -47,7 +47,7 @@ module _ (place : Place) (fits : FitsPlace place) (seen : List ℕ) where
       → sees place.form seen ending ≡ false → length words ≡ place.width
       → same_stamp place.form again header ≡ true → again ≢ mark
       → (steps : List (Step Field)) (end : SearchEnd) → EndsFrom (Over (Found (value_of header words))) steps end
-      → Stops end slot (looked place seen slot header ending words ++ saw_header place slot again ∷ steps)
+      → Stops end slot (look_steps place seen slot header ending words ++ saw_header place slot again ∷ steps)
   gives slot header ending words again shows newest whole same still [] NotThere ends = absurd (cc)
   gives slot header ending words again shows newest whole same still [] (Found value) ends = record {
     header = header;
@@ -68,12 +68,12 @@ module _ (place : Place) (fits : FitsPlace place) (seen : List ℕ) where
   part_again : (slot header ending : ℕ) (words : List ℕ) → HasSeen place seen header
       → sees place.form seen ending ≡ false → length words ≡ place.width
       → (steps : List (Step Field)) (end : SearchEnd) → EndsFrom (At (SlotAgain slot header words)) steps end
-      → Parts slot (looked place seen slot header ending words ++ steps) end
+      → Parts slot (look_steps place seen slot header ending words ++ steps) end
   part_again slot header ending words shows newest whole [] end ends = absurd ends
   part_again slot header ending words shows newest whole (step ∷ steps) end ends =
       let again = step.found in
       let is : step ≡ saw_header place slot again = step_of _ step ends.0 in
-      let before = looked place seen slot header ending words in
+      let before = look_steps place seen slot header ending words in
       let ended : (same_stamp place.form again header ≡ false) ⊎ (again ≡ mark)
       → EndsFrom (next_slot place slot) steps end → Parts slot (before ++ step ∷ steps) end =
       λ why goes. inr (
@@ -137,7 +137,7 @@ module _ (place : Place) (fits : FitsPlace place) (seen : List ℕ) where
 
   -- The other way round: what each test says, put together.
 
-  chosen : (test : Bool) (is : Bool) (a b : Now RingPlace SearchEnd) (steps : List (Step Field)) (end : SearchEnd)
+  chosen : (test : Bool) (is : Bool) (a b : Now RingPoint SearchEnd) (steps : List (Step Field)) (end : SearchEnd)
       → test ≡ is → EndsFrom (if is then a else b) steps end
       → EndsFrom (if test then a else b) steps end
   chosen test is a b steps end same ends = rw same ends
@@ -155,7 +155,7 @@ module _ (place : Place) (fits : FitsPlace place) (seen : List ℕ) where
   from_words : (slot header ending : ℕ) (words : List ℕ) (steps : List (Step Field)) (end : SearchEnd)
       → HasSeen place seen header → sees place.form seen ending ≡ false
       → length words ≡ place.width → EndsFrom (At (SlotAgain slot header words)) steps end
-      → EndsFrom (At (SlotHead slot)) (looked place seen slot header ending words ++ steps) end
+      → EndsFrom (At (SlotHead slot)) (look_steps place seen slot header ending words ++ steps) end
   from_words slot header ending words steps end shows newest whole ends =
       from_head slot header (saw_end place slot ending ∷ saw_words
       (field.SlotWord place.row slot) words ++ steps) end shows (
@@ -185,7 +185,7 @@ module _ (place : Place) (fits : FitsPlace place) (seen : List ℕ) where
       ))
   passed_slot slot first rest end (by_change header ending words again shows newest whole why is) ends =
       rw is (subst (λ steps. EndsFrom (At (SlotHead slot)) steps end)
-      (sym (append_assoc (looked place seen slot header ending words) (saw_header place slot again ∷ []) rest))
+      (sym (append_assoc (look_steps place seen slot header ending words) (saw_header place slot again ∷ []) rest))
       (from_words slot header ending words (saw_header place slot again ∷ rest) end shows newest whole (
         refl,
         chosen (same_stamp place.form again header && not (again == mark)) false

@@ -7,7 +7,7 @@ use Rattle.nam_verbs.specs.Running.{Running}
 use Rattle.nam_layout.specs.declared.field.Place.{Place}
 use Rattle.nam_layout.specs.Place.{position_address, place_end}
 use Rattle.nam_layout.specs.declared.field.Field.{Field}
-use Rattle.nam_calls.specs.declared.ring.CopyPlace.{CopyPlace}
+use Rattle.nam_calls.specs.declared.ring.CopyPoint.{CopyPoint}
 use Rattle.nam_calls.specs.Ring.{copy_begin, copy_verb, copy_after, copy_left}
 
 -- a copy of the version with this number, header, words and successor, and where it stands
@@ -17,7 +17,7 @@ pub record Copying : Type 0 where
   pub header : ℕ
   pub old : List ℕ
   pub ending : Stamp
-  pub state : Now CopyPlace (Unit {0})
+  pub state : Now CopyPoint (Unit {0})
 
 -- a new copy
 abbrev pub copying : Place → ℕ → ℕ → List ℕ → Stamp → Copying
@@ -25,7 +25,7 @@ copying place count header old ending =
     record { place = place; count = count; header = header; old = old; ending = ending; state = At copy_begin }
 
 -- the same as a running call
-abbrev pub running : Copying → Running Field CopyPlace (Unit {0})
+abbrev pub running : Copying → Running Field CopyPoint (Unit {0})
 running a = record {
   address = position_address a.place;
   reach = place_end a.place;

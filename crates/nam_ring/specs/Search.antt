@@ -6,7 +6,7 @@ use Rattle.nam_verbs.specs.Running.{Running}
 use Rattle.nam_layout.specs.declared.field.Place.{Place}
 use Rattle.nam_layout.specs.Place.{position_address, place_end}
 use Rattle.nam_layout.specs.declared.field.Field.{Field}
-use Rattle.nam_calls.specs.declared.ring.RingPlace.{RingPlace}
+use Rattle.nam_calls.specs.declared.ring.RingPoint.{RingPoint}
 use Rattle.nam_calls.specs.declared.ring.SearchEnd.{SearchEnd}
 use Rattle.nam_calls.specs.Ring.{ring_begin, ring_verb, ring_after, ring_left}
 
@@ -14,14 +14,14 @@ use Rattle.nam_calls.specs.Ring.{ring_begin, ring_verb, ring_after, ring_left}
 pub record Searching : Type 0 where
   pub place : Place
   pub seen : List ℕ
-  pub state : Now RingPlace SearchEnd
+  pub state : Now RingPoint SearchEnd
 
 -- a new search
 abbrev pub searching : Place → List ℕ → Searching
 searching place seen = record { place = place; seen = seen; state = At ring_begin }
 
 -- the same as a running call
-abbrev pub running : Searching → Running Field RingPlace SearchEnd
+abbrev pub running : Searching → Running Field RingPoint SearchEnd
 running a = record {
   address = position_address a.place;
   reach = place_end a.place;

@@ -28,8 +28,8 @@ module _ (place : Place) (seen : List ℕ) where
     pub visible : sees place.form seen header ≡ true
 
   -- the slot's header, its end and its words were read
-  abbrev pub looked : ℕ → ℕ → ℕ → List ℕ → List (Step Field)
-  looked slot header ending words =
+  abbrev pub look_steps : ℕ → ℕ → ℕ → List ℕ → List (Step Field)
+  look_steps slot header ending words =
       saw_header place slot header ∷ saw_end place slot ending ∷ saw_words (field.SlotWord place.row slot) words
 
   -- a slot was ended by a word found: by its header, by its end, or by its header read again
@@ -41,7 +41,7 @@ module _ (place : Place) (seen : List ℕ) where
     by_change : (header ending : ℕ) (words : List ℕ) (again : ℕ) → HasSeen header
         → sees place.form seen ending ≡ false → length words ≡ place.width
         → (same_stamp place.form again header ≡ false) ⊎ (again ≡ mark)
-        → steps ≡ looked slot header ending words ++ saw_header place slot again ∷ [] → SlotEnded slot steps
+        → steps ≡ look_steps slot header ending words ++ saw_header place slot again ∷ [] → SlotEnded slot steps
 
   -- A slot has what the snapshot sees: its header is visible and isn't the mark, its end isn't visible, and its header,
   -- read again after the words, bears the same stamp and isn't the mark. The value is those words, and absent where it
@@ -57,7 +57,7 @@ module _ (place : Place) (seen : List ℕ) where
     pub same : same_stamp place.form again header ≡ true
     pub still : again ≢ mark
     pub value_is : value ≡ (if is_deleted place.form header then None else Some words)
-    pub steps_are : steps ≡ looked slot header ending words ++ saw_header place slot again ∷ []
+    pub steps_are : steps ≡ look_steps slot header ending words ++ saw_header place slot again ∷ []
 
 -- found exactly where a slot has it, after each slot before it was ended by a word found
 abbrev pub FoundLaw : Type 0

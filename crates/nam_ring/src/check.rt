@@ -9,7 +9,7 @@ ghost use Rattle.nam_layout.specs.PlaceFits.{FitsPlace};
 ghost use Rattle.nam_calls.specs.Ring.{slot_begin, slot_verb, slot_after, slot_left};
 ghost use Rattle.nam_ring.specs.Check.{checking, running};
 
-use nam_calls::{SlotEnd, SlotPlace};
+use nam_calls::{SlotEnd, SlotPoint};
 use nam_header::is_moved;
 use nam_layout::{Field, Place};
 use nam_verbs::{Machine, Now, Verb};
@@ -17,33 +17,33 @@ use std::marker::Model;
 use std::mem::replace;
 
 /// Where a look begins: at the number of the current version.
-pub fn slot_begin() -> SlotPlace
+pub fn slot_begin() -> SlotPoint
     ensures { result ≡ slot_begin }
 {
-    SlotPlace::CheckCount
+    SlotPoint::CheckCount
 }
 
-/// The verb that stands at a place.
-pub fn slot_verb(place: &Place, at: &SlotPlace) -> Verb
+/// The verb that stands at a point.
+pub fn slot_verb(place: &Place, at: &SlotPoint) -> Verb
     requires { FitsPlace place.now }
     ensures value { result ≡ verb_by (position_address place.now) (slot_verb place.now at.now) }
     ensures within { address_of result < place_end place.now }
 {
     let at = match at {
-        SlotPlace::CheckCount => place.count_at,
-        SlotPlace::CheckHead { count } => place.slot_header(place.slot_of(*count)),
+        SlotPoint::CheckCount => place.count_at,
+        SlotPoint::CheckHead { count } => place.slot_header(place.slot_of(*count)),
     };
     Verb::Read { at }
 }
 
-/// What follows the word that the verb of a place found.
-pub fn slot_after(place: &Place, at: SlotPlace, found: u64) -> Now<SlotPlace, SlotEnd>
+/// What follows the word that the verb of a point found.
+pub fn slot_after(place: &Place, at: SlotPoint, found: u64) -> Now<SlotPoint, SlotEnd>
     requires { FitsPlace place.now }
     ensures { result ≡ slot_after place.now at found }
 {
     match at {
-        SlotPlace::CheckCount => Now::At(SlotPlace::CheckHead { count: found }),
-        SlotPlace::CheckHead { count } => {
+        SlotPoint::CheckCount => Now::At(SlotPoint::CheckHead { count: found }),
+        SlotPoint::CheckHead { count } => {
             // A version that wasn't moved stands nowhere else.
             if is_moved(place.form, found) {
                 Now::Over(SlotEnd::Free { count })
@@ -57,13 +57,13 @@ pub fn slot_after(place: &Place, at: SlotPlace, found: u64) -> Now<SlotPlace, Sl
     }
 }
 
-/// How many verbs are to come from a place.
-pub fn slot_left(at: &SlotPlace) -> u64
+/// How many verbs are to come from a point.
+pub fn slot_left(at: &SlotPoint) -> u64
     ensures { result ≡ slot_left at.now }
 {
     match at {
-        SlotPlace::CheckCount => 2,
-        SlotPlace::CheckHead { .. } => 1,
+        SlotPoint::CheckCount => 2,
+        SlotPoint::CheckHead { .. } => 1,
     }
 }
 
@@ -71,7 +71,7 @@ pub fn slot_left(at: &SlotPlace) -> u64
 #[derive(Debug, Drop)]
 pub struct CheckSlot {
     place: Place,
-    state: Now<SlotPlace, SlotEnd>,
+    state: Now<SlotPoint, SlotEnd>,
 }
 
 impl Model for CheckSlot {
@@ -104,21 +104,21 @@ impl Machine for CheckSlot {
 
     type Word = Field;
 
-    type Place = SlotPlace;
+    type Point = SlotPoint;
 
     type End = SlotEnd;
 
     ghost running = { running };
 
-    fn state(&self) -> &Now<SlotPlace, SlotEnd> {
+    fn state(&self) -> &Now<SlotPoint, SlotEnd> {
         &self.state
     }
 
-    fn verb_from(&self, at: &SlotPlace) -> Verb {
+    fn verb_from(&self, at: &SlotPoint) -> Verb {
         slot_verb(&self.place, at)
     }
 
-    fn left_from(&self, at: &SlotPlace) -> u64 {
+    fn left_from(&self, at: &SlotPoint) -> u64 {
         slot_left(at)
     }
 

@@ -11,7 +11,7 @@ ghost use Rattle.nam_calls.specs.Fits.{CopyFits};
 ghost use Rattle.nam_calls.specs.Ring.{copy_begin, copy_verb, copy_after, copy_left};
 ghost use Rattle.nam_ring.specs.Copy.{copying, running};
 
-use nam_calls::CopyPlace;
+use nam_calls::CopyPoint;
 use nam_header::{MARK, stamp_word};
 use nam_layout::{Field, Place};
 use nam_verbs::{Machine, Now, Verb};
@@ -20,13 +20,13 @@ use std::marker::Model;
 use std::mem::replace;
 
 /// Where a copy begins: at the mark.
-pub fn copy_begin() -> CopyPlace
+pub fn copy_begin() -> CopyPoint
     ensures { result ≡ copy_begin }
 {
-    CopyPlace::CopyMark
+    CopyPoint::CopyMark
 }
 
-/// The verb that stands at a place: `count` is the version's number, `header` its header without a lock, `old` its
+/// The verb that stands at a point: `count` is the version's number, `header` its header without a lock, `old` its
 /// words, and `ending` its successor's stamp.
 pub fn copy_verb(
     place: &Place,
@@ -34,7 +34,7 @@ pub fn copy_verb(
     header: u64,
     old: &Value,
     ending: Stamp,
-    at: &CopyPlace,
+    at: &CopyPoint,
 ) -> Verb
     requires fits { FitsPlace place.now }
     requires old { length old.now ≡ place.now.width }
@@ -46,27 +46,27 @@ pub fn copy_verb(
 {
     let slot = place.slot_of(count);
     match at {
-        CopyPlace::CopyMark => Verb::Write {
+        CopyPoint::CopyMark => Verb::Write {
             at: place.slot_header(slot),
             word: MARK,
         },
-        CopyPlace::CopyEnding => Verb::Write {
+        CopyPoint::CopyEnding => Verb::Write {
             at: place.slot_end(slot),
             word: stamp_word(place.form, ending),
         },
-        CopyPlace::CopyWord { nth } => Verb::Write {
+        CopyPoint::CopyWord { nth } => Verb::Write {
             at: place.slot_word(slot, *nth),
             word: *old.at(*nth as usize),
         },
-        CopyPlace::CopyHead => Verb::Write {
+        CopyPoint::CopyHead => Verb::Write {
             at: place.slot_header(slot),
             word: header,
         },
     }
 }
 
-/// What follows the write of a place.
-pub fn copy_after(place: &Place, at: CopyPlace) -> Now<CopyPlace, ()>
+/// What follows the write of a point.
+pub fn copy_after(place: &Place, at: CopyPoint) -> Now<CopyPoint, ()>
     requires fits { FitsPlace place.now }
     requires at { CopyFits place.now at }
     ensures { result ≡ copy_after place.now at }
@@ -74,31 +74,31 @@ pub fn copy_after(place: &Place, at: CopyPlace) -> Now<CopyPlace, ()>
     // The mark is first, so that no search takes a slot whose words change; the header is last, so that it stands over
     // whole words alone.
     match at {
-        CopyPlace::CopyMark => Now::At(CopyPlace::CopyEnding),
-        CopyPlace::CopyEnding => Now::At(CopyPlace::CopyWord { nth: 0 }),
-        CopyPlace::CopyWord { nth } => {
+        CopyPoint::CopyMark => Now::At(CopyPoint::CopyEnding),
+        CopyPoint::CopyEnding => Now::At(CopyPoint::CopyWord { nth: 0 }),
+        CopyPoint::CopyWord { nth } => {
             if nth + 1 == place.width {
-                Now::At(CopyPlace::CopyHead)
+                Now::At(CopyPoint::CopyHead)
             } else {
-                Now::At(CopyPlace::CopyWord { nth: nth + 1 })
+                Now::At(CopyPoint::CopyWord { nth: nth + 1 })
             }
         }
-        CopyPlace::CopyHead => Now::Over(()),
+        CopyPoint::CopyHead => Now::Over(()),
     }
 }
 
-/// How many verbs are to come from a place.
-pub fn copy_left(place: &Place, at: &CopyPlace) -> u64
+/// How many verbs are to come from a point.
+pub fn copy_left(place: &Place, at: &CopyPoint) -> u64
     requires fits { FitsPlace place.now }
     requires at { CopyFits place.now at.now }
     ensures { result ≡ copy_left place.now at.now }
 {
     let width = place.width as u64;
     match at {
-        CopyPlace::CopyMark => width + 3,
-        CopyPlace::CopyEnding => width + 2,
-        CopyPlace::CopyWord { nth } => width - *nth as u64 + 1,
-        CopyPlace::CopyHead => 1,
+        CopyPoint::CopyMark => width + 3,
+        CopyPoint::CopyEnding => width + 2,
+        CopyPoint::CopyWord { nth } => width - *nth as u64 + 1,
+        CopyPoint::CopyHead => 1,
     }
 }
 
@@ -110,7 +110,7 @@ pub struct CopyOld {
     header: u64,
     old: Value,
     ending: Stamp,
-    state: Now<CopyPlace, ()>,
+    state: Now<CopyPoint, ()>,
 }
 
 impl Model for CopyOld {
@@ -162,17 +162,17 @@ impl Machine for CopyOld {
 
     type Word = Field;
 
-    type Place = CopyPlace;
+    type Point = CopyPoint;
 
     type End = ();
 
     ghost running = { running };
 
-    fn state(&self) -> &Now<CopyPlace, ()> {
+    fn state(&self) -> &Now<CopyPoint, ()> {
         &self.state
     }
 
-    fn verb_from(&self, at: &CopyPlace) -> Verb {
+    fn verb_from(&self, at: &CopyPoint) -> Verb {
         copy_verb(
             &self.place,
             self.count,
@@ -183,7 +183,7 @@ impl Machine for CopyOld {
         )
     }
 
-    fn left_from(&self, at: &CopyPlace) -> u64 {
+    fn left_from(&self, at: &CopyPoint) -> u64 {
         copy_left(&self.place, at)
     }
 

@@ -1,6 +1,6 @@
 //! Old versions in a record's ring of slots.
 //!
-//! Three calls, each as functions on its places and as a machine: `CheckSlot` looks at the slot that the record's next
+//! Three calls, each as functions on its points and as a machine: `CheckSlot` looks at the slot that the record's next
 //! version needs, `CopyOld` puts the current version there, and `SearchRing` looks for the version that a snapshot
 //! sees. Whatever words their verbs find, `check_law`, `copy_law` and `search_law` say exactly how they end and what
 //! they did, and `field_law` that each verb is at a field of the position that was given. No call takes memory.

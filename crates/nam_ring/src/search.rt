@@ -6,13 +6,13 @@ ghost use Rattle.nam_verbs.specs.VerbAt.{verb_by};
 ghost use Rattle.nam_verbs.specs.Running.{verbs_left};
 ghost use Rattle.nam_layout.specs.Place.{position_address, place_end};
 ghost use Rattle.nam_layout.specs.PlaceFits.{FitsPlace};
-ghost use Rattle.nam_calls.specs.declared.ring.RingPlace.TheVariants.{SlotWords, SlotAgain};
+ghost use Rattle.nam_calls.specs.declared.ring.RingPoint.TheVariants.{SlotWords, SlotAgain};
 ghost use Rattle.nam_calls.specs.Fits.{RingFits};
 ghost use Rattle.nam_calls.specs.Ring.{ring_begin, ring_verb, ring_after, ring_left};
 ghost use Rattle.nam_calls.specs.Ring.{next_slot, slots_left};
 ghost use Rattle.nam_ring.specs.Search.{searching, running};
 
-use nam_calls::{RingPlace, SearchEnd};
+use nam_calls::{RingPoint, SearchEnd};
 use nam_header::{MARK, is_deleted, same_stamp, sees};
 use nam_layout::{Field, Place};
 use nam_verbs::{Machine, Now, Verb};
@@ -21,30 +21,30 @@ use std::marker::Model;
 use std::mem::replace;
 
 /// Where a search begins: at the first slot.
-pub fn ring_begin() -> RingPlace
+pub fn ring_begin() -> RingPoint
     ensures { result ≡ ring_begin }
 {
-    RingPlace::SlotHead { slot: 0 }
+    RingPoint::SlotHead { slot: 0 }
 }
 
-/// The verb that stands at a place.
-pub fn ring_verb(place: &Place, at: &RingPlace) -> Verb
+/// The verb that stands at a point.
+pub fn ring_verb(place: &Place, at: &RingPoint) -> Verb
     requires fits { FitsPlace place.now }
     requires at { RingFits place.now at.now }
     ensures value { result ≡ verb_by (position_address place.now) (ring_verb place.now at.now) }
     ensures within { address_of result < place_end place.now }
 {
     let at = match at {
-        RingPlace::SlotHead { slot } | RingPlace::SlotAgain { slot, .. } => place.slot_header(
+        RingPoint::SlotHead { slot } | RingPoint::SlotAgain { slot, .. } => place.slot_header(
             *slot,
         ),
-        RingPlace::SlotEnding { slot, .. } => place.slot_end(*slot),
-        RingPlace::SlotWords { slot, got, .. } => place.slot_word(*slot, got.len() as u32),
+        RingPoint::SlotEnding { slot, .. } => place.slot_end(*slot),
+        RingPoint::SlotWords { slot, got, .. } => place.slot_word(*slot, got.len() as u32),
     };
     Verb::Read { at }
 }
 
-fn next_slot(place: &Place, slot: u32) -> Now<RingPlace, SearchEnd>
+fn next_slot(place: &Place, slot: u32) -> Now<RingPoint, SearchEnd>
     requires fits { FitsPlace place.now }
     requires slot { slot < place.now.ring }
     ensures { result ≡ next_slot place.now slot }
@@ -52,7 +52,7 @@ fn next_slot(place: &Place, slot: u32) -> Now<RingPlace, SearchEnd>
     if slot + 1 == place.ring {
         Now::Over(SearchEnd::NotThere)
     } else {
-        Now::At(RingPlace::SlotHead { slot: slot + 1 })
+        Now::At(RingPoint::SlotHead { slot: slot + 1 })
     }
 }
 
@@ -62,20 +62,20 @@ fn after_word(
     header: u64,
     mut got: Value,
     found: u64,
-) -> Now<RingPlace, SearchEnd>
+) -> Now<RingPoint, SearchEnd>
     requires fits { FitsPlace place.now }
     requires at { RingFits place.now (SlotWords slot header got.now) }
     ensures { result ≡ ring_after place.now [] (SlotWords slot header got.now) found }
 {
     got.push(found);
     if got.len() == place.width as usize {
-        Now::At(RingPlace::SlotAgain {
+        Now::At(RingPoint::SlotAgain {
             slot,
             header,
             value: got,
         })
     } else {
-        Now::At(RingPlace::SlotWords { slot, header, got })
+        Now::At(RingPoint::SlotWords { slot, header, got })
     }
 }
 
@@ -85,7 +85,7 @@ fn after_again(
     header: u64,
     value: Value,
     found: u64,
-) -> Now<RingPlace, SearchEnd>
+) -> Now<RingPoint, SearchEnd>
     requires fits { FitsPlace place.now }
     requires at { RingFits place.now (SlotAgain slot header value.now) }
     ensures { result ≡ ring_after place.now [] (SlotAgain slot header value.now) found }
@@ -100,42 +100,42 @@ fn after_again(
     }
 }
 
-/// What follows the word that the verb of a place found.
+/// What follows the word that the verb of a point found.
 pub fn ring_after(
     place: &Place,
     seen: &Snapshot,
-    at: RingPlace,
+    at: RingPoint,
     found: u64,
-) -> Now<RingPlace, SearchEnd>
+) -> Now<RingPoint, SearchEnd>
     requires fits { FitsPlace place.now }
     requires at { RingFits place.now at }
     ensures { result ≡ ring_after place.now seen.now at found }
 {
     match at {
-        RingPlace::SlotHead { slot } => {
+        RingPoint::SlotHead { slot } => {
             if found == MARK || !sees(place.form, seen, found) {
                 next_slot(place, slot)
             } else {
-                Now::At(RingPlace::SlotEnding {
+                Now::At(RingPoint::SlotEnding {
                     slot,
                     header: found,
                 })
             }
         }
-        RingPlace::SlotEnding { slot, header } => {
+        RingPoint::SlotEnding { slot, header } => {
             // A visible end is the stamp of a later version that the snapshot sees.
             if sees(place.form, seen, found) {
                 next_slot(place, slot)
             } else {
-                Now::At(RingPlace::SlotWords {
+                Now::At(RingPoint::SlotWords {
                     slot,
                     header,
                     got: Value::new(),
                 })
             }
         }
-        RingPlace::SlotWords { slot, header, got } => after_word(place, slot, header, got, found),
-        RingPlace::SlotAgain {
+        RingPoint::SlotWords { slot, header, got } => after_word(place, slot, header, got, found),
+        RingPoint::SlotAgain {
             slot,
             header,
             value,
@@ -152,20 +152,20 @@ fn slots_left(place: &Place, slot: u32) -> u64
     (place.ring - slot - 1) as u64 * (place.width as u64 + 3)
 }
 
-/// A number of verbs that are to come from a place at the most.
-pub fn ring_left(place: &Place, at: &RingPlace) -> u64
+/// A number of verbs that are to come from a point at the most.
+pub fn ring_left(place: &Place, at: &RingPoint) -> u64
     requires fits { FitsPlace place.now }
     requires at { RingFits place.now at.now }
     ensures { result ≡ ring_left place.now at.now }
 {
     let width = place.width as u64;
     match at {
-        RingPlace::SlotHead { slot } => slots_left(place, *slot) + (width + 3),
-        RingPlace::SlotEnding { slot, .. } => slots_left(place, *slot) + (width + 2),
-        RingPlace::SlotWords { slot, got, .. } => {
+        RingPoint::SlotHead { slot } => slots_left(place, *slot) + (width + 3),
+        RingPoint::SlotEnding { slot, .. } => slots_left(place, *slot) + (width + 2),
+        RingPoint::SlotWords { slot, got, .. } => {
             slots_left(place, *slot) + (width - got.len() as u64 + 1)
         }
-        RingPlace::SlotAgain { slot, .. } => slots_left(place, *slot) + 1,
+        RingPoint::SlotAgain { slot, .. } => slots_left(place, *slot) + 1,
     }
 }
 
@@ -175,7 +175,7 @@ pub fn ring_left(place: &Place, at: &RingPlace) -> u64
 pub struct SearchRing {
     place: Place,
     seen: Snapshot,
-    state: Now<RingPlace, SearchEnd>,
+    state: Now<RingPoint, SearchEnd>,
 }
 
 impl Model for SearchRing {
@@ -211,21 +211,21 @@ impl Machine for SearchRing {
 
     type Word = Field;
 
-    type Place = RingPlace;
+    type Point = RingPoint;
 
     type End = SearchEnd;
 
     ghost running = { running };
 
-    fn state(&self) -> &Now<RingPlace, SearchEnd> {
+    fn state(&self) -> &Now<RingPoint, SearchEnd> {
         &self.state
     }
 
-    fn verb_from(&self, at: &RingPlace) -> Verb {
+    fn verb_from(&self, at: &RingPoint) -> Verb {
         ring_verb(&self.place, at)
     }
 
-    fn left_from(&self, at: &RingPlace) -> u64 {
+    fn left_from(&self, at: &RingPoint) -> u64 {
         ring_left(&self.place, at)
     }
 

@@ -10,7 +10,7 @@ use Rattle.si_model.specs.declared.row.Key.{Key}
 use Rattle.si_model.specs.declared.op.Op.{Op}
 use Rattle.si_model.specs.Rows.{same_key, row_key, has_key}
 use Rattle.si_model.proofs.WriteLemmas.{guarded_has, guarded_new}
-use Rattle.si_model.specs.Evaluation.{guarded, key_claimed, keys_from}
+use Rattle.si_model.specs.Evaluation.{with_guard, key_claimed, keys_from}
 use Rattle.nam_catalog.specs.declared.shape.Shape.{Shape}
 use Rattle.nam_catalog.specs.Tables.{capacities_of}
 use Rattle.nam_catalog.specs.Fits.{FitsTable}
@@ -229,7 +229,7 @@ loaded_at false n m h le = omega arith
 
 -- the keys with one more
 abbrev pub with_key : List Key → Option Key → List Key
-with_key ks o = elim o [ None ↦ ks | Some key ↦ guarded ks key ]
+with_key ks o = elim o [ None ↦ ks | Some key ↦ with_guard ks key ]
 
 pub keys_both : (f : Op → Option Key) (ks : List Key) (ops more : List Op)
     → keys_from f ks (ops ++ more) ≡ keys_from f (keys_from f ks ops) more
@@ -237,17 +237,17 @@ keys_both f ks [] more = refl
 keys_both f ks (o ∷ ops) more = keys_both f (with_key ks (f o)) ops more
 
 room_for : (c : Bool) (ks : List Key) (key : Key) (qs : List Key) → has_key ks key ≡ false → ltb (length ks) 16 ≡ c
-    → cond c (Ok (ks ++ key ∷ [])) (Err kind.Size) ≡ Ok qs → (qs ≡ guarded ks key) × (length qs ≤ 16)
+    → cond c (Ok (ks ++ key ∷ [])) (Err kind.Size) ≡ Ok qs → (qs ≡ with_guard ks key) × (length qs ≤ 16)
 room_for true ks key qs has lt e1 =
-    subst (λ (x : List Key). (x ≡ guarded ks key) × (length x ≤ 16)) (same_Ok _ _ e1)
+    subst (λ (x : List Key). (x ≡ with_guard ks key) × (length x ≤ 16)) (same_Ok _ _ e1)
     (sym (guarded_new ks key has), omega (arith, length-append ks (key ∷ []), ltb-true _ _ lt))
 room_for false ks key qs has lt e1 = absurd cc
 
 new_key : (b : Bool) (ks : List Key) (key : Key) (qs : List Key) → has_key ks key ≡ b
     → cond b (Ok ks) (cond (ltb (length ks) 16) (Ok (ks ++ key ∷ [])) (Err kind.Size)) ≡ Ok qs → length ks ≤ 16
-    → (qs ≡ guarded ks key) × (length qs ≤ 16)
+    → (qs ≡ with_guard ks key) × (length qs ≤ 16)
 new_key true ks key qs has e few =
-    subst (λ (x : List Key). (x ≡ guarded ks key) × (length x ≤ 16)) (same_Ok _ _ e) (sym (guarded_has ks key has), few)
+    subst (λ (x : List Key). (x ≡ with_guard ks key) × (length x ≤ 16)) (same_Ok _ _ e) (sym (guarded_has ks key has), few)
 new_key false ks key qs has e few = room_for (ltb (length ks) 16) ks key qs has refl e
 
 pub keys_are : (ks : List Key) (o : Option Key) (qs : List Key) → keys_with ks o ≡ Ok qs → length ks ≤ 16

@@ -8,7 +8,7 @@ use Rattle.std.proofs.lemmas.List.{append-nil}
 use Rattle.si_model.specs.declared.row.Key.{Key}
 use Rattle.si_model.specs.declared.op.Op.{Op}
 use Rattle.si_model.specs.Rows.{has_key}
-use Rattle.si_model.specs.Evaluation.{guarded, keys_from}
+use Rattle.si_model.specs.Evaluation.{with_guard, keys_from}
 use Rattle.si_model.proofs.WriteLemmas.{guarded_has, guarded_new}
 use Rattle.nam_script.specs.declared.refusal.Kind.{Kind}
 use Rattle.nam_script.specs.declared.refusal.Kind.TheVariants as kind
@@ -130,8 +130,8 @@ all_stints_go workers (s ∷ ss) fit =
 
 -- ---- the keys that a transaction writes or guards
 
-guarded_goes : (b : Bool) (ks : List Key) (key : Key) → has_key ks key ≡ b → length (guarded ks key) ≤ 16
-    → cond b (Ok ks) (cond (ltb (length ks) 16) (Ok (ks ++ key ∷ [])) (Err kind.Size)) ≡ Ok (guarded ks key)
+guarded_goes : (b : Bool) (ks : List Key) (key : Key) → has_key ks key ≡ b → length (with_guard ks key) ≤ 16
+    → cond b (Ok ks) (cond (ltb (length ks) 16) (Ok (ks ++ key ∷ [])) (Err kind.Size)) ≡ Ok (with_guard ks key)
 guarded_goes true ks key has few = ap (λ (x : List Key). Ok x) (sym (guarded_has ks key has))
 guarded_goes false ks key has few =
     let new = guarded_new ks key has in
@@ -142,7 +142,7 @@ pub keys_go : (ks : List Key) (o : Option Key) → length (with_key ks o) ≤ 16
 keys_go ks None few = refl
 keys_go ks (Some key) few = guarded_goes (has_key ks key) ks key refl few
 
-guarded_grows : (b : Bool) (ks : List Key) (key : Key) → has_key ks key ≡ b → length ks ≤ length (guarded ks key)
+guarded_grows : (b : Bool) (ks : List Key) (key : Key) → has_key ks key ≡ b → length ks ≤ length (with_guard ks key)
 guarded_grows true ks key has = omega (arith, ap length (guarded_has ks key has))
 guarded_grows false ks key has = omega (arith, ap length (guarded_new ks key has), length-append ks (key ∷ []))
 

@@ -11,8 +11,8 @@ use Rattle.nam_verbs.specs.Now.{verb_now}
 use Rattle.nam_verbs.specs.Running.{verb_from}
 use Rattle.nam_verbs.specs.Machine.{after_words, Takes}
 use Rattle.nam_verbs.proofs.TestLemmas.{by_equal, if_in}
-use Rattle.nam_vector.specs.declared.snap.SnapPlace.{SnapPlace}
-use Rattle.nam_vector.specs.declared.snap.SnapPlace.TheVariants.{First, Second}
+use Rattle.nam_vector.specs.declared.snap.SnapPoint.{SnapPoint}
+use Rattle.nam_vector.specs.declared.snap.SnapPoint.TheVariants.{First, Second}
 use Rattle.nam_vector.specs.declared.snap.SnapEnd.{SnapEnd}
 use Rattle.nam_vector.specs.declared.snap.SnapEnd.TheVariants.{Done, Again}
 use Rattle.nam_vector.specs.Snap.{snap_begin, snap_after, snapping, running}
@@ -20,17 +20,17 @@ use Rattle.nam_vector.specs.SnapLaw.{SnapTakes}
 
 module _ (workers : ℕ) where
   -- where a snapshot may stand after so many words
-  abbrev pub IsAfter : ℕ → Now SnapPlace SnapEnd → Type 0
+  abbrev pub IsAfter : ℕ → Now SnapPoint SnapEnd → Type 0
   IsAfter n (At (First got)) = (length got ≡ n) × (n < workers)
   IsAfter n (At (Second seen at)) = (n ≡ workers + at) × (length seen ≡ workers) × (at < workers)
   IsAfter n (Over end) = n ≤ workers + workers
 
   -- one more word is taken
-  one_word : (n : ℕ) (place : SnapPlace) (word : ℕ) → IsAfter n (At place)
+  one_word : (n : ℕ) (place : SnapPoint) (word : ℕ) → IsAfter n (At place)
       → IsAfter (n + 1) (snap_after workers place word)
   one_word n (First got) word is =
       let long = length-append got (word ∷ []) in
-      subst (IsAfter (n + 1)) (sym (if_in {B = Now SnapPlace SnapEnd} At (length (got ++ word ∷ []) == workers)
+      subst (IsAfter (n + 1)) (sym (if_in {B = Now SnapPoint SnapEnd} At (length (got ++ word ∷ []) == workers)
       (Second (got ++ word ∷ []) 0) (First (got ++ word ∷ []))))
       (by_equal (IsAfter (n + 1)) (length (got ++ word ∷ [])) workers (At (Second (got ++ word ∷ []) 0))
       (At (First (got ++ word ∷ [])))
@@ -46,7 +46,7 @@ module _ (workers : ℕ) where
       (λ other. omega arith)
 
   -- all words are taken
-  all_words : (n : ℕ) (state : Now SnapPlace SnapEnd) (words : List ℕ) → IsAfter n state
+  all_words : (n : ℕ) (state : Now SnapPoint SnapEnd) (words : List ℕ) → IsAfter n state
       → Takes (running (record { workers = workers; state = state })) words
       → IsAfter (n + length words) (after_words (running (record { workers = workers; state = state })) words).state
   all_words n state [] is takes =
@@ -62,13 +62,13 @@ module _ (workers : ℕ) where
   stands_after least words takes = rw zero-add at (all_words 0 (At snap_begin) words (refl, least) takes)
 
   -- no snapshot takes more than two words for each entry
-  pub is_bounded : (n : ℕ) (state : Now SnapPlace SnapEnd) → IsAfter n state → n ≤ 2 * workers
+  pub is_bounded : (n : ℕ) (state : Now SnapPoint SnapEnd) → IsAfter n state → n ≤ 2 * workers
   is_bounded n (At (First got)) is = omega arith
   is_bounded n (At (Second seen at)) is = omega arith
   is_bounded n (Over end) is = omega arith
 
   -- the verb that stands reads the next entry
-  pub reads_next : (n : ℕ) (state : Now SnapPlace SnapEnd) → IsAfter n state
+  pub reads_next : (n : ℕ) (state : Now SnapPoint SnapEnd) → IsAfter n state
       → IfSome (verb_now (verb_from (running (snapping workers))) state) (λ verb. verb ≡ Read (n % workers))
   reads_next n (At (First got)) is = let same : n % workers ≡ n = mod-eq_of_lt is.1 in ap Read (omega arith)
   reads_next n (At (Second seen at)) is =

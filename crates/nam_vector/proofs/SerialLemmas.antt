@@ -8,8 +8,8 @@ use Rattle.nam_verbs.specs.declared.now.Now.TheVariants.{At, Over}
 use Rattle.nam_verbs.specs.Machine.{driven}
 use Rattle.nam_verbs.proofs.MachineLemmas.{driven-none}
 use Rattle.nam_verbs.proofs.TestLemmas.{by_equal, if_in}
-use Rattle.nam_vector.specs.declared.snap.SnapPlace.{SnapPlace}
-use Rattle.nam_vector.specs.declared.snap.SnapPlace.TheVariants.{First, Second}
+use Rattle.nam_vector.specs.declared.snap.SnapPoint.{SnapPoint}
+use Rattle.nam_vector.specs.declared.snap.SnapPoint.TheVariants.{First, Second}
 use Rattle.nam_vector.specs.declared.snap.SnapEnd.{SnapEnd}
 use Rattle.nam_vector.specs.declared.snap.SnapEnd.TheVariants.{Done, Again}
 use Rattle.nam_verbs.specs.Running.{Running, end_of, verbs_left}
@@ -18,15 +18,15 @@ use Rattle.nam_vector.specs.Snap.{snapping, running}
 
 -- a snapshot as a running call
 abbrev Call : Type 0
-Call = Running Field SnapPlace SnapEnd
+Call = Running Field SnapPoint SnapEnd
 
 module _ (workers : ℕ) (words : List ℕ) (within : workers ≤ length words) where
   -- a snapshot of the vector, and where it stands
-  abbrev snap_at : Now SnapPlace SnapEnd → Call
+  abbrev snap_at : Now SnapPoint SnapEnd → Call
   snap_at state = running (record { workers = workers; state = state })
 
   -- so many verbs from here end with the vector's entries, and change no word
-  abbrev IsDoneFrom : ℕ → Now SnapPlace SnapEnd → Type 0
+  abbrev IsDoneFrom : ℕ → Now SnapPoint SnapEnd → Type 0
   IsDoneFrom fuel state = driven fuel (snap_at state) words ≡ (snap_at (Over (Done (take workers words))), words)
 
   -- a snapshot that is done stays so
@@ -61,7 +61,7 @@ module _ (workers : ℕ) (words : List ℕ) (within : workers ≤ length words) 
       ap (λ (g : List ℕ). g ++ word ∷ []) front ∙ ap (λ w. take (length got) words ++ w ∷ []) here
       ∙ sym (take_more words (length got) 0 (omega arith)) in
       subst (IsDoneFrom fuel)
-      (sym (if_in {B = Now SnapPlace SnapEnd} At (length seen == workers) (Second seen 0) (First seen)))
+      (sym (if_in {B = Now SnapPoint SnapEnd} At (length seen == workers) (Second seen 0) (First seen)))
       (by_equal (IsDoneFrom fuel) (length seen) workers (At (Second seen 0)) (At (First seen))
       (λ last. second_is_done fuel seen 0 (longer ∙ ap (λ n. take n words) (sym long ∙ last)) (omega arith)
       (omega arith))

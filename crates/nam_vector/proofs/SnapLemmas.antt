@@ -9,8 +9,8 @@ use Rattle.nam_verbs.specs.Steps.{Step, Ends, saw, saw_from, words_of}
 use Rattle.nam_verbs.proofs.TestLemmas.{by_equal, if_in}
 use Rattle.nam_verbs.proofs.ReadingLemmas.{step_of, words_read, reads_words, length_saw, words_of_saw}
 use Rattle.nam_layout.specs.declared.field.Field.{Field}
-use Rattle.nam_vector.specs.declared.snap.SnapPlace.{SnapPlace}
-use Rattle.nam_vector.specs.declared.snap.SnapPlace.TheVariants.{First, Second}
+use Rattle.nam_vector.specs.declared.snap.SnapPoint.{SnapPoint}
+use Rattle.nam_vector.specs.declared.snap.SnapPoint.TheVariants.{First, Second}
 use Rattle.nam_vector.specs.declared.snap.SnapEnd.{SnapEnd}
 use Rattle.nam_vector.specs.declared.snap.SnapEnd.TheVariants.{Done, Again}
 use Rattle.nam_vector.specs.Snap.{nth_entry, snap_begin, snap_verb, snap_after}
@@ -143,7 +143,7 @@ words_of_pass entries = simp append-nil at (words_of_saw nth_entry 0 entries [])
 
 module _ (workers : ℕ) where
   -- a snapshot that stands here does these steps, and ends so with the last of them
-  abbrev EndsFrom : Now SnapPlace SnapEnd → List (Step Field) → SnapEnd → Type 0
+  abbrev EndsFrom : Now SnapPoint SnapEnd → List (Step Field) → SnapEnd → Type 0
   EndsFrom now steps end = Ends snap_verb (snap_after workers) now steps end
 
   over_is : (over : SnapEnd) (steps : List (Step Field)) (end : SnapEnd) → EndsFrom (Over over) steps end
@@ -164,7 +164,7 @@ module _ (workers : ℕ) where
       let entry = slice_index seen at in let entries = drop (at + 1) seen in let word = step.found in
       let is : step ≡ saw_entry at word = step_of _ step ends.0 in
       let before : drop at seen ≡ entry ∷ entries = drop_more seen at 0 (omega arith) in
-      let Claim = λ (now : Now SnapPlace SnapEnd).
+      let Claim = λ (now : Now SnapPoint SnapEnd).
       EndsFrom now steps end → SecondEnds seen (entry ∷ entries) at (saw_entry at word ∷ steps) end in
       rw before (subst (λ first. SecondEnds seen (entry ∷ entries) at (first ∷ steps) end) (sym is)
       (by_equal Claim word entry (if at + 1 == workers then Over (Done seen) else At (Second seen (at + 1)))
@@ -200,7 +200,7 @@ module _ (workers : ℕ) where
       let is = reads_entry seen entry entries at step steps end all in
       let found : SecondEnds seen (entry ∷ entries) at (saw_entry at word ∷ steps) end =
       subst (λ first. SecondEnds seen (entry ∷ entries) at (first ∷ steps) end) is all in
-      let Claim = λ (now : Now SnapPlace SnapEnd). EndsFrom now steps end in (
+      let Claim = λ (now : Now SnapPoint SnapEnd). EndsFrom now steps end in (
         sym (ap (λ (s : Step Field). s.verb) is),
         by_equal Claim word entry (if at + 1 == workers then Over (Done seen) else At (Second seen (at + 1)))
             (Over (Again (at + 1) entry word))

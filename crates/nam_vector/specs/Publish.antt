@@ -22,7 +22,7 @@ publishing worker number = record { worker = worker; number = number; state = At
 abbrev pub publish_verb : ℕ → ℕ → VerbAt Field
 publish_verb worker number = WriteAt (Entry worker) number
 
--- the same as a running call, whose one place is before the write
+-- the same as a running call, whose one point is before the write
 abbrev pub running : Publishing → Running Field (Unit {0}) (Unit {0})
 running a = record {
   address = worker_address a.worker;

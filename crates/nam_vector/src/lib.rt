@@ -16,4 +16,4 @@ mod tests;
 pub use laws::{again_law, done_law, order_law, publish_law};
 pub use publish::{Publish, publish_verb};
 pub use serial::{publish_number, take_snapshot};
-pub use snap::{Snap, SnapEnd, SnapPlace, snap_after, snap_begin, snap_left, snap_verb};
+pub use snap::{Snap, SnapEnd, SnapPoint, snap_after, snap_begin, snap_left, snap_verb};

@@ -61,7 +61,7 @@ impl Machine for Publish {
 
     type Word = Field;
 
-    type Place = ();
+    type Point = ();
 
     type End = ();
 

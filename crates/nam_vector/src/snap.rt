@@ -14,9 +14,9 @@ use si_model::Snapshot;
 use std::marker::Model;
 use std::mem::replace;
 
-/// Where a snapshot stands. Each place has one verb, the read of the entry after those that are at hand.
+/// Where a snapshot stands. Each point has one verb, the read of the entry after those that are at hand.
 #[derive(Debug, Drop)]
-pub enum SnapPlace {
+pub enum SnapPoint {
     /// The first pass, which has got these entries.
     First { got: Snapshot },
     /// The second pass, which has found the first `at` entries of the first pass again.
@@ -57,29 +57,29 @@ impl SnapEnd {
 }
 
 /// Where a snapshot begins.
-pub fn snap_begin() -> SnapPlace
+pub fn snap_begin() -> SnapPoint
     ensures { result ≡ snap_begin }
 {
-    SnapPlace::First {
+    SnapPoint::First {
         got: Snapshot::new(),
     }
 }
 
-/// The verb that stands at a place, in a store of so many workers.
-pub fn snap_verb(workers: u32, place: &SnapPlace) -> Verb
+/// The verb that stands at a point, in a store of so many workers.
+pub fn snap_verb(workers: u32, place: &SnapPoint) -> Verb
     requires { SnapFits workers place.now }
     ensures value { result ≡ verb_by (worker_address workers) (snap_verb place.now) }
     ensures within { address_of result < workers }
 {
     let at = match place {
-        SnapPlace::First { got } => got.len() as u64,
-        SnapPlace::Second { at, .. } => *at as u64,
+        SnapPoint::First { got } => got.len() as u64,
+        SnapPoint::Second { at, .. } => *at as u64,
     };
     Verb::Read { at }
 }
 
 /// The snapshot of so many workers' entries after the word that its verb found.
-pub fn snap_after(workers: u32, place: SnapPlace, found: u64) -> Now<SnapPlace, SnapEnd>
+pub fn snap_after(workers: u32, place: SnapPoint, found: u64) -> Now<SnapPoint, SnapEnd>
     requires most { workers ≤ 16 }
     requires place { SnapFits workers place }
     ensures value { result ≡ snap_after workers place found }
@@ -87,15 +87,15 @@ pub fn snap_after(workers: u32, place: SnapPlace, found: u64) -> Now<SnapPlace, 
     ensures falls { left_now (snap_left workers) result < snap_left workers place }
 {
     match place {
-        SnapPlace::First { mut got } => {
+        SnapPoint::First { mut got } => {
             got.push(found);
             if got.len() == workers as usize {
-                Now::At(SnapPlace::Second { seen: got, at: 0 })
+                Now::At(SnapPoint::Second { seen: got, at: 0 })
             } else {
-                Now::At(SnapPlace::First { got })
+                Now::At(SnapPoint::First { got })
             }
         }
-        SnapPlace::Second { seen, at } => {
+        SnapPoint::Second { seen, at } => {
             let first = *seen.at(at as usize);
             if found != first {
                 return Now::Over(SnapEnd::Again {
@@ -107,21 +107,21 @@ pub fn snap_after(workers: u32, place: SnapPlace, found: u64) -> Now<SnapPlace, 
             if at + 1 == workers {
                 Now::Over(SnapEnd::Done(seen))
             } else {
-                Now::At(SnapPlace::Second { seen, at: at + 1 })
+                Now::At(SnapPoint::Second { seen, at: at + 1 })
             }
         }
     }
 }
 
-/// A number of verbs that are to come from a place at the most: all that a snapshot would take that is done.
-pub fn snap_left(workers: u32, place: &SnapPlace) -> u64
+/// A number of verbs that are to come from a point at the most: all that a snapshot would take that is done.
+pub fn snap_left(workers: u32, place: &SnapPoint) -> u64
     requires { SnapFits workers place.now }
     ensures { result ≡ snap_left workers place.now }
 {
     let workers = workers as u64;
     match place {
-        SnapPlace::First { got } => workers + (workers - got.len() as u64),
-        SnapPlace::Second { at, .. } => workers - *at as u64,
+        SnapPoint::First { got } => workers + (workers - got.len() as u64),
+        SnapPoint::Second { at, .. } => workers - *at as u64,
     }
 }
 
@@ -131,7 +131,7 @@ pub fn snap_left(workers: u32, place: &SnapPlace) -> u64
 #[derive(Debug, Drop)]
 pub struct Snap {
     workers: u32,
-    state: Now<SnapPlace, SnapEnd>,
+    state: Now<SnapPoint, SnapEnd>,
 }
 
 impl Model for Snap {
@@ -166,21 +166,21 @@ impl Machine for Snap {
 
     type Word = Field;
 
-    type Place = SnapPlace;
+    type Point = SnapPoint;
 
     type End = SnapEnd;
 
     ghost running = { running };
 
-    fn state(&self) -> &Now<SnapPlace, SnapEnd> {
+    fn state(&self) -> &Now<SnapPoint, SnapEnd> {
         &self.state
     }
 
-    fn verb_from(&self, place: &SnapPlace) -> Verb {
+    fn verb_from(&self, place: &SnapPoint) -> Verb {
         snap_verb(self.workers, place)
     }
 
-    fn left_from(&self, place: &SnapPlace) -> u64 {
+    fn left_from(&self, place: &SnapPoint) -> u64 {
         snap_left(self.workers, place)
     }
 

@@ -10,7 +10,7 @@ use Rattle.nam_verbs.specs.Steps.{Step, Ends}
 use Rattle.nam_verbs.specs.SoFar.{steps_from, verb_at, next_at}
 use Rattle.nam_verbs.proofs.MachineLemmas.{only_state}
 
--- words change where a call stands, and not its places' verbs
+-- words change where a call stands, and not its points' verbs
 pub next_after : {W P E : Type 0} (call : Running W P E) (words : List ℕ)
     → next_at (after_words call words) ≡ verb_at call.verb (after_words call words).state
 next_after call words = ap next_at (only_state call words)
@@ -38,7 +38,7 @@ module _ {W P E : Type 0} (verb : P → VerbAt W) (after : P → ℕ → Now P E
   leads_to_end (Over other) (step ∷ steps) end leads = absurd leads
   leads_to_end (At here) (step ∷ steps) end leads = (leads.0, leads_to_end (after here step.found) steps end leads.1)
 
-  -- what a call did by its end leads to no place
+  -- what a call did by its end leads to no point
   pub ended_before : (now : Now P E) (first rest : List (Step W)) (end : E) (place : P) → Ends verb after now first end
       → Leads now (first ++ rest) (At place) → ⊥
   ended_before (Over other) [] [] end place ends leads = cc
@@ -48,7 +48,7 @@ module _ {W P E : Type 0} (verb : P → VerbAt W) (after : P → ℕ → Now P E
   ended_before (At here) (step ∷ first) rest end place ends leads =
       ended_before (after here step.found) first rest end place ends.1 leads.1
 
-  -- what holds of a place and the steps up to it
+  -- what holds of a point and the steps up to it
   module _ (address : W → ℕ) (reach : ℕ) (left : P → ℕ) (Holds : P → List (Step W) → Type 0) where
     abbrev call : Now P E → Running W P E
     call now = record { address = address; reach = reach; verb = verb; after = after; left = left; state = now }

@@ -5,7 +5,7 @@ use Rattle.nam_verbs.specs.declared.now.Now.TheVariants.{At, Over}
 use Rattle.nam_verbs.specs.VerbAt.{VerbAt}
 use Rattle.nam_verbs.specs.Steps.{Step, Ends}
 
--- the part's places stand inside the call's, and `on` says what follows what the part has come to
+-- the part's points stand inside the call's, and `on` says what follows what the part has come to
 module _ {W P E Q F : Type 0} (verb : P → VerbAt W) (after : P → ℕ → Now P E)
     (part_verb : Q → VerbAt W) (part_after : Q → ℕ → Now Q F) (inside : Q → P)
     (on : Now Q F → Now P E) (stands : (at : Q) → on (At at) ≡ At (inside at))

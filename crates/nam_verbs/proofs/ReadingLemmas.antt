@@ -25,7 +25,7 @@ pub words_of_saw : {W : Type 0} (at : ℕ → W) (nth : ℕ) (words : List ℕ) 
 words_of_saw at nth [] rest = refl
 words_of_saw at nth (word ∷ words) rest = ap (λ ws. word ∷ ws) (words_of_saw at (nth + 1) words rest)
 
--- places for the words got so far, and what follows the last
+-- points for the words got so far, and what follows the last
 module _ {W P E : Type 0} (verb : P → VerbAt W) (after : P → ℕ → Now P E) (at : ℕ → W) (width : ℕ) (more : List ℕ → P)
     (done : List ℕ → Now P E)
     (reads : (got : List ℕ) → verb (more got) ≡ ReadAt (at (length got)))

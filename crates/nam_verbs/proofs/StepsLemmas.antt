@@ -57,10 +57,10 @@ module _ {W P E : Type 0} (verb : P → VerbAt W) (after : P → ℕ → Now P E
       let first : step.verb ≡ next = cc in let rest : verbs_of steps ≡ verbs = cc in
       (cc, does_verbs (after place step.found) verbs end (does.1 step.found) steps other rest same)
 
--- 3. What holds at each place that a call comes to
+-- 3. What holds at each point that a call comes to
 
 module _ {P E : Type 0} (Holds : P → Type 0) where
-  -- what a place keeps, the call keeps
+  -- what a point keeps, the call keeps
   fits_after : (after : P → ℕ → Now P E) → ((place : P) → Holds place → (found : ℕ) → FitsNow Holds (after place found))
       → (now : Now P E) → FitsNow Holds now → (found : ℕ) → FitsNow Holds (after_now after now found)
   fits_after after keeps (At place) fits found = keeps place fits found

@@ -1,4 +1,4 @@
--- a machine that has taken a word: its place fits, and fewer verbs are to come
+-- a machine that has taken a word: its point fits, and fewer verbs are to come
 use Rattle.std.proofs.Common.{◌≡◌, ℕ, ◌<◌}
 use Rattle.nam_verbs.specs.declared.now.Now.{Now}
 use Rattle.nam_verbs.specs.declared.now.Now.TheVariants.{At, Over}
@@ -22,7 +22,7 @@ module _ {P E : Type 0} (Fits : P → Type 0) (Ends : E → Type 0) (left : P �
   taken old new at fits is goes =
       let both = falls_now (left at) new (rw goes (law at (fits_at old at is fits))) in (both.0, rw is both.1)
 
--- what holds at each place that fits holds wherever a call comes to whose verbs to come fall
+-- what holds at each point that fits holds wherever a call comes to whose verbs to come fall
 module _ {W P E : Type 0} (Fits : P → Type 0) (Ends : E → Type 0) (call : Running W P E)
     (law : (at : P) → Fits at → (found : ℕ) → Falls Fits Ends call.left (call.left at) (call.after at found)) where
   fits_on : (n : ℕ) (now : Now P E) → Falls Fits Ends call.left n now → FitsNow Fits now

@@ -8,7 +8,7 @@ use Rattle.nam_verbs.specs.declared.now.Now.TheVariants.{At}
 use Rattle.nam_verbs.specs.VerbAt.{VerbAt, WriteAt}
 use Rattle.nam_verbs.specs.Steps.{Does, writes_from, writes_of}
 
--- a place for each word, and what follows the last
+-- a point for each word, and what follows the last
 module _ {W P E : Type 0} (verb : P → VerbAt W) (after : P → ℕ → Now P E) (at : ℕ → W) (words : List ℕ) (here : ℕ → P)
     (done : Now P E)
     (writes : (nth : ℕ) → verb (here nth) ≡ WriteAt (at nth) (slice_index words nth))

@@ -23,7 +23,7 @@ module _ {W P E : Type 0} where
   abbrev pub EndsBy : Running W P E → List ℕ → E → Type 0
   EndsBy call words end = Takes call words × (end_of (after_words call words) ≡ Some end)
 
-  -- whatever words are found, the call stands at such a place, until it has ended
+  -- whatever words are found, the call stands at such a point, until it has ended
   abbrev pub Always : (P → Type 0) → Running W P E → Type 0
   Always Holds call = (words : List ℕ) → FitsNow Holds (after_words call words).state
 

@@ -1,4 +1,4 @@
--- a call that is at a place or over, as a machine
+-- a call that is at a point or over, as a machine
 use Rattle.std.specs.Prelude.{ℕ, Option, Some, None, IsNone, IsSome, ◌↔◌}
 use Rattle.std.proofs.Common.{refl, sym}
 use Rattle.nam_verbs.specs.declared.verb.Verb.{Verb}
@@ -26,7 +26,7 @@ module _ {P E : Type 0} where
   left_now left (At place) = left place
   left_now left (Over end) = 0
 
-  -- what holds of the place, where the call is not over
+  -- what holds of the point, where the call is not over
   abbrev pub FitsNow : (P → Type 0) → Now P E → Type 0
   FitsNow Fits (At place) = Fits place
   FitsNow Fits (Over end) = Unit {0}

@@ -1,11 +1,11 @@
--- a call as a value: where it stands, and what its places are
+-- a call as a value: where it stands, and what its points are
 use Rattle.std.specs.Prelude.{ℕ, Option, IsNone, IsSome, ◌↔◌}
 use Rattle.nam_verbs.specs.declared.verb.Verb.{Verb}
 use Rattle.nam_verbs.specs.declared.now.Now.{Now}
 use Rattle.nam_verbs.specs.VerbAt.{VerbAt, verb_by}
 use Rattle.nam_verbs.specs.Now.{verb_now, after_now, end_now, left_now, stands_until_over}
 
--- the addresses of words by their names, and what they are all below; the verb of each place, what follows each word
+-- the addresses of words by their names, and what they are all below; the verb of each point, what follows each word
 -- found there, and how many verbs are to come from it at the most; and where the call stands
 pub record Running (W P E : Type 0) : Type 0 where
   pub address : W → ℕ
@@ -16,7 +16,7 @@ pub record Running (W P E : Type 0) : Type 0 where
   pub state : Now P E
 
 module _ {W P E : Type 0} where
-  -- the verb of a place
+  -- the verb of a point
   abbrev pub verb_from : Running W P E → P → Verb
   verb_from call place = verb_by call.address (call.verb place)
 

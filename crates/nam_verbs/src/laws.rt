@@ -1,4 +1,4 @@
-//! Calls that stand at places: what they do, and how they end.
+//! Calls that stand at points: what they do, and how they end.
 
 ghost use Rattle.nam_verbs.specs.Steps.{StepsLaw, VerbsLaw};
 

@@ -20,28 +20,28 @@ pub trait Machine {
     type Word;
 
     /// Where the call can stand.
-    type Place;
+    type Point;
 
     /// How it may end.
     type End;
 
-    /// The call as a value: the verb of each place, what follows each word found there, and where it stands.
-    ghost running: { Self → Running Self.Word Self.Place Self.End };
+    /// The call as a value: the verb of each point, what follows each word found there, and where it stands.
+    ghost running: { Self → Running Self.Word Self.Point Self.End };
 
     /// Where the call stands.
-    fn state(&self) -> &Now<Self::Place, Self::End>
+    fn state(&self) -> &Now<Self::Point, Self::End>
         ensures { result.now ≡ (running self.now).state };
 
-    /// The verb of the place where it stands.
-    fn verb_from(&self, place: &Self::Place) -> Verb
-        requires { (running self.now).state ≡ At place.now }
-        ensures verb { result ≡ verb_from (running self.now) place.now }
+    /// The verb of the point where it stands.
+    fn verb_from(&self, at: &Self::Point) -> Verb
+        requires { (running self.now).state ≡ At at.now }
+        ensures verb { result ≡ verb_from (running self.now) at.now }
         ensures within { address_of result < (running self.now).reach };
 
-    /// A number of verbs that are to come at the most from the place where it stands.
-    fn left_from(&self, place: &Self::Place) -> u64
-        requires { (running self.now).state ≡ At place.now }
-        ensures { result ≡ (running self.now).left place.now };
+    /// A number of verbs that are to come at the most from the point where it stands.
+    fn left_from(&self, at: &Self::Point) -> u64
+        requires { (running self.now).state ≡ At at.now }
+        ensures { result ≡ (running self.now).left at.now };
 
     /// Goes on with the word that the verb found.
     fn take(&mut self, found: u64)
@@ -59,7 +59,7 @@ pub trait Machine {
         ensures within { IfSome result (λ verb. address_of verb < (running self.now).reach) }
     {
         match self.state() {
-            Now::At(place) => Some(self.verb_from(place)),
+            Now::At(at) => Some(self.verb_from(at)),
             Now::Over(_) => None,
         }
     }
@@ -69,7 +69,7 @@ pub trait Machine {
         ensures { result ≡ verbs_left (running self.now) }
     {
         match self.state() {
-            Now::At(place) => self.left_from(place),
+            Now::At(at) => self.left_from(at),
             Now::Over(_) => 0,
         }
     }

@@ -3,7 +3,7 @@
 ghost use Rattle.std.specs.Prelude.{◌≡◌};
 ghost use Rattle.nam_verbs.specs.Now.{end_now};
 
-/// A call at one of its places, where a verb stands, or the end of the call.
+/// A call at one of its points, where a verb stands, or the end of the call.
 #[derive(Debug, Drop)]
 pub enum Now<P, E> {
     At(P),

@@ -20,7 +20,7 @@ use Rattle.si_model.specs.Held.{key_cmp}
 use Rattle.si_model.specs.Rows.{Rows, key_at, same_key, item_key, item_at, rows_of, overlay, writes_key, present}
 use Rattle.si_model.specs.Rows.{items_from}
 use Rattle.si_model.specs.Evaluation.{evaluation_from, evaluation_of, AreWide, passes, found, writes_after}
-use Rattle.si_model.specs.Evaluation.{guards_after, with_reads, wrote, guarded, with_field, changed, field_of}
+use Rattle.si_model.specs.Evaluation.{guards_after, with_reads, with_write, with_guard, with_field, new_number, field_of}
 use Rattle.si_model.proofs.EvaluationLemmas.{same_key-refl, same_key_says}
 use Rattle.si_model.specs.Rows.{has_key}
 use Rattle.namdb.specs.Serial.{claims_of}
@@ -60,21 +60,21 @@ claims-with_reads : (is : List Item) (e : Evaluated) → claims_of (with_reads i
 claims-with_reads is (Done reads writes guards) = refl
 claims-with_reads is (Declined op reads) = refl
 
-length-wrote : (ws : List Item) (i : Item) → length (wrote ws i) ≤ length ws + 1
+length-wrote : (ws : List Item) (i : Item) → length (with_write ws i) ≤ length ws + 1
 length-wrote [] i = omega arith
 length-wrote (w ∷ ws) i = by_test (same_key (item_key w) (item_key i)) (length-wrote ws i)
   where
-    by_test : (b : Bool) → length (wrote ws i) ≤ length ws + 1
-        → length (cond b (i ∷ ws) (w ∷ wrote ws i)) ≤ length (w ∷ ws) + 1
+    by_test : (b : Bool) → length (with_write ws i) ≤ length ws + 1
+        → length (cond b (i ∷ ws) (w ∷ with_write ws i)) ≤ length (w ∷ ws) + 1
     by_test true rest = omega arith
     by_test false rest = omega (arith, rest)
 
-length-guarded : (gs : List Key) (key : Key) → length (guarded gs key) ≤ length gs + 1
+length-guarded : (gs : List Key) (key : Key) → length (with_guard gs key) ≤ length gs + 1
 length-guarded [] key = omega arith
 length-guarded (g ∷ gs) key = by_test (same_key g key) (length-guarded gs key)
   where
-    by_test : (b : Bool) → length (guarded gs key) ≤ length gs + 1
-        → length (cond b (g ∷ gs) (g ∷ guarded gs key)) ≤ length (g ∷ gs) + 1
+    by_test : (b : Bool) → length (with_guard gs key) ≤ length gs + 1
+        → length (cond b (g ∷ gs) (g ∷ with_guard gs key)) ≤ length (g ∷ gs) + 1
     by_test true rest = omega arith
     by_test false rest = omega (arith, rest)
 
@@ -88,7 +88,7 @@ length-claims widths (Add t k f up by) copy ws gs =
       length-wrote ws
           (item_at (key_at t k)
           (Some (with_field (slice_index widths t) (copy (key_at t k)) f
-          (changed up (field_of (copy (key_at t k)) f) by)))),
+          (new_number up (field_of (copy (key_at t k)) f) by)))),
     )
 length-claims widths (Del t k) copy ws gs = omega (arith, length-wrote ws (item_at (key_at t k) None))
 length-claims widths (Need t k f least) copy ws gs = omega arith

@@ -16,7 +16,7 @@ use Rattle.si_model.specs.declared.evaluated.Evaluated.{Evaluated}
 use Rattle.si_model.specs.declared.evaluated.Evaluated.TheVariants.{Done, Declined}
 use Rattle.si_model.specs.Rows.{Rows, key_at, same_key, row_key, item_key, item_at, rows_of, writes_key, overlay}
 use Rattle.si_model.specs.Rows.{present, items_from}
-use Rattle.si_model.specs.Evaluation.{field_of, with_field, changed, wrote, passes, found, writes_after, guards_after}
+use Rattle.si_model.specs.Evaluation.{field_of, with_field, new_number, with_write, passes, found, writes_after, guards_after}
 use Rattle.si_model.specs.Evaluation.{with_reads, evaluation_from, evaluation_of, reads_of, key_written, is_key}
 use Rattle.si_model.specs.Evaluation.{ops_write}
 use Rattle.si_model.specs.EvaluationLaws.{is_scan}
@@ -98,10 +98,10 @@ abbrev pub NameAmong : List Key → List Op → Type 0
 NameAmong keys ops = AllByRecursion (λ op. has_key keys (op_key op) ≡ true) ops
 
 among-wrote : (keys : List Key) (ws : List Item) (i : Item) → WriteAmong keys ws → has_key keys (item_key i) ≡ true
-    → WriteAmong keys (wrote ws i)
+    → WriteAmong keys (with_write ws i)
 among-wrote keys [] i written new = (new, tt)
 among-wrote keys (w ∷ ws) i written new =
-    cond_both (same_key (item_key w) (item_key i)) (i ∷ ws) (w ∷ wrote ws i) (WriteAmong keys)
+    cond_both (same_key (item_key w) (item_key i)) (i ∷ ws) (w ∷ with_write ws i) (WriteAmong keys)
     (λ same. (new, written.1))
     (λ other. (written.0, among-wrote keys ws i written.1 new))
 
@@ -113,7 +113,7 @@ among-writes_after keys widths (Put t k v) copy ws named written =
 among-writes_after keys widths (Add t k f up by) copy ws named written =
     let v = copy (key_at t k) in
     among-wrote keys ws (item_at (key_at t k)
-    (Some (with_field (slice_index widths t) v f (changed up (field_of v f) by)))) written named
+    (Some (with_field (slice_index widths t) v f (new_number up (field_of v f) by)))) written named
 among-writes_after keys widths (Del t k) copy ws named written =
     among-wrote keys ws (item_at (key_at t k) None) written named
 among-writes_after keys widths (Need t k f least) copy ws named written = written

@@ -17,7 +17,7 @@ use Rattle.si_model.specs.declared.evaluated.Evaluated.{Evaluated}
 use Rattle.si_model.specs.declared.evaluated.Evaluated.TheVariants.{Done, Declined}
 use Rattle.si_model.specs.Rows.{Rows, key_at, same_key, key_before, row_key, item_key, item_at, rows_of, writes_key}
 use Rattle.si_model.specs.Rows.{overlay, present, items_from, AreInOrder, ListsRows}
-use Rattle.si_model.specs.Evaluation.{field_of, with_field, changed, wrote, guarded, passes, found, writes_after}
+use Rattle.si_model.specs.Evaluation.{field_of, with_field, new_number, with_write, with_guard, passes, found, writes_after}
 use Rattle.si_model.specs.Evaluation.{guards_after, with_reads, evaluation_from, OpFits, AreWide}
 use Rattle.si_model.specs.State.{state_at}
 use Rattle.si_model.specs.History.{count_of, keys_of}
@@ -96,10 +96,10 @@ fit-rows_of widths (r ∷ rs) fits key =
 -- ---- one operation
 
 fit-wrote : (widths : List ℕ) (ws : List Item) (i : Item) → AllByRecursion (ItemFits widths) ws → ItemFits widths i
-    → AllByRecursion (ItemFits widths) (wrote ws i)
+    → AllByRecursion (ItemFits widths) (with_write ws i)
 fit-wrote widths [] i written new = (new, tt)
 fit-wrote widths (w ∷ ws) i written new =
-    cond_both (same_key (item_key w) (item_key i)) (i ∷ ws) (w ∷ wrote ws i) (AllByRecursion (ItemFits widths))
+    cond_both (same_key (item_key w) (item_key i)) (i ∷ ws) (w ∷ with_write ws i) (AllByRecursion (ItemFits widths))
     (λ same. (new, written.1))
     (λ other. (written.0, fit-wrote widths ws i written.1 new))
 
@@ -115,7 +115,7 @@ fit-writes_after widths (Put t k v) copy ws op_fits fit written =
     fit-wrote widths ws (item_at (key_at t k) (Some v)) written (op_fits.0.0, op_fits.1)
 fit-writes_after widths (Add t k f up by) copy ws op_fits fit written =
     let v = copy (key_at t k) in
-    let new = changed up (field_of v f) by in
+    let new = new_number up (field_of v f) by in
     fit-wrote widths ws (item_at (key_at t k) (Some (with_field (slice_index widths t) v f new))) written
     (op_fits.0.0, length-with_field (slice_index widths t) f new v (wide_value widths t v (fit (key_at t k))))
 fit-writes_after widths (Del t k) copy ws op_fits fit written =
@@ -154,10 +154,10 @@ fit-found widths (Guard t k) copy op_fits fit =
 fit-found widths (Scan t low high) copy op_fits fit = fit-items_from widths copy t low (high + 1 - low) fit
 
 fit-guarded : (widths : List ℕ) (gs : List Key) (key : Key) → AllByRecursion (KeyFits widths) gs → KeyFits widths key
-    → AllByRecursion (KeyFits widths) (guarded gs key)
+    → AllByRecursion (KeyFits widths) (with_guard gs key)
 fit-guarded widths [] key so_far new = (new, tt)
 fit-guarded widths (g ∷ gs) key so_far new =
-    cond_both (same_key g key) (g ∷ gs) (g ∷ guarded gs key) (AllByRecursion (KeyFits widths))
+    cond_both (same_key g key) (g ∷ gs) (g ∷ with_guard gs key) (AllByRecursion (KeyFits widths))
     (λ same. so_far)
     (λ other. (so_far.0, fit-guarded widths gs key so_far.1 new))
 

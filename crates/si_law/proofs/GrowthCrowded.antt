@@ -12,7 +12,7 @@ use Rattle.si_model.specs.declared.op.Op.{Op}
 use Rattle.si_model.specs.declared.op.Op.TheVariants.{Get}
 use Rattle.si_model.specs.Lists.{Listed, Pairwise}
 use Rattle.si_model.specs.Rows.{row_key, same_key}
-use Rattle.si_model.specs.Evaluation.{guarded, keys_from, key_claimed}
+use Rattle.si_model.specs.Evaluation.{with_guard, keys_from, key_claimed}
 use Rattle.si_model.specs.Setting.{Setting, Asked, distinct_from, claimed_keys, is_crowded}
 use Rattle.si_model.proofs.ListLemmas.{All-listed, All-from_listed, listed_append_cases, listed_append_left}
 use Rattle.si_model.proofs.ListLemmas.{listed_append_right, listed_filter, filter_listed, Pairwise-filter}
@@ -56,12 +56,12 @@ pairwise_from_distinct (k ∷ keys) h = (
 
 -- ---- keys that operations claim
 
-distinct-guarded : (ks : List Key) (key : Key) → IsDistinct same_key ks → IsDistinct same_key (guarded ks key)
+distinct-guarded : (ks : List Key) (key : Key) → IsDistinct same_key ks → IsDistinct same_key (with_guard ks key)
 distinct-guarded ks key h = distinct-keys_from (λ op. Some key) ks (Get 0 0 ∷ []) h
 
 distinct-distinct_from : (ks keys : List Key) → IsDistinct same_key ks → IsDistinct same_key (distinct_from ks keys)
 distinct-distinct_from ks [] h = h
-distinct-distinct_from ks (key ∷ keys) h = distinct-distinct_from (guarded ks key) keys (distinct-guarded ks key h)
+distinct-distinct_from ks (key ∷ keys) h = distinct-distinct_from (with_guard ks key) keys (distinct-guarded ks key h)
 
 none_yet : IsDistinct same_key []
 unfolding IsDistinct
@@ -72,24 +72,24 @@ distinct-claimed s asked =
     distinct-keys_from key_claimed (distinct_from [] (map row_key s.rows)) asked.ops
     (distinct-distinct_from [] (map row_key s.rows) none_yet)
 
-listed_guarded : (x key : Key) (ks : List Key) → Listed x ks → Listed x (guarded ks key)
+listed_guarded : (x key : Key) (ks : List Key) → Listed x ks → Listed x (with_guard ks key)
 listed_guarded x key [] l = elim l [ ]
 listed_guarded x key (k ∷ ks) l =
-    cond_both (same_key k key) (k ∷ ks) (k ∷ guarded ks key) (Listed x)
+    cond_both (same_key k key) (k ∷ ks) (k ∷ with_guard ks key) (Listed x)
     (λ same. l)
     (λ other. elim l [ inl e ↦ inl e | inr r ↦ inr (listed_guarded x key ks r) ])
 
-guarded_adds : (key : Key) (ks : List Key) → Listed key (guarded ks key)
+guarded_adds : (key : Key) (ks : List Key) → Listed key (with_guard ks key)
 guarded_adds key [] = inl refl
 guarded_adds key (k ∷ ks) =
-    cond_both (same_key k key) (k ∷ ks) (k ∷ guarded ks key) (Listed key)
+    cond_both (same_key k key) (k ∷ ks) (k ∷ with_guard ks key) (Listed key)
     (λ same. inl (same_key_says k key same))
     (λ other. inr (guarded_adds key ks))
 
-guarded_cases : (x key : Key) (ks : List Key) → Listed x (guarded ks key) → Listed x ks ⊎ (x ≡ key)
+guarded_cases : (x key : Key) (ks : List Key) → Listed x (with_guard ks key) → Listed x ks ⊎ (x ≡ key)
 guarded_cases x key [] l = elim l [ inl e ↦ inr (sym e) | inr r ↦ elim r [ ] ]
 guarded_cases x key (k ∷ ks) l =
-    cond_both (same_key k key) (k ∷ ks) (k ∷ guarded ks key) (λ qs. Listed x qs → Listed x (k ∷ ks) ⊎ (x ≡ key))
+    cond_both (same_key k key) (k ∷ ks) (k ∷ with_guard ks key) (λ qs. Listed x qs → Listed x (k ∷ ks) ⊎ (x ≡ key))
     (λ same m. inl m)
     (λ other m. elim m [
       | inl e ↦ inl (inl e)
@@ -97,7 +97,7 @@ guarded_cases x key (k ∷ ks) l =
     ]) l
 
 abbrev with_claim : List Key → Option Key → List Key
-with_claim ks claimed = elim claimed [ None ↦ ks | Some key ↦ guarded ks key ]
+with_claim ks claimed = elim claimed [ None ↦ ks | Some key ↦ with_guard ks key ]
 
 listed_with : (x : Key) (ks : List Key) (claimed : Option Key) → Listed x ks → Listed x (with_claim ks claimed)
 listed_with x ks None l = l

@@ -19,7 +19,7 @@ use Rattle.si_model.specs.declared.evaluated.Evaluated.TheVariants.{Done, Declin
 use Rattle.si_model.specs.declared.report.CommitLine.{CommitLine}
 use Rattle.si_model.specs.Rows.{key_at, same_key, row_key, item_key, item_at, Rows, rows_of, writes_key, overlay}
 use Rattle.si_model.specs.Rows.{present, items_from}
-use Rattle.si_model.specs.Evaluation.{field_of, with_field, changed, wrote, guarded, passes, found, writes_after}
+use Rattle.si_model.specs.Evaluation.{field_of, with_field, new_number, with_write, with_guard, passes, found, writes_after}
 use Rattle.si_model.specs.Evaluation.{guards_after, unwritten, with_reads, evaluation_from, evaluation_of, reads_of}
 use Rattle.si_model.specs.Evaluation.{all_pass, reads_from, key_written, key_guarded, is_key, ops_write, keys_from}
 use Rattle.si_model.specs.Evaluation.{written_keys, guard_keys, OpFits, AreWide}
@@ -39,7 +39,7 @@ same_key_says a b same =
 
 -- a key has what was written last
 pub overlay-wrote : (ws : List Item) (i : Item) (rows : Rows) (key : Key)
-    → overlay (wrote ws i) rows key ≡ cond (same_key (item_key i) key) i.value (overlay ws rows key)
+    → overlay (with_write ws i) rows key ≡ cond (same_key (item_key i) key) i.value (overlay ws rows key)
 overlay-wrote [] i rows key = refl
 overlay-wrote (w ∷ ws) i rows key = let rest = overlay-wrote ws i rows key in grind (arith, nat_tests)
 
@@ -73,10 +73,10 @@ AreWide-rows_of widths (r ∷ rs) wide key =
     (λ other. AreWide-rows_of widths rs wide.1 key)
 
 wide-wrote : (widths : List ℕ) (ws : List Item) (i : Item) → AllByRecursion (IsWide widths) ws → IsWide widths i
-    → AllByRecursion (IsWide widths) (wrote ws i)
+    → AllByRecursion (IsWide widths) (with_write ws i)
 wide-wrote widths [] i written new = (new, tt)
 wide-wrote widths (w ∷ ws) i written new =
-    cond_both (same_key (item_key w) (item_key i)) (i ∷ ws) (w ∷ wrote ws i) (λ xs. AllByRecursion (IsWide widths) xs)
+    cond_both (same_key (item_key w) (item_key i)) (i ∷ ws) (w ∷ with_write ws i) (λ xs. AllByRecursion (IsWide widths) xs)
     (λ same. (new, written.1))
     (λ other. (written.0, wide-wrote widths ws i written.1 new))
 
@@ -95,8 +95,8 @@ wide-writes_after widths (Put t k v) copy ws fits wide written =
 wide-writes_after widths (Add t k f up by) copy ws fits wide written =
     let v = copy (key_at t k) in
     wide-wrote widths ws (item_at (key_at t k)
-    (Some (with_field (slice_index widths t) v f (changed up (field_of v f) by)))) written
-    (length-with_field (slice_index widths t) f (changed up (field_of v f) by) v (wide (key_at t k)))
+    (Some (with_field (slice_index widths t) v f (new_number up (field_of v f) by)))) written
+    (length-with_field (slice_index widths t) f (new_number up (field_of v f) by) v (wide (key_at t k)))
 wide-writes_after widths (Del t k) copy ws fits wide written =
     wide-wrote widths ws (item_at (key_at t k) None) written tt
 wide-writes_after widths (Need t k f least) copy ws fits wide written = written
@@ -175,7 +175,7 @@ AreWide-state_at widths rows (e ∷ es) wide written =
 
 -- the guards are those of the operations so far
 guards_after-is : (op : Op) (gs : List Key)
-    → guards_after op gs ≡ elim (key_guarded op) [ None ↦ gs | Some key ↦ guarded gs key ]
+    → guards_after op gs ≡ elim (key_guarded op) [ None ↦ gs | Some key ↦ with_guard gs key ]
 guards_after-is (Get t k) gs = refl
 guards_after-is (Put t k v) gs = refl
 guards_after-is (Add t k f up by) gs = refl
@@ -260,7 +260,7 @@ length-reads widths rows ops single =
 
 -- ---- the keys that are written
 
-map-wrote : (ws : List Item) (i : Item) → map item_key (wrote ws i) ≡ guarded (map item_key ws) (item_key i)
+map-wrote : (ws : List Item) (i : Item) → map item_key (with_write ws i) ≡ with_guard (map item_key ws) (item_key i)
 map-wrote [] i = refl
 map-wrote (w ∷ ws) i =
     elim (cases_Bool (same_key (item_key w) (item_key i))) [
@@ -271,13 +271,13 @@ map-wrote (w ∷ ws) i =
 map-writes_after : (widths : List ℕ) (op : Op) (copy : Rows) (ws : List Item)
     → map item_key (writes_after widths op copy ws) ≡ elim (key_written op) [
       | None ↦ map item_key ws
-      | Some key ↦ guarded (map item_key ws) key
+      | Some key ↦ with_guard (map item_key ws) key
     ]
 map-writes_after widths (Get t k) copy ws = refl
 map-writes_after widths (Put t k v) copy ws = map-wrote ws (item_at (key_at t k) (Some v))
 map-writes_after widths (Add t k f up by) copy ws =
     let v = copy (key_at t k) in
-    map-wrote ws (item_at (key_at t k) (Some (with_field (slice_index widths t) v f (changed up (field_of v f) by))))
+    map-wrote ws (item_at (key_at t k) (Some (with_field (slice_index widths t) v f (new_number up (field_of v f) by))))
 map-writes_after widths (Del t k) copy ws = map-wrote ws (item_at (key_at t k) None)
 map-writes_after widths (Need t k f least) copy ws = refl
 map-writes_after widths (Guard t k) copy ws = refl
@@ -291,7 +291,7 @@ map-writes_from widths rows ws (op ∷ ops) =
     ∙ ap (λ ks. keys_from key_written ks ops) (map-writes_after widths op (overlay ws rows) ws)
 
 writes_key-wrote : (ws : List Item) (i : Item) (key : Key)
-    → writes_key (wrote ws i) key ≡ (is_key key (Some (item_key i)) || writes_key ws key)
+    → writes_key (with_write ws i) key ≡ (is_key key (Some (item_key i)) || writes_key ws key)
 writes_key-wrote [] i key = grind (arith, nat_tests)
 writes_key-wrote (w ∷ ws) i key = let rest = writes_key-wrote ws i key in grind (arith, nat_tests)
 
@@ -302,7 +302,7 @@ writes_key-writes_after widths (Put t k v) copy ws key = writes_key-wrote ws (it
 writes_key-writes_after widths (Add t k f up by) copy ws key =
     let v = copy (key_at t k) in
     writes_key-wrote ws (item_at (key_at t k)
-    (Some (with_field (slice_index widths t) v f (changed up (field_of v f) by)))) key
+    (Some (with_field (slice_index widths t) v f (new_number up (field_of v f) by)))) key
 writes_key-writes_after widths (Del t k) copy ws key = writes_key-wrote ws (item_at (key_at t k) None) key
 writes_key-writes_after widths (Need t k f least) copy ws key = refl
 writes_key-writes_after widths (Guard t k) copy ws key = refl
@@ -318,19 +318,19 @@ writes_key-writes_from widths rows ws (op ∷ ops) key =
     grind (arith, nat_tests)
 
 apart-guarded : (g key : Key) (gs : List Key) → same_key g key ≡ false → AllByRecursion (λ y. same_key g y ≡ false) gs
-    → AllByRecursion (λ y. same_key g y ≡ false) (guarded gs key)
+    → AllByRecursion (λ y. same_key g y ≡ false) (with_guard gs key)
 apart-guarded g key [] new apart = (new, tt)
 apart-guarded g key (h ∷ hs) new apart =
-    cond_both (same_key h key) (h ∷ hs) (h ∷ guarded hs key) (λ ks. AllByRecursion (λ y. same_key g y ≡ false) ks)
+    cond_both (same_key h key) (h ∷ hs) (h ∷ with_guard hs key) (λ ks. AllByRecursion (λ y. same_key g y ≡ false) ks)
     (λ same. apart)
     (λ other. (apart.0, apart-guarded g key hs new apart.1))
 
-distinct-guarded : (gs : List Key) (key : Key) → IsDistinct same_key gs → IsDistinct same_key (guarded gs key)
+distinct-guarded : (gs : List Key) (key : Key) → IsDistinct same_key gs → IsDistinct same_key (with_guard gs key)
 distinct-guarded [] key distinct = IsDistinct-cons same_key key [] tt distinct
 distinct-guarded (g ∷ gs) key distinct =
-    cond_both (same_key g key) (g ∷ gs) (g ∷ guarded gs key) (λ ks. IsDistinct same_key ks)
+    cond_both (same_key g key) (g ∷ gs) (g ∷ with_guard gs key) (λ ks. IsDistinct same_key ks)
     (λ same. distinct)
-    (λ other. IsDistinct-cons same_key g (guarded gs key)
+    (λ other. IsDistinct-cons same_key g (with_guard gs key)
     (apart-guarded g key gs other (IsDistinct-head same_key g gs distinct))
     (distinct-guarded gs key (IsDistinct-tail same_key g gs distinct)))
 
@@ -339,9 +339,9 @@ pub distinct-keys_from : (named : Op → Option Key) (ks : List Key) (ops : List
     → IsDistinct same_key (keys_from named ks ops)
 distinct-keys_from named ks [] distinct = distinct
 distinct-keys_from named ks (op ∷ ops) distinct =
-    distinct-keys_from named (elim (named op) [ None ↦ ks | Some key ↦ guarded ks key ]) ops (one (named op))
+    distinct-keys_from named (elim (named op) [ None ↦ ks | Some key ↦ with_guard ks key ]) ops (one (named op))
   where
-    one : (found : Option Key) → IsDistinct same_key (elim found [ None ↦ ks | Some key ↦ guarded ks key ])
+    one : (found : Option Key) → IsDistinct same_key (elim found [ None ↦ ks | Some key ↦ with_guard ks key ])
     one None = distinct
     one (Some key) = distinct-guarded ks key distinct
 

@@ -8,7 +8,7 @@ use Rattle.std.proofs.lemmas.Bool.Decides.{nat_tests}
 use Rattle.si_model.specs.declared.row.Key.{Key}
 use Rattle.si_model.specs.declared.row.Item.{Item}
 use Rattle.si_model.specs.Rows.{same_key, item_key, has_key, Rows, writes_key, overlay}
-use Rattle.si_model.specs.Evaluation.{wrote}
+use Rattle.si_model.specs.Evaluation.{with_write}
 use Rattle.si_model.specs.Places.{place_of}
 use Rattle.si_model.specs.Held.{key_cmp}
 use Rattle.si_model.proofs.EvaluationLemmas.{same_key_says}
@@ -85,7 +85,7 @@ no_place_says (w ∷ ws) key is rows =
 
 -- a write at a key that has a place takes that place
 pub wrote_again : (ws : List Item) (i : Item) (place : ℕ) → place_of ws (item_key i) ≡ Some place
-    → (slice_set ws place i ≡ wrote ws i) × ((key : Key) → place_of (slice_set ws place i) key ≡ place_of ws key)
+    → (slice_set ws place i ≡ with_write ws i) × ((key : Key) → place_of (slice_set ws place i) key ≡ place_of ws key)
 wrote_again [] i place is = absurd cc
 wrote_again (w ∷ ws) i place is =
     elim (cases_Bool (same_key (item_key w) (item_key i))) [
@@ -96,7 +96,7 @@ wrote_again (w ∷ ws) i place is =
     ]
   where
     Again : ℕ → Type 0
-    Again n = (slice_set (w ∷ ws) n i ≡ wrote (w ∷ ws) i)
+    Again n = (slice_set (w ∷ ws) n i ≡ with_write (w ∷ ws) i)
         × ((key : Key) → place_of (slice_set (w ∷ ws) n i) key ≡ place_of (w ∷ ws) key)
 
     first : (n : ℕ) → same_key (item_key w) (item_key i) ≡ true → Some 0 ≡ Some n → Again n
@@ -107,7 +107,7 @@ wrote_again (w ∷ ws) i place is =
     )
     first (suc n) here at = absurd cc
 
-    next : (n p : ℕ) → same_key (item_key w) (item_key i) ≡ false → n ≡ suc p → (slice_set ws p i ≡ wrote ws i)
+    next : (n p : ℕ) → same_key (item_key w) (item_key i) ≡ false → n ≡ suc p → (slice_set ws p i ≡ with_write ws i)
         × ((key : Key) → place_of (slice_set ws p i) key ≡ place_of ws key) → Again n
     next zero p other at rest = absurd (omega (arith, at))
     next (suc n) p other at rest =
@@ -117,7 +117,7 @@ wrote_again (w ∷ ws) i place is =
         )
 
 -- and one at another comes last
-pub wrote_first : (ws : List Item) (i : Item) → place_of ws (item_key i) ≡ None → ws ++ i ∷ [] ≡ wrote ws i
+pub wrote_first : (ws : List Item) (i : Item) → place_of ws (item_key i) ≡ None → ws ++ i ∷ [] ≡ with_write ws i
 wrote_first [] i none = refl
 wrote_first (w ∷ ws) i none =
     elim (cases_Bool (same_key (item_key w) (item_key i))) [

@@ -163,8 +163,7 @@ lists_within f table end [] low sorted within is = is
 lists_within {X = X} f table end (e ∷ es) low sorted within is =
     let here = within.0.0 in
     let after = within_after table low end e es here (sorted_head key_cmp e.0 (keys_of es) sorted) within.1 in
-    let found : is_at (key_cmp (key_at table e.0.key)) e.0 ≡ true = grind (arith, nat_tests) in
-    (
+    let found : is_at (key_cmp (key_at table e.0.key)) e.0 ≡ true = grind (arith, nat_tests) in (
       here,
       within.0.1,
       within.0.2,

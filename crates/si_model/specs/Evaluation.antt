@@ -25,18 +25,18 @@ with_field width (Some v) f n = slice_set v (f - 1) n
 abbrev pub can_change : Bool → ℕ → ℕ → Bool
 can_change up n by = if up then nat_lt (n + by) (2 ^ 64) else nat_le by n
 
-abbrev pub changed : Bool → ℕ → ℕ → ℕ
-changed up n by = if up then n + by else n - by
+abbrev pub new_number : Bool → ℕ → ℕ → ℕ
+new_number up n by = if up then n + by else n - by
 
 -- the write set with one more write: each key once, in the order of first writes, with its last value
-abbrev pub wrote : List Item → Item → List Item
-wrote [] i = i ∷ []
-wrote (j ∷ is) i = if same_key (item_key j) (item_key i) then i ∷ is else j ∷ wrote is i
+abbrev pub with_write : List Item → Item → List Item
+with_write [] i = i ∷ []
+with_write (j ∷ is) i = if same_key (item_key j) (item_key i) then i ∷ is else j ∷ with_write is i
 
--- the guarded keys with one more: each once, in the order of first guards
-abbrev pub guarded : List Key → Key → List Key
-guarded [] key = key ∷ []
-guarded (g ∷ gs) key = if same_key g key then g ∷ gs else g ∷ guarded gs key
+-- the with_guard keys with one more: each once, in the order of first guards
+abbrev pub with_guard : List Key → Key → List Key
+with_guard [] key = key ∷ []
+with_guard (g ∷ gs) key = if same_key g key then g ∷ gs else g ∷ with_guard gs key
 
 -- may the operation pass on the copy
 abbrev pub passes : Op → Rows → Bool
@@ -61,26 +61,26 @@ found (Scan t low high) copy = items_between copy t low high
 -- the write set after the operation
 abbrev pub writes_after : List ℕ → Op → Rows → List Item → List Item
 writes_after widths (Get t k) copy ws = ws
-writes_after widths (Put t k v) copy ws = wrote ws (item_at (key_at t k) (Some v))
+writes_after widths (Put t k v) copy ws = with_write ws (item_at (key_at t k) (Some v))
 writes_after widths (Add t k f up by) copy ws =
     let v = copy (key_at t k) in
-    wrote ws (item_at (key_at t k) (Some (with_field (slice_index widths t) v f (changed up (field_of v f) by))))
-writes_after widths (Del t k) copy ws = wrote ws (item_at (key_at t k) None)
+    with_write ws (item_at (key_at t k) (Some (with_field (slice_index widths t) v f (new_number up (field_of v f) by))))
+writes_after widths (Del t k) copy ws = with_write ws (item_at (key_at t k) None)
 writes_after widths (Need t k f least) copy ws = ws
 writes_after widths (Guard t k) copy ws = ws
 writes_after widths (Scan t low high) copy ws = ws
 
--- the guarded keys after the operation
+-- the with_guard keys after the operation
 abbrev pub guards_after : Op → List Key → List Key
 guards_after (Get t k) gs = gs
 guards_after (Put t k v) gs = gs
 guards_after (Add t k f up by) gs = gs
 guards_after (Del t k) gs = gs
 guards_after (Need t k f least) gs = gs
-guards_after (Guard t k) gs = guarded gs (key_at t k)
+guards_after (Guard t k) gs = with_guard gs (key_at t k)
 guards_after (Scan t low high) gs = gs
 
--- the guarded keys that aren't written
+-- the with_guard keys that aren't written
 abbrev pub unwritten : List Item → List Key → List Key
 unwritten ws gs = filter (λ key. not (writes_key ws key)) gs
 
@@ -173,7 +173,7 @@ ops_claim key ops = list_any (λ op. is_key key (key_claimed op)) ops
 -- the keys that a function names in the operations, each once, in the order of first use
 abbrev pub keys_from : (Op → Option Key) → List Key → List Op → List Key
 keys_from named ks [] = ks
-keys_from named ks (op ∷ ops) = keys_from named (elim (named op) [ None ↦ ks | Some key ↦ guarded ks key ]) ops
+keys_from named ks (op ∷ ops) = keys_from named (elim (named op) [ None ↦ ks | Some key ↦ with_guard ks key ]) ops
 
 -- the keys that the operations write, where all pass
 abbrev pub written_keys : List Op → List Key

@@ -7,7 +7,7 @@ use Rattle.si_model.specs.declared.op.Op.{Op}
 use Rattle.si_model.specs.declared.op.Policy.{Policy}
 use Rattle.si_model.specs.Lists.{concat_of}
 use Rattle.si_model.specs.Rows.{row_key, same_key}
-use Rattle.si_model.specs.Evaluation.{guarded, key_claimed, keys_from}
+use Rattle.si_model.specs.Evaluation.{with_guard, key_claimed, keys_from}
 
 -- what a script fixes: workers, tables, loaded rows, the transactions and whose they are, and the policy
 pub record Setting : Type 0 where
@@ -41,7 +41,7 @@ by_script s = record { ops = concat_of s.jobs; by_calls = false }
 -- the keys of the list, each once
 abbrev pub distinct_from : List Key → List Key → List Key
 distinct_from ks [] = ks
-distinct_from ks (key ∷ keys) = distinct_from (guarded ks key) keys
+distinct_from ks (key ∷ keys) = distinct_from (with_guard ks key) keys
 
 -- the keys that a row or an operation gives a position, each once
 abbrev pub claimed_keys : Setting → Asked → List Key

@@ -106,7 +106,10 @@ impl CommittedRows {
         requires { low ≤ end }
         ensures { OnOk result (items.new ≡ items.old ++ items_from (rows_held self.now) table low (end - low)) }
     {
-        for (key, value) in self.held.range(Key { table, key: low }..Key { table, key: end }) {
+        for (key, value) in self
+            .held
+            .range(Key { table, key: low }..Key { table, key: end })
+        {
             items.push(Item {
                 table: key.table,
                 key: key.key,

@@ -3,7 +3,7 @@
 ghost use Rattle.std.specs.Prelude.{◌≡◌, ◌^◌, ◌<◌, [], ◌∷◌, ◌++◌, length, All, IfOk, OnOk, IsTrue};
 ghost use Rattle.si_model.specs.Committed.{rows_held};
 ghost use Rattle.si_model.specs.Rows.{item_at, rows_of, overlay};
-ghost use Rattle.si_model.specs.Evaluation.{wrote, passes, found, writes_after, guards_after, unwritten};
+ghost use Rattle.si_model.specs.Evaluation.{with_write, passes, found, writes_after, guards_after, unwritten};
 ghost use Rattle.si_model.specs.Evaluation.{evaluation_of, OpFits, AreWide};
 
 use crate::committed::CommittedRows;
@@ -17,11 +17,7 @@ use lists::List;
 use std::alloc::{AllocError, Global};
 
 /// The guarded keys that aren't written.
-fn unwritten(
-    alloc: Global,
-    writes: &WriteSet,
-    guards: &[Key],
-) -> Result<List<Key>, AllocError>
+fn unwritten(alloc: Global, writes: &WriteSet, guards: &[Key]) -> Result<List<Key>, AllocError>
     ensures { IfOk result (λ keys. keys ≡ unwritten writes.now guards.now) }
 {
     let mut keys = List::new(alloc);
@@ -61,7 +57,7 @@ impl Progress {
 
     /// Gives a key a value, or makes it absent.
     fn write(&mut self, key: Key, value: Option<Value>) -> Result<(), AllocError>
-        ensures writes { OnOk result (self.new.writes ≡ wrote self.old.writes (item_at key value)) }
+        ensures writes { OnOk result (self.new.writes ≡ with_write self.old.writes (item_at key value)) }
         ensures reads { self.new.reads ≡ self.old.reads }
         ensures guards { self.new.guards ≡ self.old.guards }
     {
@@ -74,12 +70,7 @@ impl Progress {
     }
 
     /// Does one operation on the copy, and says whether it passed.
-    fn apply(
-        &mut self,
-        widths: &[u32],
-        rows: &CommittedRows,
-        op: &Op,
-    ) -> Result<bool, AllocError>
+    fn apply(&mut self, widths: &[u32], rows: &CommittedRows, op: &Op) -> Result<bool, AllocError>
         requires fits { OpFits widths.now op.now }
         requires wide { AreWide widths.now (overlay self.old.writes (rows_held rows.now)) }
         ensures passed { IfOk result (λ passed.

@@ -1,7 +1,7 @@
 //! The fields of a value, counted from 1.
 
 ghost use Rattle.std.specs.Prelude.{◌≡◌, ◌≤◌, length, replicate, Some, None, MatchOption, if◌then◌else◌};
-ghost use Rattle.si_model.specs.Evaluation.{field_of, with_field, can_change, changed};
+ghost use Rattle.si_model.specs.Evaluation.{field_of, with_field, can_change, new_number};
 
 use crate::row::Value;
 
@@ -45,7 +45,7 @@ pub(crate) fn with_field(width: u32, value: Option<Value>, field: u32, number: u
 
 /// The number after a change, or none where it would leave 0 to 2^64 - 1.
 pub(crate) fn changed_by(number: u64, up: bool, by: u64) -> Option<u64>
-    ensures { result ≡ (if can_change up number by then Some (changed up number by) else None) }
+    ensures { result ≡ (if can_change up number by then Some (new_number up number by) else None) }
 {
     if up {
         number.checked_add(by)

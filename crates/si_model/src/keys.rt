@@ -1,7 +1,7 @@
 //! The keys that a transaction writes and guards.
 
 ghost use Rattle.std.specs.Prelude.{◌≡◌, [], OnOk, IfOk};
-ghost use Rattle.si_model.specs.Evaluation.{guarded, key_guarded, ops_write, keys_from, guard_keys};
+ghost use Rattle.si_model.specs.Evaluation.{with_guard, key_guarded, ops_write, keys_from, guard_keys};
 ghost use Rattle.si_model.specs.History.{keys_of};
 
 use crate::op::Op;
@@ -44,7 +44,7 @@ impl KeyList {
 
     /// Notes a key, if it is not there.
     pub fn note(&mut self, key: Key) -> Result<(), AllocError>
-        ensures { OnOk result (self.new ≡ guarded self.old key) }
+        ensures { OnOk result (self.new ≡ with_guard self.old key) }
     {
         if self.listed.contains(&key) {
             return Ok(());

@@ -243,13 +243,15 @@ fn many_rows_are_scanned_often(rt: HostRuntime) -> Result<(), AllocError> {
     }
     let text = evaluated(alloc, &[1], &ops, &rows)?;
     assert_eq!(rt; text.len(), 817096);
-    assert!(rt; text.as_str().ends_with(
-        " 0 4109 13, 0 4110 14, writes 0 0 -, 0 4096 0, 0 1 -, 0 4097 1, 0 2 -, 0 4098 \
+    assert!(rt;
+        text.as_str().ends_with(
+            " 0 4109 13, 0 4110 14, writes 0 0 -, 0 4096 0, 0 1 -, 0 4097 1, 0 2 -, 0 4098 \
          2, 0 3 -, 0 4099 3, 0 4 -, 0 4100 4, 0 5 -, 0 4101 5, 0 6 -, 0 4102 6, 0 7 -, 0 \
          4103 7, 0 8 -, 0 4104 8, 0 9 -, 0 4105 9, 0 10 -, 0 4106 10, 0 11 -, 0 4107 11, \
          0 12 -, 0 4108 12, 0 13 -, 0 4109 13, 0 14 -, 0 4110 14, 0 15 -, 0 4111 15, \
          guards"
-    ));
+        )
+    );
     Ok(())
 }
 

@@ -2,7 +2,7 @@
 
 ghost use Rattle.std.specs.Prelude.{◌≡◌, ◌-◌, ◌≤◌, false, [], ◌∷◌, ◌++◌, OnOk};
 ghost use Rattle.si_model.specs.Rows.{item_key, writes_key, overlay, items_from, items_between, present};
-ghost use Rattle.si_model.specs.Evaluation.{wrote};
+ghost use Rattle.si_model.specs.Evaluation.{with_write};
 ghost use Rattle.si_model.specs.Committed.{rows_held};
 
 use crate::committed::CommittedRows;
@@ -45,7 +45,7 @@ impl WriteSet {
 
     /// Notes a write: each key stands once, in the order of first writes, with its last value.
     pub fn note(&mut self, item: Item) -> Result<(), AllocError>
-        ensures { OnOk result (self.new ≡ wrote self.old item) }
+        ensures { OnOk result (self.new ≡ with_write self.old item) }
     {
         let key = item.key();
         match self.places.get(&key).copied() {
@@ -103,7 +103,10 @@ impl WriteSet {
             items.new ≡ items.old ++ items_from (overlay self.now (rows_held rows.now)) table low (end - low)) }
     {
         let mut from = low;
-        for (key, place) in self.places.range(Key { table, key: low }..Key { table, key: end }) {
+        for (key, place) in self
+            .places
+            .range(Key { table, key: low }..Key { table, key: end })
+        {
             rows.add_items_before(items, table, from, key.key)?;
             let value = copy_value(&self.items.at(*place).value);
             add_if_present(items, *key, value)?;

@@ -2,7 +2,7 @@ use Rattle.std.proofs.Common.{◌≡◌, ◌++◌, [], ◌∷◌, true, false, a
 use Rattle.std.specs.BTreeSet.{contains}
 use Rattle.si_model.specs.Held.{key_cmp}
 use Rattle.si_model.specs.Rows.{has_key}
-use Rattle.si_model.specs.Evaluation.{guarded}
+use Rattle.si_model.specs.Evaluation.{with_guard}
 use Rattle.si_model.proofs.WriteLemmas.{guarded_has, guarded_new}
 use Rattle.si_model.proofs.PlaceLemmas.{listed_back, ok_told, err_told}
 use Rattle.si_model.proofs.keys.KeyList.note.Goals as goal
@@ -32,4 +32,4 @@ returns c =
     sym (c.self.invariant c.args.key) ∙ sym c.contains.ensures ∙ c.if-contains.false in
     let longer : c.push.new.self ≡ keys ++ c.args.key ∷ [] =
     ok_told c.push.result (sym c.is_err.ensures.value ∙ c.if-is_err.false) c.push.ensures.ok in
-    longer ∙ sym (guarded_new keys c.args.key absent) ∙ ap (λ ks. guarded ks c.args.key) c.self.view_is
+    longer ∙ sym (guarded_new keys c.args.key absent) ∙ ap (λ ks. with_guard ks c.args.key) c.self.view_is

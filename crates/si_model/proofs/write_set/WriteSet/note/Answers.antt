@@ -1,7 +1,7 @@
 use Rattle.std.proofs.Common.{◌≡◌, Some, None, ap, sym, ◌∙◌, is_some}
 use Rattle.std.proofs.lemmas.Result.{on_ok_weaker}
 use Rattle.si_model.specs.Rows.{item_key, writes_key}
-use Rattle.si_model.specs.Evaluation.{wrote}
+use Rattle.si_model.specs.Evaluation.{with_write}
 use Rattle.si_model.specs.Places.{place_of}
 use Rattle.si_model.proofs.PlaceLemmas.{has_place, place_says, wrote_again, wrote_first}
 use Rattle.si_model.proofs.write_set.WriteSet.note.Goals as goal
@@ -28,7 +28,7 @@ returns-in-Some c =
     ap (place_of c.self.inside.items) (sym c.key-key.ensures) ∙ sym (c.self.invariant c.key-key.result)
     ∙ sym c.get.ensures.value ∙ sym c.copied.ensures ∙ c.in-Some.is in
     c.set.ensures ∙ (wrote_again c.self.inside.items c.args.item c.in-Some.place is).0
-    ∙ ap (λ ws. wrote ws c.args.item) c.self.view_is
+    ∙ ap (λ ws. with_write ws c.args.item) c.self.view_is
 
 pub add-requires : goal.add-requires
 add-requires c =

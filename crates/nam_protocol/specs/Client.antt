@@ -58,9 +58,9 @@ module _ (shape : Shape) where
   abbrev pub ask_scan : ClientState → ℕ → ℕ → ℕ → Option Open → ClientState
   ask_scan client table low high None = client
   ask_scan client table low high (Some attempt) =
-      let counted =
+      let with_scan =
       record attempt { ops = attempt.ops + 1; ops_so_far = attempt.ops_so_far + capacity_of shape table } in
-      go (record client { txn = Some with_call; scanned = [] }) (Scanning table low high scan_begin)
+      go (record client { txn = Some with_scan; scanned = [] }) (Scanning table low high scan_begin)
 
   abbrev pub client_ask : ClientState → Call → ClientState
   client_ask client (Begin txn nth) = go client (Beginning txn nth snap_begin)

@@ -71,7 +71,7 @@ module _ (client : ClientState) (attempt : Open) (before : ℕ) where
   steps_over : (s : TxnState) (answer : TxnAnswer) → SameBegin attempt.state s → IsSilent answer
       → Steps (over s answer)
   steps_over s answer same silent =
-      on_answer_goes (λ c. Plain opened (telling.answered c (client_answer.Txn answer)))
+      on_answer_goes (λ c. Plain opened (telling.with_answer c (client_answer.Txn answer)))
       (step_lists client before (over s answer)) (step_opens attempt before (over s answer)) answer
       (λ e. record { worker = refl; start = refl; last = refl; cut = refl; snaps = refl; opened = same; aside = tt })
       (λ end e. record { worker = refl; start = refl; last = refl; cut = refl; snaps = refl; opened = tt; aside = tt })

@@ -1,19 +1,19 @@
 -- Calls that take as many verbs as their bound says, or as any words can make them take.
 use Rattle.std.proofs.Common.{◌≡◌, ℕ, ◌+◌, Bool, true, ◌&&◌, not, is_some, List, [], ◌∷◌, ◌++◌, length, refl}
-use Rattle.std.specs.Prelude.{Option, Some, option_map}
+use Rattle.std.specs.Prelude.{Some, option_map}
 use Rattle.nam_catalog.specs.declared.form.Form.TheVariants.{Narrow}
 use Rattle.nam_catalog.specs.declared.shape.Shape.{Shape}
 use Rattle.nam_header.specs.Stamp.{with_lock, stamp_word, mark}
 use Rattle.si_model.specs.declared.op.Op.TheVariants as op
 use Rattle.nam_protocol.specs.declared.txn.TxnCall.TheVariants.{Get, Put, Guard}
-use Rattle.nam_protocol.specs.declared.client.Call.{Call}
 use Rattle.nam_protocol.specs.declared.client.Call.TheVariants.{Begin, Txn, Scan, Tidy, Collect}
 use Rattle.nam_protocol.specs.declared.client.ClientState.{ClientState}
 use Rattle.nam_protocol.specs.declared.client.Open.{Open}
 use Rattle.nam_protocol.specs.Client.{client_ask, client_verb, client_after}
 use Rattle.nam_protocol.specs.Bound.{find_bound, op_bound, scan_bound, tidy_bound, collect_bound}
 use Rattle.nam_protocol.proofs.Shown.{shape, table}
-use Rattle.nam_protocol.proofs.ClientExample.{after_asked, worker_1, begun, newer_header, after_verbs, after_calls, small}
+use Rattle.nam_protocol.proofs.ClientExample.{after_asked, worker_1, begun, newer_header, after_verbs, after_calls}
+use Rattle.nam_protocol.proofs.ClientExample.{small}
 use Rattle.nam_protocol.proofs.ClientExample.{opened}
 use Rattle.nam_protocol.specs.Opening.{copies, load_from}
 
@@ -23,7 +23,8 @@ module _ (shape : Shape) where
   -- the call has a verb for each of these words, and none after them
   abbrev takes_all : ClientState → List ℕ → Bool
   takes_all client [] = not (is_some (client_verb shape client))
-  takes_all client (word ∷ words) = is_some (client_verb shape client) && takes_all (client_after shape client word) words
+  takes_all client (word ∷ words) =
+      is_some (client_verb shape client) && takes_all (client_after shape client word) words
 
 -- two workers, a table of so many positions with a ring of one slot each, and a bucket of two cells
 abbrev store : ℕ → Shape

@@ -307,7 +307,8 @@ module _ (shape : Shape) where
     goes_commit n calls fit l c =
         let keys = written_keys job.ops in
         let tidied = tidying driver keys 0 false in
-        subst (λ o. Goes n calls (if driver.policy.tidy then tidying driver (keys_of_job o) 0 false else next_job driver))
+        subst (λ o. Goes n calls
+        (if driver.policy.tidy then tidying driver (keys_of_job o) 0 false else next_job driver))
         (sym here)
         (either (Goes n calls) driver.policy.tidy tidied (next_job driver)
         (goes_tidying n calls keys 0 false (written_of_tables [] job.ops fit tt) (omega arith)

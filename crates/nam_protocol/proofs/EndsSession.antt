@@ -36,7 +36,8 @@ use Rattle.nam_protocol.specs.declared.session.SessionState.{SessionState}
 use Rattle.nam_protocol.specs.Txn.{ask_op}
 use Rattle.nam_protocol.specs.Commit.{ask_commit}
 use Rattle.nam_protocol.specs.Telling.{new_client, stepped}
-use Rattle.nam_protocol.specs.Client.{with_call, ask_txn, ask_scan, client_ask, verb_of, call_after, after_call, client_after}
+use Rattle.nam_protocol.specs.Client.{with_call, ask_txn, ask_scan, client_ask, verb_of, call_after, after_call}
+use Rattle.nam_protocol.specs.Client.{client_after}
 use Rattle.nam_protocol.specs.CutClient.{client_cut}
 use Rattle.nam_protocol.specs.Driver.{new_driver, call_of, op_call, key_number, place_call, job_call, driver_next}
 use Rattle.nam_protocol.specs.Driver.{driver_take}
@@ -55,8 +56,10 @@ use Rattle.nam_protocol.proofs.FallsKeys.{all_at}
 use Rattle.nam_protocol.proofs.FallsAttempt.{ask_asks, attempt_bound}
 use Rattle.nam_protocol.proofs.FallsClient.{client_falls, client_begins}
 use Rattle.nam_protocol.proofs.RunsTxn.{ask_of, ask_commit_runs}
-use Rattle.nam_protocol.proofs.RunsClient.{IsAnswered, NowDoes, ClientDoes, stepped_does, commit_does, word_does, take_past}
-use Rattle.nam_protocol.proofs.EndsDriver.{call_most, pending, calls_from, calls_after, AsksFrom, GoesOn, begins_pending}
+use Rattle.nam_protocol.proofs.RunsClient.{IsAnswered, NowDoes, ClientDoes, stepped_does, commit_does, word_does}
+use Rattle.nam_protocol.proofs.RunsClient.{take_past}
+use Rattle.nam_protocol.proofs.EndsDriver.{call_most, pending, calls_from, calls_after, AsksFrom, GoesOn}
+use Rattle.nam_protocol.proofs.EndsDriver.{begins_pending}
 use Rattle.nam_protocol.proofs.EndsDriver.{takes, drop_from, drop_over}
 
 -- 1. Lists and tests
@@ -178,7 +181,8 @@ module _ (shape : Shape) where
 
         asks_txn : Asked (ToAsk nth) calls (client_ask shape client (Txn call))
         asks_txn =
-            let b = client_begins shape limits client (Txn call) fits (is_open (take nth ops) client.txn asked, stands) in
+            let b = client_begins shape limits client (Txn call) fits
+            (is_open (take nth ops) client.txn asked, stands) in
             record {
               stands = b.0;
               within = rw here (let l = op_within client.txn asked in let m = b.1 in omega arith);
@@ -256,7 +260,8 @@ module _ (shape : Shape) where
     pub client : ClientFits shape session.client
     pub jobs : AllByRecursion (JobFits shape) session.jobs
     pub driver : DriverFits shape session.driver
-    pub asks : AsksFrom shape session.driver.place (ops_of (slice_get session.jobs session.driver.job)) session.client.txn
+    pub asks : AsksFrom shape session.driver.place
+        (ops_of (slice_get session.jobs session.driver.job)) session.client.txn
     pub rests : is_running session.client.call ≡ false
 
   abbrev next_calls : SessionState → ℕ
@@ -460,7 +465,8 @@ module _ (shape : Shape) where
         let some = some_of (slice_get session.jobs driver.job) (sym fits.stands ∙ ap is_running is) in
         let place : CallPointFits shape session.client.txn at =
         subst (NowFits shape session.client.txn) is fits.client.2 in
-        let runs = subst (NowRuns driver.place (ops_of (slice_get session.jobs driver.job)) session.client.txn) is fits.runs
+        let runs = subst (NowRuns driver.place
+        (ops_of (slice_get session.jobs driver.job)) session.client.txn) is fits.runs
         in
         let runs_here = subst (λ o. NowRuns driver.place (ops_of o) session.client.txn (Some (At at))) some.1 runs in
         let after : call_after shape session.client at found ≡ client_after shape session.client found =

@@ -54,7 +54,8 @@ module _ (shape : Shape) where
 
   -- 2. A turn
 
-  -- a world follows another: it has as many sessions, which fit, and no more verbs to come; it has fewer where this verb
+  -- a world follows another: it has as many sessions, which fit, and no more verbs to come; it has fewer where this
+  -- verb
   -- was to come
   record Follows (verb : Option (VerbAt Field)) (before after : World) : Type 0 where
     fits : WorldFits shape after
@@ -95,7 +96,8 @@ module _ (shape : Shape) where
         let there = verb_there shape verb in
         let w = session_word shape limits session verb (found_by world.words there) (session_fits session here) e in
         replaced (Some verb) world (after_verb world.words there) worker session
-        (session_after shape session (found_by world.words there)) fits here w.0 (let l = w.1 in omega arith) (λ some. w.1)
+        (session_after shape session (found_by world.words there)) fits here w.0 (let l = w.1 in omega arith)
+        (λ some. w.1)
 
     step_follows : (o : Option SessionState) → session_of world worker ≡ o
         → Follows (verb_in shape o) world (step_of shape world worker o)
@@ -107,7 +109,8 @@ module _ (shape : Shape) where
         → session_verb shape session ≡ verb → IsSome verb
         → 0 < session_left shape session
     has_left session None is e some = absurd (false≢true some)
-    has_left session (Some verb) is e some = let w = session_word shape limits session verb 0 is e in let l = w.1 in omega arith
+    has_left session (Some verb) is e some =
+        let w = session_word shape limits session verb 0 is e in let l = w.1 in omega arith
 
     cut_follows : (o : Option SessionState) → session_of world worker ≡ o
         → Follows (verb_in shape o) world (cut_of world worker o)

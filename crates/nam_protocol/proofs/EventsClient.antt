@@ -97,7 +97,8 @@ module _ (n : ℕ) where
         → ClientLists n (is_some opened) (take_txn shape client at opened found)
     take_txn_lists client within None at found p = absurd p
     take_txn_lists client within (Some attempt) at found p =
-        stepped_lists client within attempt (length (taken_at attempt.state at)) (txn_after shape attempt.state at found)
+        stepped_lists client within attempt (length (taken_at attempt.state at))
+        (txn_after shape attempt.state at found)
 
     -- 3. A scan
 
@@ -204,7 +205,8 @@ module _ (n : ℕ) where
           on_seek_lists table key (find_after (path_of shape table key) passed found)
       word_lists (Moving table key position at) found p =
           let place = place_of shape table position in
-          on_move_lists table key position (bucket_of shape place.row) (move_after place (cells_by shape place) at found)
+          on_move_lists table key position (bucket_of shape place.row)
+          (move_after place (cells_by shape place) at found)
       word_lists (Snapping bucket at) found p = on_snap_lists bucket (snap_after shape.workers at found)
       word_lists (Collecting bucket prefix seen at) found p =
           on_collect_lists bucket prefix seen (collect_after (cells_of shape bucket) shape.workers seen at found)

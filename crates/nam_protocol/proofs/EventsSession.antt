@@ -34,10 +34,12 @@ use Rattle.nam_protocol.specs.Telling.{new_client}
 use Rattle.nam_protocol.specs.Client.{client_ask, client_after}
 use Rattle.nam_protocol.specs.CutClient.{client_cut}
 use Rattle.nam_protocol.specs.ClientFits.{ClientFits}
-use Rattle.nam_protocol.specs.Session.{answer_now, calls_at_most, taken, settle, session_verb, session_after, session_log}
+use Rattle.nam_protocol.specs.Session.{answer_now, calls_at_most, taken, settle, session_verb, session_after}
+use Rattle.nam_protocol.specs.Session.{session_log}
 use Rattle.nam_protocol.specs.Session.{has_ended, session_cut}
 use Rattle.nam_protocol.specs.Driver.{new_driver, op_call, place_call, job_call, driver_next, next_job, next_try}
-use Rattle.nam_protocol.specs.Driver.{retried, tidying, on_full, keys_of_job, on_commit, on_txn, on_begin, on_ask, on_tidy}
+use Rattle.nam_protocol.specs.Driver.{retried, tidying, on_full, keys_of_job, on_commit, on_txn, on_begin, on_ask}
+use Rattle.nam_protocol.specs.Driver.{on_tidy}
 use Rattle.nam_protocol.specs.Driver.{place_taken}
 use Rattle.nam_protocol.specs.Left.{Room, room_for}
 use Rattle.nam_protocol.specs.AttemptLaw.{has_passed}
@@ -334,7 +336,8 @@ module _ (shape : Shape) (limits : FitsLimits shape) (whole : ℕ) where
       → length (session_log shape session).events ≤ whole + 1
   log_within session fits holds =
       let closed = closed_lists shape session.client session.client.call in
-      let paid = closing_paid session.driver.place (ops_of (slice_get session.jobs session.driver.job)) session.client.txn
+      let paid = closing_paid session.driver.place
+      (ops_of (slice_get session.jobs session.driver.job)) session.client.txn
       session.client.call fits.runs in
       let h = holds.within in
       omega arith

@@ -8,7 +8,8 @@ use Rattle.si_model.specs.declared.row.Item.{Item}
 use Rattle.si_model.specs.declared.op.Op.{Op}
 use Rattle.si_model.specs.declared.op.Op.TheVariants.{Get, Put, Add, Del, Need, Guard, Scan}
 use Rattle.si_model.specs.Rows.{Rows, key_at, same_key, item_key, item_at, writes_key}
-use Rattle.si_model.specs.Evaluation.{field_of, with_field, new_number, with_write, with_guard, passes, writes_after, op_key}
+use Rattle.si_model.specs.Evaluation.{field_of, with_field, new_number, with_write, with_guard, passes, writes_after}
+use Rattle.si_model.specs.Evaluation.{op_key}
 use Rattle.si_model.specs.Evaluation.{guards_after, unwritten, key_written, key_guarded, ops_write, keys_from}
 use Rattle.si_model.specs.Evaluation.{written_keys, guard_keys}
 use Rattle.si_model.specs.EvaluationLaws.{writes_from}

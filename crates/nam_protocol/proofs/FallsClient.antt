@@ -158,7 +158,8 @@ module _ (shape : Shape) (limits : FitsLimits shape) where
 
   -- 4. A scan
 
-  pub gathered_keeps : (P : ℕ → Option Open → Type 0) (client : ClientState) (position key : ℕ) (value : Option (List ℕ))
+  pub gathered_keeps : (P : ℕ → Option Open → Type 0) (client : ClientState) (position key : ℕ)
+      (value : Option (List ℕ))
       → P client.worker client.txn
       → P (with_gathered client position key value).worker (with_gathered client position key value).txn
   gathered_keeps P client position key None p = p

@@ -10,7 +10,8 @@ use Rattle.si_model.specs.declared.row.Item.{Item}
 use Rattle.si_model.specs.declared.op.Op.{Op}
 use Rattle.si_model.specs.declared.op.Op.TheVariants.{Get, Put, Add, Del, Need, Guard, Scan}
 use Rattle.si_model.specs.Rows.{key_at, same_key, item_key, item_at, writes_key}
-use Rattle.si_model.specs.Evaluation.{field_of, with_field, new_number, with_write, with_guard, writes_after, guards_after, op_key}
+use Rattle.si_model.specs.Evaluation.{field_of, with_field, new_number, with_write, with_guard, writes_after}
+use Rattle.si_model.specs.Evaluation.{guards_after, op_key}
 use Rattle.si_model.specs.Evaluation.{unwritten}
 use Rattle.si_model.specs.EvaluationLaws.{IsWide}
 use Rattle.si_model.proofs.EvaluationLemmas.{same_key-refl, same_key_says}
@@ -118,7 +119,8 @@ pub all_guarded : (P : Key → Type 0) (gs : List Key) (key : Key) → AllByRecu
     → AllByRecursion P (with_guard gs key)
 all_guarded P [] key all new = (new, tt)
 all_guarded P (g ∷ gs) key all new =
-    either (AllByRecursion P) (same_key g key) (g ∷ gs) (g ∷ with_guard gs key) all (all.0, all_guarded P gs key all.1 new)
+    either (AllByRecursion P) (same_key g key) (g ∷ gs) (g ∷ with_guard gs key) all
+    (all.0, all_guarded P gs key all.1 new)
 
 all_claimed : {A : Type 0} (key : A → Key) (cs : List Record) (r : Record) (xs : List A)
     → AllByRecursion (λ x. is_claimed cs (key x) ≡ true) xs

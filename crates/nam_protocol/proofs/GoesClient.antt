@@ -42,7 +42,8 @@ use Rattle.nam_protocol.specs.Txn.{Stepped}
 use Rattle.nam_protocol.specs.TxnCalls.{taken_now}
 use Rattle.nam_protocol.specs.Scan.{scan_skip}
 use Rattle.nam_protocol.specs.Log.{with_locks, with_snap, prefix_of, unbegun}
-use Rattle.nam_protocol.specs.Telling.{go, with_answer, new_attempt, with_listed, with_end, with_commit, read_listed, items_of, new_locks}
+use Rattle.nam_protocol.specs.Telling.{go, with_answer, new_attempt, with_listed, with_end, with_commit, read_listed}
+use Rattle.nam_protocol.specs.Telling.{items_of, new_locks}
 use Rattle.nam_protocol.specs.Telling.{on_answer, on_call, stepped}
 use Rattle.nam_protocol.specs.ScanCall.{with_gathered, scan_listed, scan_ended, on_skip, on_scan}
 use Rattle.nam_protocol.specs.Client.{on_begin, on_seek, on_move, on_snap, on_collect}
@@ -241,7 +242,8 @@ module _ (P : ClientState → Type 0) where
     pub collect_goes : (client : ClientState) (bucket prefix : ℕ) (seen : List ℕ) (now : Now CollectPoint (List ℕ))
         → ((place : CollectPoint) → now ≡ At place → P (go client (Collecting bucket prefix seen place)))
         → ((known : List ℕ) → now ≡ Over known
-        → P (with_answer (with_listed client (event.Collected bucket prefix seen false)) (client_answer.Collected known)))
+        → P (with_answer (with_listed client (event.Collected bucket prefix seen false))
+        (client_answer.Collected known)))
         → P (on_collect shape client bucket prefix seen now)
     collect_goes client bucket prefix seen (At place) stays done = stays place refl
     collect_goes client bucket prefix seen (Over known) stays done = done known refl

@@ -23,11 +23,14 @@ use Rattle.nam_protocol.specs.declared.session.Job.{Job}
 use Rattle.nam_protocol.specs.declared.session.DriverPoint.{DriverPoint}
 use Rattle.nam_protocol.specs.declared.session.DriverPoint.TheVariants.{ToBegin, ToAsk, ToTidy, ToCollect}
 use Rattle.nam_protocol.specs.declared.session.DriverState.{DriverState}
-use Rattle.nam_protocol.specs.Driver.{new_driver, call_of, op_call, place_call, job_call, driver_take, next_job, next_try}
-use Rattle.nam_protocol.specs.Driver.{retried, tidying, on_full, keys_of_job, on_commit, on_txn, on_begin, on_ask, on_tidy}
+use Rattle.nam_protocol.specs.Driver.{new_driver, call_of, op_call, place_call, job_call, driver_take, next_job}
+use Rattle.nam_protocol.specs.Driver.{next_try}
+use Rattle.nam_protocol.specs.Driver.{retried, tidying, on_full, keys_of_job, on_commit, on_txn, on_begin, on_ask}
+use Rattle.nam_protocol.specs.Driver.{on_tidy}
 use Rattle.nam_protocol.specs.Driver.{place_taken}
 use Rattle.nam_protocol.specs.Left.{Room, writes_in, jobs_writes, op_weight, ops_weight, jobs_weight, room_for}
-use Rattle.nam_protocol.specs.RoomLaw.{call_room, both_rooms, IsWithin, TidyCounts, PlaceCounts, DriverCounts, begin_here}
+use Rattle.nam_protocol.specs.RoomLaw.{call_room, both_rooms, IsWithin, TidyCounts, PlaceCounts, DriverCounts}
+use Rattle.nam_protocol.specs.RoomLaw.{begin_here}
 use Rattle.nam_protocol.specs.RoomLaw.{try_tidies, retry_tidies, keys_tidies, place_tidies, place_ops}
 use Rattle.nam_protocol.specs.RoomLaw.{driver_room, room_left, RoomLaw}
 use Rattle.nam_protocol.proofs.EndsDriver.{drop_from, try_figure, first_figure}
@@ -248,7 +251,8 @@ module _ (shape : Shape) where
         let differ = other.0 in
         let m : driver.nth < driver.policy.tries = grind (arith, nat_tests) in
         let now = tidies_on driver.policy.tidy (writes_in job.ops + (driver.policy.tries - driver.nth)) other.1 in
-        let next = tidies_on driver.policy.tidy (writes_in job.ops + (driver.policy.tries - (driver.nth + 1))) other.1 in
+        let next = tidies_on driver.policy.tidy
+        (writes_in job.ops + (driver.policy.tries - (driver.nth + 1))) other.1 in
         goes_tidying a o t (key ∷ []) 0 true (omega arith) (λ same. m) la lo (omega arith))
 
     goes_commit : (a o t : ℕ)
@@ -262,7 +266,8 @@ module _ (shape : Shape) where
         subst (λ j. Goes a o t (if driver.policy.tidy then tidying driver (keys_of_job j) 0 false else next_job driver))
         (sym here)
         (by_test (Goes a o t) driver.policy.tidy (tidying driver keys 0 false) (next_job driver)
-        (λ e. let now = tidies_on driver.policy.tidy (writes_in job.ops + (driver.policy.tries - driver.nth)) (ap not e) in
+        (λ e. let now = tidies_on driver.policy.tidy (writes_in job.ops + (driver.policy.tries - driver.nth))
+        (ap not e) in
         goes_tidying a o t keys 0 false (omega arith) (λ t. absurd (false≢true t)) la lo (omega arith))
         (λ e. goes_next a o t (omega arith) (omega arith) (omega arith)))
 
@@ -314,7 +319,8 @@ module _ (shape : Shape) where
 
       over_goes : GoesAfter (next_job driver)
       over_goes =
-          goes_next left_attempts (left_ops (ToAsk nth)) (left_tidies (ToAsk nth)) (omega arith) (omega arith) (omega arith)
+          goes_next left_attempts (left_ops (ToAsk nth)) (left_tidies (ToAsk nth)) (omega arith) (omega arith)
+          (omega arith)
 
       retried_goes : GoesAfter (retried driver)
       retried_goes =
@@ -345,16 +351,19 @@ module _ (shape : Shape) where
       ask_goes (answer.Txn end) = txn_goes end
       ask_goes _ = passed_goes
 
-    module _ (keys : List Key) (nth : ℕ) (retry : Bool) (counts : TidyCounts driver.policy.tries driver.nth keys nth retry)
+    module _ (keys : List Key) (nth : ℕ) (retry : Bool)
+        (counts : TidyCounts driver.policy.tries driver.nth keys nth retry)
       where
         tidied_goes : (again : Bool) → GoesFrom (ToTidy keys nth again retry) (tidying driver keys (nth + 1) retry)
         tidied_goes true =
             let l = counts.0 in
-            goes_tidying left_attempts (left_ops (ToTidy keys nth true retry)) (left_tidies (ToTidy keys nth true retry)) keys
+            goes_tidying left_attempts (left_ops (ToTidy keys nth true retry))
+            (left_tidies (ToTidy keys nth true retry)) keys
             (nth + 1) retry (omega arith) counts.1 (omega arith) (omega arith) (omega arith)
         tidied_goes false =
             let l = counts.0 in
-            goes_tidying left_attempts (left_ops (ToTidy keys nth false retry)) (left_tidies (ToTidy keys nth false retry))
+            goes_tidying left_attempts (left_ops (ToTidy keys nth false retry))
+            (left_tidies (ToTidy keys nth false retry))
             keys (nth + 1) retry (omega arith) counts.1 (omega arith) (omega arith) (omega arith)
 
         tidy_goes : (again : Bool) (end : Answer)

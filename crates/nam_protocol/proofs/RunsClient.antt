@@ -213,13 +213,15 @@ module _ (shape : Shape) where
         → OpenRuns (Some attempt) o at
         → Does (take_txn shape client at (Some attempt) found)
     take_does client attempt at found (Some op) here f p asked runs =
-        stepped_does op here client attempt (length (taken_at attempt.state at)) (txn_after shape attempt.state at found)
+        stepped_does op here client attempt (length (taken_at attempt.state at))
+        (txn_after shape attempt.state at found)
         (take_asks shape attempt.state (take nth ops) op at found asked runs)
         (take_of shape attempt.state op at found runs)
     take_does client attempt (Committing at) found None here f p asked runs =
         commit_does here client attempt (length (taken_at attempt.state (Committing at)))
         (txn_after shape attempt.state (Committing at) found)
-        (commit_runs shape ops attempt.state (subst (HasAsked attempt.state) (take_past ops nth here) asked) at found f p
+        (commit_runs shape ops attempt.state
+        (subst (HasAsked attempt.state) (take_past ops nth here) asked) at found f p
         runs)
     take_does client attempt (Finding op passed) found None here f p asked runs = absurd runs
     take_does client attempt (Reading op position at) found None here f p asked runs = absurd runs
@@ -251,7 +253,8 @@ module _ (shape : Shape) where
 
       skipped_does : (client : ClientState) (position key : ℕ) (value : Option (List ℕ))
           → OpenAsked client.txn (take nth ops)
-          → Does (on_skip (with_gathered client position key value) attempt table low high (scan_skip shape table position))
+          → Does (on_skip (with_gathered client position key value) attempt table low high
+          (scan_skip shape table position))
       skipped_does client position key value o =
           on_skip_does (with_gathered client position key value) (scan_skip shape table position)
           (gathered_keeps shape limits Asked client position key value o)
@@ -307,7 +310,8 @@ module _ (shape : Shape) where
   on_fill_room cells slot header cell tag version (At at) = tt
   on_fill_room cells slot header cell tag version (Over done) = tt
 
-  move_room : (place : Place) (cells : Cells) (at : MovePoint) (found : ℕ) → RoomIn cells (move_after place cells at found)
+  move_room : (place : Place) (cells : Cells) (at : MovePoint) (found : ℕ)
+      → RoomIn cells (move_after place cells at found)
   move_room place cells MoveCount found = tt
   move_room place cells (MoveHead slot) found =
       either (RoomIn cells) (is_moved place.form found) (Over move_end.Nothing) (At (MoveEnding slot found)) tt tt

@@ -99,7 +99,10 @@ module _ (shape : Shape) where
   on_begin client txn nth (At place) = go client (Beginning txn nth place)
   on_begin client txn nth (Over (snap_end.Done seen)) =
       let prefix = prefix_of client.start seen in
-      with_answer (record client { log = with_snap client.log seen; txn = Some (new_attempt client txn nth prefix seen) })
+      with_answer (record client {
+        log = with_snap client.log seen;
+        txn = Some (new_attempt client txn nth prefix seen);
+      })
       (client_answer.Begun prefix)
   on_begin client txn nth (Over (snap_end.Again worker first second)) =
       with_answer (with_listed client (unbegun txn nth (outcome.Again worker first second)))
@@ -127,7 +130,8 @@ module _ (shape : Shape) where
       go (record client { log = with_snap client.log seen })
       (Collecting bucket (prefix_of client.start seen) seen collect_begin)
   on_snap client bucket (Over (snap_end.Again worker first second)) =
-      with_answer (with_listed client (event.CollectAgain bucket worker first second)) (client_answer.Again worker first second)
+      with_answer (with_listed client (event.CollectAgain bucket worker first second))
+      (client_answer.Again worker first second)
 
   abbrev pub on_collect : ClientState → ℕ → ℕ → List ℕ → Now CollectPoint (List ℕ) → ClientState
   on_collect client bucket prefix seen (At place) = go client (Collecting bucket prefix seen place)

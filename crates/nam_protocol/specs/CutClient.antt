@@ -27,7 +27,8 @@ client_cut client = record client { cut = true }
 
 -- a commit that has published is one, though the guards' locks stand
 abbrev pub cut_in_txn : ClientState → Open → TxnPoint → ClientState
-cut_in_txn client attempt (Committing (Freeing nth)) = with_listed (with_commit client attempt (attempt.state.last + 1)) TailCut
+cut_in_txn client attempt (Committing (Freeing nth)) = with_listed
+    (with_commit client attempt (attempt.state.last + 1)) TailCut
 cut_in_txn client attempt _ = with_end client attempt outcome.Cut
 
 abbrev pub cut_open : ClientState → TxnPoint → Option Open → ClientState

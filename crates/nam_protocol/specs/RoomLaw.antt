@@ -1,4 +1,5 @@
--- What each call takes of the room that a client has reserved, and that the room for jobs suffices for all calls of their
+-- What each call takes of the room that a client has reserved, and that the room for jobs suffices for all calls of
+-- their
 -- driver.
 use Rattle.std.specs.Prelude.{◌≡◌, ℕ, ◌+◌, ◌-◌, ◌*◌, ◌<◌, ◌≤◌, Bool, true, false, if◌then◌else◌, List, [], ◌∷◌, length}
 use Rattle.std.specs.Prelude.{drop, Some}
@@ -95,7 +96,8 @@ module _ (shape : Shape) where
   abbrev pub driver_room : DriverState → List Job → Room
   driver_room driver [] = record { attempts = 0; ops = 0; tidies = 0 }
   driver_room driver (job ∷ jobs) = record {
-    attempts = begin_here driver.place + (driver.policy.tries - driver.nth) + (room_for shape driver.policy jobs).attempts;
+    attempts = begin_here driver.place + (driver.policy.tries - driver.nth) +
+        (room_for shape driver.policy jobs).attempts;
     ops = place_ops job.ops driver.place + (driver.policy.tries - driver.nth) * ops_weight shape job.ops
         + (room_for shape driver.policy jobs).ops;
     tidies = place_tidies driver.policy driver.nth job.ops driver.place + (room_for shape driver.policy jobs).tidies;

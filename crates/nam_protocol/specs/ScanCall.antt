@@ -77,7 +77,8 @@ module _ (shape : Shape) where
   on_scan client attempt table low high position (Over (scan_answer.Key key)) =
       on_key client attempt table low high position key
   on_scan client attempt table low high position (Over (scan_answer.Row item)) =
-      on_skip (with_gathered client position item.key item.value) attempt table low high (scan_skip shape table position)
+      on_skip (with_gathered client position item.key item.value) attempt table low high
+      (scan_skip shape table position)
   on_scan client attempt table low high position (Over scan_answer.Done) = scan_listed client attempt table
   on_scan client attempt table low high position (Over (scan_answer.TooOld worker entry horizon)) =
       scan_ended client attempt (outcome.TooOld worker entry horizon) (txn_answer.TooOld worker entry horizon)

@@ -61,7 +61,8 @@ with_listed client event = record client { log = with_event client.log event }
 
 -- the attempt has with_end so: the transaction is no longer open
 abbrev pub with_end : ClientState → Open → Outcome → ClientState
-with_end client attempt outcome = record client { txn = None; log = with_event client.log (attempt_of attempt outcome 0) }
+with_end client attempt outcome =
+    record client { txn = None; log = with_event client.log (attempt_of attempt outcome 0) }
 
 -- it has with_commit, and lists what it wrote
 abbrev pub with_commit : ClientState → Open → ℕ → ClientState

@@ -64,8 +64,8 @@ fn after_word(
     found: u64,
 ) -> Now<RingPoint, SearchEnd>
     requires fits { FitsPlace place.now }
-    requires at { RingFits place.now (SlotWords slot header got.now) }
-    ensures { result ≡ ring_after place.now [] (SlotWords slot header got.now) found }
+    requires at { RingFits place.now (SlotWords slot header got) }
+    ensures { result ≡ ring_after place.now [] (SlotWords slot header got) found }
 {
     got.push(found);
     if got.len() == place.width as usize {
@@ -87,8 +87,8 @@ fn after_again(
     found: u64,
 ) -> Now<RingPoint, SearchEnd>
     requires fits { FitsPlace place.now }
-    requires at { RingFits place.now (SlotAgain slot header value.now) }
-    ensures { result ≡ ring_after place.now [] (SlotAgain slot header value.now) found }
+    requires at { RingFits place.now (SlotAgain slot header value) }
+    ensures { result ≡ ring_after place.now [] (SlotAgain slot header value) found }
 {
     // Under another header the words may be those of a version that was copied here since.
     if !same_stamp(place.form, found, header) || found == MARK {

@@ -2,7 +2,7 @@
 
 ghost use Rattle.std.specs.Prelude.{◌≡◌, ◌≤◌, ◌↔◌, IsTrue, IsErr};
 ghost use Rattle.nam_line.specs.Plan.{plan_from, refuses_next};
-ghost use Rattle.nam_line.specs.CountedLine.{new_line, after_pass};
+ghost use Rattle.nam_line.specs.CountedLine.{new_line, after_pass, asked_in_all};
 
 use crate::line::Line;
 use nam_io::Failed;
@@ -39,6 +39,17 @@ impl FuseLine {
             passed: 0,
             failed: 0,
         }
+    }
+
+    /// A line that has passed and refused so many.
+    #[cfg(test)]
+    pub fn after(at: u64, passed: u64, failed: u64) -> FuseLine
+        ensures { result ≡ record {
+          line = record { plan = plan_from at; asked = asked_in_all passed failed };
+          faults = failed;
+        } }
+    {
+        FuseLine { at, passed, failed }
     }
 }
 

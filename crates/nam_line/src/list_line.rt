@@ -38,6 +38,21 @@ impl ListLine {
             failed: 0,
         }
     }
+
+    /// A line that was asked so often and refused so many.
+    #[cfg(test)]
+    pub fn after(failing: Vec<u64>, asked: u64, failed: u64) -> ListLine
+        ensures { result ≡ record {
+          line = record { plan = plan_of failing.items; asked = asked };
+          faults = failed;
+        } }
+    {
+        ListLine {
+            failing: List::from_vec(failing),
+            asked,
+            failed,
+        }
+    }
 }
 
 impl Line for ListLine {

@@ -31,6 +31,14 @@ impl UpLine {
     {
         UpLine { passed: 0 }
     }
+
+    /// A line that has passed so many.
+    #[cfg(test)]
+    pub fn after(passed: u64) -> UpLine
+        ensures { result ≡ record { line = record { plan = empty_plan; asked = passed }; faults = 0 } }
+    {
+        UpLine { passed }
+    }
 }
 
 impl Line for UpLine {

@@ -1,7 +1,7 @@
 -- A line that counts its faults.
 use Rattle.std.specs.Prelude.{ℕ, ◌+◌, ◌-◌, ◌^◌, min, if◌then◌else◌}
 use Rattle.nam_io.specs.Faults.{one_more}
-use Rattle.nam_line.specs.Plan.{Plan, Line, asked_once, refuses_next}
+use Rattle.nam_line.specs.Plan.{Plan, Line, new_line, asked_once, refuses_next}
 
 -- a line, and how many verbs it refused, up to 2^64 - 1
 pub record CountedLine : Type 0 where
@@ -9,8 +9,8 @@ pub record CountedLine : Type 0 where
   pub faults : ℕ
 
 -- a line of this plan that was not asked yet
-abbrev pub new_line : Plan → CountedLine
-new_line plan = record { line = record { plan = plan; asked = 0 }; faults = 0 }
+abbrev pub new_counted : Plan → CountedLine
+new_counted plan = record { line = new_line plan; faults = 0 }
 
 -- the line after it was asked to pass a verb
 abbrev pub after_pass : CountedLine → CountedLine

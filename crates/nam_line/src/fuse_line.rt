@@ -2,7 +2,7 @@
 
 ghost use Rattle.std.specs.Prelude.{◌≡◌, ◌≤◌, ◌↔◌, IsTrue, IsErr};
 ghost use Rattle.nam_line.specs.Plan.{plan_from, refuses_next};
-ghost use Rattle.nam_line.specs.CountedLine.{new_line, after_pass, asked_in_all};
+ghost use Rattle.nam_line.specs.CountedLine.{new_counted, after_pass, asked_in_all};
 
 use crate::line::Line;
 use nam_io::Failed;
@@ -32,7 +32,7 @@ impl Model for FuseLine {
 impl FuseLine {
     /// A line that refuses the verb number `at`, counted from 1, and all later ones.
     pub fn new(at: u64) -> FuseLine
-        ensures { result ≡ new_line (plan_from at) }
+        ensures { result ≡ new_counted (plan_from at) }
     {
         FuseLine {
             at,

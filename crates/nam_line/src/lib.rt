@@ -6,6 +6,7 @@
 #![tactic(auto)]
 
 mod fuse_line;
+mod laws;
 mod line;
 mod list_line;
 #[cfg(test)]
@@ -13,6 +14,7 @@ mod tests;
 mod up_line;
 
 pub use fuse_line::FuseLine;
+pub use laws::passed_law;
 pub use line::Line;
 pub use list_line::ListLine;
 pub use nam_io::Failed;

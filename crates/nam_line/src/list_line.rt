@@ -2,7 +2,7 @@
 
 ghost use Rattle.std.specs.Prelude.{◌≡◌, ◌≤◌, ◌↔◌, IsTrue, IsErr};
 ghost use Rattle.nam_line.specs.Plan.{plan_of, refuses_next};
-ghost use Rattle.nam_line.specs.CountedLine.{new_line, after_pass};
+ghost use Rattle.nam_line.specs.CountedLine.{new_counted, after_pass};
 
 use crate::line::Line;
 use lists::List;
@@ -30,7 +30,7 @@ impl Model for ListLine {
 impl ListLine {
     /// A line that refuses the verbs whose numbers, counted from 1, are in `failing`.
     pub fn new(failing: Vec<u64>) -> ListLine
-        ensures { result ≡ new_line (plan_of failing.items) }
+        ensures { result ≡ new_counted (plan_of failing.items) }
     {
         ListLine {
             failing: List::from_vec(failing),

@@ -2,7 +2,7 @@
 
 ghost use Rattle.std.specs.Prelude.{◌≡◌, ◌≤◌, ◌↔◌, IsTrue, IsErr};
 ghost use Rattle.nam_line.specs.Plan.{empty_plan, refuses_next};
-ghost use Rattle.nam_line.specs.CountedLine.{new_line, after_pass};
+ghost use Rattle.nam_line.specs.CountedLine.{new_counted, after_pass};
 
 use crate::line::Line;
 use nam_io::Failed;
@@ -27,7 +27,7 @@ impl Model for UpLine {
 impl UpLine {
     /// A line that passes each verb.
     pub fn new() -> UpLine
-        ensures { result ≡ new_line empty_plan }
+        ensures { result ≡ new_counted empty_plan }
     {
         UpLine { passed: 0 }
     }

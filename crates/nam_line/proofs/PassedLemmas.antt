@@ -1,11 +1,11 @@
 -- How many verbs a line has passed, when it is asked once more.
-use Rattle.std.proofs.Common.{◌≡◌, ℕ, suc, ◌+◌, ◌-◌, ◌^◌, min, Bool, true, false, refl, ap, sym, ◌∙◌, subst, arith}
+use Rattle.std.proofs.Common.{◌≡◌, suc, ◌+◌, ◌-◌, ◌^◌, Bool, true, false, refl, ap, sym, ◌∙◌, subst, arith}
 use Rattle.std.proofs.Math.Nat.{min-eq_left}
 use Rattle.std.proofs.Math.Numerals.{add-one}
 use Rattle.std.specs.Prelude.{if◌then◌else◌}
 use Rattle.nam_io.specs.Faults.{one_more}
-use Rattle.nam_line.specs.Plan.{Plan, Line, asked_once, refuses, refuses_next, next_asked, passed_up_to, passed_by}
-use Rattle.nam_line.specs.CountedLine.{CountedLine, after_pass}
+use Rattle.nam_line.specs.Plan.{Line, asked_once, refuses, refuses_next, next_asked, passed_up_to, passed_by}
+use Rattle.nam_line.specs.CountedLine.{CountedLine}
 use Rattle.nam_line.specs.PassedLaw.{PassedLaw, IsCounted}
 
 -- below the last number the next one is one more

@@ -1,5 +1,5 @@
 -- How the count of verbs that a line passed goes on.
-use Rattle.std.specs.Prelude.{ℕ, ◌≡◌, ◌+◌, ◌-◌, ◌^◌, ◌<◌, true, false}
+use Rattle.std.specs.Prelude.{◌≡◌, ◌+◌, ◌-◌, ◌^◌, ◌<◌, true, false}
 use Rattle.nam_line.specs.Plan.{Plan, Line, new_line, asked_once, refuses_next, passed_by}
 use Rattle.nam_line.specs.CountedLine.{CountedLine, after_pass}
 

@@ -1,6 +1,6 @@
 ghost use Rattle.std.specs.Prelude.{◌≡◌, ◌<◌, ◌↔◌, length, IsTrue, IsErr, OnOk, OnErr};
 ghost use Rattle.nam_io.specs.Faults.{Rose};
-ghost use Rattle.nam_line.specs.Plan.{asked_once, refuses_next};
+ghost use Rattle.nam_line.specs.Plan.{plan_from, new_line, asked_once, refuses_next};
 
 use crate::{Failed, FuseLine, Line, ListLine, UpLine};
 use nam_verbs::Verb;
@@ -25,6 +25,14 @@ fn ask(line: &mut Box<dyn Line + Send>) -> Result<(), Failed>
     ensures refuses { IsErr result ↔ IsTrue (refuses_next (state line.old)) }
     ensures fault { OnErr result (Rose (faults line.old) (faults line.new)) }
     ensures none { OnOk result (faults line.new ≡ faults line.old) }
+{
+    line.pass(VERB)
+}
+
+/// A line that was not asked yet refuses its first verb where its plan begins there.
+fn ask_first(line: &mut Box<dyn Line + Send>) -> Result<(), Failed>
+    requires { state line.old ≡ new_line (plan_from 1) }
+    ensures { IsErr result }
 {
     line.pass(VERB)
 }
@@ -108,5 +116,13 @@ fn each_line_is_asked_through_its_trait(rt: HostRuntime) -> Result<(), AllocErro
     assert!(rt; refused_by_box(&mut lines[0]) == [false; 6]);
     assert!(rt; refused_by_box(&mut lines[1]) == [false, false, true, true, true, true]);
     assert!(rt; refused_by_box(&mut lines[2]) == [false, true, false, false, false, false]);
+    Ok(())
+}
+
+/// What is in a box is known by what it was made of.
+#[test]
+fn a_boxed_fuse_is_the_fuse(rt: HostRuntime) -> Result<(), AllocError> {
+    let mut line: Box<dyn Line + Send> = Box::new(rt.alloc(), FuseLine::new(1))?;
+    assert!(rt; ask_first(&mut line).is_err());
     Ok(())
 }

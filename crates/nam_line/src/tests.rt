@@ -1,4 +1,4 @@
-ghost use Rattle.std.specs.Prelude.{◌≡◌, ◌<◌, ◌↔◌, length, IsTrue, IsErr, OnOk, OnErr};
+ghost use Rattle.std.specs.Prelude.{◌≡◌, ◌<◌, ◌↔◌, ℕ, slice_index_or, length, IsTrue, IsErr, OnOk, OnErr};
 ghost use Rattle.nam_io.specs.Faults.{Rose};
 ghost use Rattle.nam_line.specs.Plan.{plan_from, new_line, asked_once, refuses_next};
 
@@ -49,13 +49,17 @@ fn refused_by_box(line: &mut Box<dyn Line + Send>) -> [bool; 6] {
 /// Asks each line once, each on a thread of its own where one can be made.
 fn ask_all<R: Threads + Sync>(rt: &R, lines: &mut [Box<dyn Line + Send>])
     requires { 0 < length lines.old }
+    ensures { (i : ℕ) (d : _) (e : _) → i < length lines.old
+        → state (slice_index_or lines.new i e) ≡ asked_once (state (slice_index_or lines.old i d)) }
 {
     let threads = lines.len();
     thread::for_each_mut(
         rt,
         lines,
         threads,
-        &|_, line: &mut Box<dyn Line + Send>| {
+        &|_, line: &mut Box<dyn Line + Send>|
+            ensures { state line.exit.now ≡ asked_once (state line.entry.now) }
+        {
             let _ = ask(line);
         },
     );

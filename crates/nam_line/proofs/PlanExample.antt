@@ -18,7 +18,8 @@ refused_by_none = refl
 refused_by_fuse : map (refuses (plan_from 6)) seven ≡ false ∷ false ∷ false ∷ false ∷ false ∷ true ∷ true ∷ []
 refused_by_fuse = refl
 
-refused_by_list : map (refuses (plan_of (4 ∷ 2 ∷ 2 ∷ []))) seven ≡ false ∷ true ∷ false ∷ true ∷ false ∷ false ∷ false ∷ []
+refused_by_list : map (refuses (plan_of (4 ∷ 2 ∷ 2 ∷ []))) seven
+    ≡ false ∷ true ∷ false ∷ true ∷ false ∷ false ∷ false ∷ []
 refused_by_list = refl
 
 -- the number of the verbs asked for stays at the last

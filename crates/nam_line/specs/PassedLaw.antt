@@ -11,9 +11,11 @@ pub record PassedLaw : Type 0 where
   -- a new line has passed none
   pub begins : (plan : Plan) → passed_by (new_line plan) ≡ 0
   -- a verb that is not refused is one more
-  pub passes : (line : Line) → CanCount line → refuses_next line ≡ false → passed_by (asked_once line) ≡ passed_by line + 1
+  pub passes : (line : Line) → CanCount line → refuses_next line ≡ false
+      → passed_by (asked_once line) ≡ passed_by line + 1
   -- a verb that is refused is none
-  pub refuses : (line : Line) → CanCount line → refuses_next line ≡ true → passed_by (asked_once line) ≡ passed_by line
+  pub refuses : (line : Line) → CanCount line → refuses_next line ≡ true
+      → passed_by (asked_once line) ≡ passed_by line
   -- at the last number that is counted it stands still
   pub stays : (line : Line) → line.asked ≡ 2 ^ 64 - 1 → passed_by (asked_once line) ≡ passed_by line
   -- each verb that was asked for has passed or is a fault

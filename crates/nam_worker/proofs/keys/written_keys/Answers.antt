@@ -1,6 +1,6 @@
-use Rattle.std.proofs.Common.{◌≡◌, ◌<◌, ◌≤◌, ◌+◌, ◌∷◌, length, drop, MatchOption, None, sym, ap, subst, arith, ◌∙◌}
+use Rattle.std.proofs.Common.{◌≡◌, ◌<◌, ◌+◌, ◌∷◌, length, drop, MatchOption, sym, ap, subst, arith, ◌∙◌}
 use Rattle.std.proofs.lemmas.List.{drop_more}
-use Rattle.si_model.specs.Evaluation.{key_written, keys_from, written_keys, with_guard}
+use Rattle.si_model.specs.Evaluation.{key_written, keys_from, written_keys}
 use Rattle.nam_worker.proofs.KeysLemmas.{more_keys}
 use Rattle.nam_worker.proofs.keys.written_keys.Goals as goal
 

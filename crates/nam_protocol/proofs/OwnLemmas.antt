@@ -147,7 +147,7 @@ module _ (shape : Shape) (worker : ℕ) where
       → SameBegin state (commit_after state at found).state
   commit_same state at found =
       commit_goes (λ step. SameBegin state step.state) state at found (λ next to. same_begin state)
-      (λ place headers e. record { worker = refl; last = refl; seen = refl })
+      (λ header next e to. record { worker = refl; last = refl; seen = refl })
       (λ place count e. record { worker = refl; last = refl; seen = refl })
       (λ place count e. record { worker = refl; last = refl; seen = refl }) (λ answer ends. same_begin state)
 

@@ -44,8 +44,8 @@ pub record OwnOk (shape : Shape) (worker : ℕ) (client : ClientState) : Type 0 
 
 -- the header to be exchanged is unlocked, and its stamp seen; words are written of a value
 abbrev pub StageAt : TxnState → CommitPoint → Type 0
-StageAt state (Locking (Seize held header)) =
-    let form = (record_place state (length held)).form in
+StageAt state (Locking (Seize header)) =
+    let form = (record_place state (length state.held)).form in
     (is_locked form header ≡ false) × (sees form state.seen header ≡ true)
 StageAt state (Installing nth (InstallWord word)) = is_some (value_at state nth) ≡ true
 StageAt state _ = Unit {0}

@@ -71,7 +71,7 @@ pub struct TxnState {
     pub read: Option<Item>,
     /// The records of the commit: the written ones in write-set order, then the others that are guarded.
     pub records: ShortList<Record, 16>,
-    /// The headers that the locked records bore.
+    /// The headers that the commit's records bore which it has locked: the first ones, while it locks them.
     pub held: ShortList<u64, 16>,
     /// The numbers of the current versions of the written records whose slots were looked at.
     pub counts: ShortList<u64, 16>,

@@ -52,3 +52,4 @@ pub mod SteppedLemmas
 pub mod OwnLemmas
 pub mod StageLemmas
 pub mod OpenLemmas
+pub mod UnreadLemmas

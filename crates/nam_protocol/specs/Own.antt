@@ -81,6 +81,19 @@ abbrev pub Rests : Option (Now CallPoint Answer) → Type 0
 Rests (Some (At place)) = ⊥
 Rests _ = Unit {0}
 
+-- nothing that was read is at hand
+abbrev pub IsUnread : Option Open → Type 0
+IsUnread None = Unit {0}
+IsUnread (Some attempt) = attempt.state.read ≡ None
+
+-- so it is, but while a call of the transaction runs
+abbrev pub UnreadIn : Option (Now CallPoint Answer) → Option Open → Type 0
+UnreadIn (Some (At (InTxn at))) opened = Unit {0}
+UnreadIn _ opened = IsUnread opened
+
+abbrev pub UnreadClient : ClientState → Type 0
+UnreadClient client = UnreadIn client.call client.txn
+
 -- it may be asked: none of its calls runs
 pub record MayAsk (shape : Shape) (client : ClientState) (asked : Call) : Type 0 where
   pub runs : client.cut ≡ false

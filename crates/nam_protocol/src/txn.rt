@@ -67,7 +67,7 @@ pub struct TxnState {
     pub guards: ShortList<Key, 16>,
     /// The keys that are written or guarded, each once, with their positions.
     pub claims: ShortList<Record, 16>,
-    /// What the call that runs or was answered last has read.
+    /// What the call that runs has read, until it is listed.
     pub read: Option<Item>,
     /// The records of the commit: the written ones in write-set order, then the others that are guarded.
     pub records: ShortList<Record, 16>,

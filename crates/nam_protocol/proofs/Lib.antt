@@ -53,3 +53,4 @@ pub mod OwnLemmas
 pub mod StageLemmas
 pub mod OpenLemmas
 pub mod UnreadLemmas
+pub mod RecordLemmas

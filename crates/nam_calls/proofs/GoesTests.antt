@@ -20,7 +20,7 @@ use Rattle.nam_calls.specs.declared.horizon.CollectPoint.{CollectPoint}
 use Rattle.nam_calls.specs.declared.lock.LockEnd.TheVariants.{Locked, Newer}
 use Rattle.nam_calls.specs.declared.lock.LockEnd.{LockEnd}
 use Rattle.nam_calls.specs.declared.lock.LockPoint.TheVariants.{GiveBack, Peek, Seize}
-use Rattle.nam_calls.specs.declared.lock.LockPoint.{LockPoint}
+use Rattle.nam_calls.specs.declared.lock.Locks.{Locks}
 use Rattle.nam_calls.specs.declared.overflow.ClaimEnd.TheVariants.{Claimed, NoRoom}
 use Rattle.nam_calls.specs.declared.overflow.ClaimEnd.{ClaimEnd}
 use Rattle.nam_calls.specs.declared.overflow.ClaimPoint.TheVariants.{ClaimLook, ClaimTake}
@@ -37,7 +37,7 @@ use Rattle.nam_calls.specs.declared.ring.SlotEnd.{SlotEnd}
 use Rattle.nam_calls.specs.declared.ring.SlotPoint.TheVariants.{CheckHead}
 use Rattle.nam_calls.specs.declared.ring.SlotPoint.{SlotPoint}
 use Rattle.nam_calls.specs.Horizon.{collect_after, collect_next, entry_known}
-use Rattle.nam_calls.specs.Lock.{give_back, lock_after, loss_of, nth_place}
+use Rattle.nam_calls.specs.Lock.{give_back, lock_after, locks_at, loss_of, nth_place}
 use Rattle.nam_calls.specs.Overflow.{claim_after, claim_next}
 use Rattle.nam_calls.specs.Record.{current_after}
 use Rattle.nam_calls.specs.Ring.{next_slot, ring_after, slot_after}
@@ -46,7 +46,7 @@ use Rattle.nam_calls.specs.declared.record.CurrentEnd.TheVariants as current
 
 -- 1. Locks
 
-module _ (P : Now LockPoint LockEnd → Type 0) (places : List Place) where
+module _ (P : Now Locks LockEnd → Type 0) (places : List Place) where
   abbrev form_at : List ℕ → Form
   form_at held = (nth_place places (length held)).form
 
@@ -62,26 +62,27 @@ module _ (P : Now LockPoint LockEnd → Type 0) (places : List Place) where
   pub give_back_goes : (held : List ℕ) (given found : ℕ)
       → (given ≡ length held → is_locked (form_at held) found ≡ true → P (Over (Locked (length held) found)))
       → (given ≡ length held → is_locked (form_at held) found ≡ false → P (Over (Newer (length held) found)))
-      → (given ≢ length held → P (At (GiveBack held given found)))
+      → (given ≢ length held → P (At (locks_at held (GiveBack given found))))
       → P (give_back places held given found)
   give_back_goes held given found locked newer next =
       by_equal P given (length held) _ _ (λ e. loss_goes (length held) found (locked e) (newer e)) next
 
   pub peek_goes : (seen held : List ℕ) (found : ℕ)
       → (is_locked (form_at held) found ≡ true → P (give_back places held 0 found))
-      → (is_locked (form_at held) found ≡ false → sees (form_at held) seen found ≡ true → P (At (Seize held found)))
+      → (is_locked (form_at held) found ≡ false → sees (form_at held) seen found ≡ true
+      → P (At (locks_at held (Seize found))))
       → (is_locked (form_at held) found ≡ false → sees (form_at held) seen found ≡ false
       → P (give_back places held 0 found))
-      → P (lock_after places seen (Peek held) found)
+      → P (lock_after places seen held Peek found)
   peek_goes seen held found locked free newer =
       by_test P (is_locked (form_at held) found) _ _ locked
       (λ e. by_test P (sees (form_at held) seen found) _ _ (free e) (newer e))
 
   pub seize_goes : (seen held : List ℕ) (header found : ℕ)
       → (found ≡ header → length (held ++ header ∷ []) ≡ length places → P (Over (lock_end.Held (held ++ header ∷ []))))
-      → (found ≡ header → length (held ++ header ∷ []) ≢ length places → P (At (Peek (held ++ header ∷ []))))
+      → (found ≡ header → length (held ++ header ∷ []) ≢ length places → P (At (locks_at (held ++ header ∷ []) Peek)))
       → (found ≢ header → P (give_back places held 0 found))
-      → P (lock_after places seen (Seize held header) found)
+      → P (lock_after places seen held (Seize header) found)
   seize_goes seen held header found last next lost =
       by_equal P found header _ _
       (λ e. by_equal P (length (held ++ header ∷ [])) (length places) _ _ (last e) (next e)) lost

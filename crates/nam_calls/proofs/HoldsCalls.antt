@@ -24,6 +24,7 @@ use Rattle.nam_calls.specs.declared.lock.LockEnd.TheVariants.{Locked, Newer}
 use Rattle.nam_calls.specs.declared.lock.LockEnd.{LockEnd}
 use Rattle.nam_calls.specs.declared.lock.LockPoint.TheVariants.{GiveBack, Peek, Seize}
 use Rattle.nam_calls.specs.declared.lock.LockPoint.{LockPoint}
+use Rattle.nam_calls.specs.declared.lock.Locks.{Locks}
 use Rattle.nam_calls.specs.declared.mover.MoveAnswer.{MoveAnswer}
 use Rattle.nam_calls.specs.declared.mover.MovePoint.TheVariants.{MoveAgain, MoveBack, MoveClaim, MoveCount, MoveEnding}
 use Rattle.nam_calls.specs.declared.mover.MovePoint.TheVariants.{MoveFill, MoveFlag, MoveFull, MoveHead, MoveWords}
@@ -52,11 +53,11 @@ use Rattle.nam_calls.specs.declared.ring.RingPoint.{RingPoint}
 use Rattle.nam_calls.specs.declared.ring.SearchEnd.TheVariants.{Found, NotThere}
 use Rattle.nam_calls.specs.declared.ring.SearchEnd.{SearchEnd}
 use Rattle.nam_calls.specs.Holds.{AreWords, CellHolds, ClaimEndHolds, ClaimHolds, CollectHolds, CurrentEndHolds}
-use Rattle.nam_calls.specs.Holds.{CurrentHolds, HasWords, IsWord, LockEndHolds, LockHolds, MoveHolds, ReadHolds}
+use Rattle.nam_calls.specs.Holds.{CurrentHolds, HasWords, IsWord, LockEndHolds, LockHolds, LocksHold, MoveHolds, ReadHolds}
 use Rattle.nam_calls.specs.Holds.{HoldsNow, ReadingHolds, RingHolds, SearchHolds, SnapEndHolds, SnapHolds, VersionHolds}
 use Rattle.nam_calls.specs.Holds.{WritesWord}
 use Rattle.nam_calls.specs.Horizon.{collect_after, collect_next, collect_verb, entry_known}
-use Rattle.nam_calls.specs.Lock.{give_back, lock_after, lock_next, lock_verb, loss_of, nth_place}
+use Rattle.nam_calls.specs.Lock.{give_back, lock_after, lock_next, lock_verb, locks_at, loss_of, nth_place}
 use Rattle.nam_calls.specs.Mover.{move_after, move_verb, on_claim, on_fill}
 use Rattle.nam_calls.specs.Overflow.{cell_after, claim_after, claim_next, claim_verb, fill_begin, fill_verb, next_cell}
 use Rattle.nam_calls.specs.Reading.{on_cells, on_current, on_horizon, on_ring, on_unsure, read_after}
@@ -210,41 +211,42 @@ value_holds place got found h is =
 -- 3. Locks
 
 module _ (places : List Place) where
-  abbrev Locks : Now LockPoint LockEnd → Type 0
-  Locks = HoldsNow LockHolds LockEndHolds
+  abbrev LocksNow : Now Locks LockEnd → Type 0
+  LocksNow = HoldsNow LocksHold LockEndHolds
 
   loss_holds : (form : Form) (nth found : ℕ) → LockEndHolds (loss_of form nth found)
   loss_holds form nth found = either LockEndHolds (is_locked form found) (Locked nth found) (Newer nth found) tt tt
 
-  give_back_holds : (held : List ℕ) (given found : ℕ) → AreWords held → Locks (give_back places held given found)
+  give_back_holds : (held : List ℕ) (given found : ℕ) → AreWords held → LocksNow (give_back places held given found)
   give_back_holds held given found h =
-      either Locks (given == length held)
-      (Over (loss_of (nth_place places (length held)).form (length held) found)) (At (GiveBack held given found))
-      (loss_holds (nth_place places (length held)).form (length held) found) h
+      either LocksNow (given == length held)
+      (Over (loss_of (nth_place places (length held)).form (length held) found))
+      (At (locks_at held (GiveBack given found)))
+      (loss_holds (nth_place places (length held)).form (length held) found) (h, tt)
 
-  pub lock_holds : (seen : List ℕ) (at : LockPoint) (found : ℕ) → LockHolds at → IsWord found
-      → Locks (lock_after places seen at found)
-  lock_holds seen (Peek held) found h is =
+  pub lock_holds : (seen held : List ℕ) (at : LockPoint) (found : ℕ) → AreWords held → LockHolds at → IsWord found
+      → LocksNow (lock_after places seen held at found)
+  lock_holds seen held Peek found h p is =
       let form = (nth_place places (length held)).form in
-      either Locks (is_locked form found) (give_back places held 0 found)
-      (if sees form seen found then At (Seize held found) else give_back places held 0 found)
+      either LocksNow (is_locked form found) (give_back places held 0 found)
+      (if sees form seen found then At (locks_at held (Seize found)) else give_back places held 0 found)
       (give_back_holds held 0 found h)
-      (either Locks (sees form seen found) (At (Seize held found)) (give_back places held 0 found) (h, is)
-      (give_back_holds held 0 found h))
-  lock_holds seen (Seize held header) found h is =
-      let all = words_push held header h.0 h.1 in
-      either Locks (found == header) (lock_next places (held ++ header ∷ [])) (give_back places held 0 found)
-      (either Locks (length (held ++ header ∷ []) == length places) (Over (lock_end.Held (held ++ header ∷ [])))
-      (At (Peek (held ++ header ∷ []))) all all)
-      (give_back_holds held 0 found h.0)
-  lock_holds seen (GiveBack held given word) found h is = give_back_holds held (given + 1) word h
+      (either LocksNow (sees form seen found) (At (locks_at held (Seize found))) (give_back places held 0 found)
+      (h, is) (give_back_holds held 0 found h))
+  lock_holds seen held (Seize header) found h p is =
+      let all = words_push held header h p in
+      either LocksNow (found == header) (lock_next places (held ++ header ∷ [])) (give_back places held 0 found)
+      (either LocksNow (length (held ++ header ∷ []) == length places) (Over (lock_end.Held (held ++ header ∷ [])))
+      (At (locks_at (held ++ header ∷ []) Peek)) all (all, tt))
+      (give_back_holds held 0 found h)
+  lock_holds seen held (GiveBack given word) found h p is = give_back_holds held (given + 1) word h
 
-  pub lock_word : (worker : ℕ) (at : LockPoint) → worker ≤ MOST_WORKERS → LockHolds at
-      → WritesWord (lock_verb worker places at)
-  lock_word worker (Peek held) l h = tt
-  lock_word worker (Seize held header) l h =
-      locked_word (nth_place places (length held)).form worker header l h.1
-  lock_word worker (GiveBack held given found) l h = words_at held given h
+  pub lock_word : (worker : ℕ) (held : List ℕ) (at : LockPoint) → worker ≤ MOST_WORKERS → AreWords held
+      → LockHolds at → WritesWord (lock_verb worker places held at)
+  lock_word worker held Peek l h p = tt
+  lock_word worker held (Seize header) l h p =
+      locked_word (nth_place places (length held)).form worker header l p
+  lock_word worker held (GiveBack given found) l h p = words_at held given h
 
 -- 4. A move
 

@@ -129,6 +129,25 @@ module _ {S A : Type 0} (stands : S → Now (VerbAt Field) A) (after : S → ℕ
 
 -- 5. A part of a composed call: on says what follows what the part has come to
 
+-- where the rest of the call has something at hand beside, of which the part tells at each of its points what it is
+module _ {C S A P E : Type 0} (stands : S → Now (VerbAt Field) A) (after : S → ℕ → S) (verb : P → VerbAt Field)
+    (part : P → ℕ → Now P E) (on : C → Now P E → S) (hand : C → P → C)
+    (stands_in : (c : C) (place : P) → stands (on c (At place)) ≡ At (verb place))
+    (after_in : (c : C) (place : P) (found : ℕ)
+    → after (on c (At place)) found ≡ on (hand c place) (part place found))
+    (rest : E → Prog A) (goes_on : (c : C) (end : E) → IsProgram stands after (on c (Over end)) (rest end)) where
+  pub part_with : (c : C) (now : Now P E) (p : Prog E) → IsProgram (standing verb) (taking part) now p
+      → IsProgram stands after (on c now) (p >>= rest)
+  part_with c (Over end) (Ret answer) f =
+      let e : end ≡ answer = cc in subst (λ k. IsProgram stands after (on c (Over end)) (rest k)) e (goes_on c end)
+  part_with c (At place) (Ret answer) f = absurd (cc)
+  part_with c (Over end) (Do v next) f = absurd (cc)
+  part_with c (At place) (Do v next) f =
+      let here = f.0 in let same : verb place ≡ v = cc in
+      word_then (stands_in c place ∙ ap At same) λ found.
+      subst (λ call. IsProgram stands after call (next found >>= rest)) (sym (after_in c place found))
+      (part_with (hand c place) (part place found) (next found) (f.1 found))
+
 module _ {S A P E : Type 0} (stands : S → Now (VerbAt Field) A) (after : S → ℕ → S) (verb : P → VerbAt Field)
     (part : P → ℕ → Now P E) (on : Now P E → S)
     (stands_in : (place : P) → stands (on (At place)) ≡ At (verb place))
@@ -136,12 +155,6 @@ module _ {S A P E : Type 0} (stands : S → Now (VerbAt Field) A) (after : S →
     (goes_on : (end : E) → IsProgram stands after (on (Over end)) (rest end)) where
   pub part_is : (now : Now P E) (p : Prog E) → IsProgram (standing verb) (taking part) now p
       → IsProgram stands after (on now) (p >>= rest)
-  part_is (Over end) (Ret answer) f =
-      let e : end ≡ answer = cc in subst (λ k. IsProgram stands after (on (Over end)) (rest k)) e (goes_on end)
-  part_is (At place) (Ret answer) f = absurd (cc)
-  part_is (Over end) (Do v next) f = absurd (cc)
-  part_is (At place) (Do v next) f =
-      let here = f.0 in let same : verb place ≡ v = cc in
-      word_then (stands_in place ∙ ap At same) λ found.
-      subst (λ call. IsProgram stands after call (next found >>= rest)) (sym (after_in place found))
-      (part_is (part place found) (next found) (f.1 found))
+  part_is now p f =
+      part_with {C = Unit {0}} stands after verb part (λ c. on) (λ c place. c) (λ c. stands_in) (λ c. after_in) rest
+      (λ c. goes_on) tt now p f

@@ -111,11 +111,11 @@ pub claim_key_written : (path : Path) (at : ClaimKeyPoint)
 claim_key_written path (KeyLook passed) = refl
 claim_key_written path (KeyTake passed) = refl
 
-pub lock_written : (worker : ℕ) (places : List Place) (at : LockPoint)
-    → written_by (lock_verb worker places at) ≡ lock_writes places at
-lock_written worker places (Peek held) = refl
-lock_written worker places (Seize held header) = refl
-lock_written worker places (GiveBack held given found) = refl
+pub lock_written : (worker : ℕ) (places : List Place) (held : List ℕ) (at : LockPoint)
+    → written_by (lock_verb worker places held at) ≡ lock_writes places held at
+lock_written worker places held Peek = refl
+lock_written worker places held (Seize header) = refl
+lock_written worker places held (GiveBack given found) = refl
 
 pub copy_written : (place : Place) (count header : ℕ) (old : List ℕ) (ending : Stamp) (at : CopyPoint)
     → written_by (copy_verb place count header old ending at) ≡ copy_writes place count at

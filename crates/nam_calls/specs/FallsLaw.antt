@@ -27,7 +27,7 @@ use Rattle.nam_calls.specs.Ring.{slot_after, slot_left, copy_after, copy_left, r
 use Rattle.nam_calls.specs.Overflow.{cell_after, cell_left, claim_after, claim_left, fill_after, fill_left}
 use Rattle.nam_calls.specs.Mover.{move_after, move_left}
 use Rattle.nam_calls.specs.Horizon.{collect_after, collect_left, old_after, old_left}
-use Rattle.nam_calls.specs.Lock.{lock_after, lock_left, unlock_after, unlock_left}
+use Rattle.nam_calls.specs.Lock.{of_locks, lock_after, lock_left, unlock_after, unlock_left}
 use Rattle.nam_calls.specs.Reading.{sight_of, read_begin, read_after, read_left, read_most}
 use Rattle.nam_calls.specs.Fits.{IsOf, FindFits, FindEnds, ClaimKeyFits, ClaimKeyEnds, CurrentFits}
 use Rattle.nam_calls.specs.Fits.{CurrentEnds, WordsFit, WordsEnd, InstallFits, SlotEnds, CopyFits, RingFits}
@@ -111,11 +111,12 @@ OldLaw = (workers : ℕ) (seen : List ℕ) (worker found : ℕ) → IsOf workers
 
 -- what follows the locks takes at least one verb for each record
 abbrev pub LockLaw : Type 0
-LockLaw = (places : List Place) (rest : ℕ) → length places ≤ rest → (seen : List ℕ) (at : LockPoint) (found : ℕ)
-    → LockFits (length places) at
-    → FallsTo (LockFits (length places)) (LockEnds (length places)) (lock_left places rest) (after_locks rest)
-    (lock_left places rest at)
-    (lock_after places seen at found)
+LockLaw = (places : List Place) (rest : ℕ) → length places ≤ rest
+    → (seen held : List ℕ) (at : LockPoint) (found : ℕ) → LockFits (length places) held at
+    → FallsTo (of_locks (LockFits (length places))) (LockEnds (length places)) (of_locks (lock_left places rest))
+    (after_locks rest)
+    (lock_left places rest held at)
+    (lock_after places seen held at found)
 
 abbrev pub UnlockLaw : Type 0
 UnlockLaw = (places : List Place) (given : ℕ) → given < length places

@@ -201,10 +201,10 @@ ReadEnds sight Astray = Unit {0}
 
 -- 8. Locks of so many records
 
-abbrev pub LockFits : ℕ → LockPoint → Type 0
-LockFits records (Peek held) = length held < records
-LockFits records (Seize held header) = length held < records
-LockFits records (GiveBack held given found) = (length held < records) × (given < length held)
+abbrev pub LockFits : ℕ → List ℕ → LockPoint → Type 0
+LockFits records held Peek = length held < records
+LockFits records held (Seize header) = length held < records
+LockFits records held (GiveBack given found) = (length held < records) × (given < length held)
 
 abbrev pub LockEnds : ℕ → LockEnd → Type 0
 LockEnds records (Held held) = length held ≡ records

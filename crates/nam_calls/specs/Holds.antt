@@ -15,6 +15,7 @@ use Rattle.nam_calls.specs.declared.lock.LockEnd.TheVariants.{Held, Locked, Newe
 use Rattle.nam_calls.specs.declared.lock.LockEnd.{LockEnd}
 use Rattle.nam_calls.specs.declared.lock.LockPoint.TheVariants.{GiveBack, Peek, Seize}
 use Rattle.nam_calls.specs.declared.lock.LockPoint.{LockPoint}
+use Rattle.nam_calls.specs.declared.lock.Locks.{Locks}
 use Rattle.nam_calls.specs.declared.mover.MovePoint.TheVariants.{MoveAgain, MoveBack, MoveClaim, MoveEnding, MoveCount}
 use Rattle.nam_calls.specs.declared.mover.MovePoint.TheVariants.{MoveFill, MoveFlag, MoveFull, MoveHead, MoveWords}
 use Rattle.nam_calls.specs.declared.mover.MovePoint.{MovePoint}
@@ -120,9 +121,12 @@ ReadingHolds Astray = Unit {0}
 -- 4. Locks: the headers that are written back, and the one that is exchanged
 
 abbrev pub LockHolds : LockPoint → Type 0
-LockHolds (Peek held) = AreWords held
-LockHolds (Seize held header) = AreWords held × IsWord header
-LockHolds (GiveBack held given found) = AreWords held
+LockHolds Peek = Unit {0}
+LockHolds (Seize header) = IsWord header
+LockHolds (GiveBack given found) = Unit {0}
+
+abbrev pub LocksHold : Locks → Type 0
+LocksHold locks = AreWords locks.held × LockHolds locks.at
 
 abbrev pub LockEndHolds : LockEnd → Type 0
 LockEndHolds (Held held) = AreWords held

@@ -12,6 +12,7 @@ use Rattle.nam_layout.specs.declared.field.Field.{Field}
 use Rattle.nam_layout.specs.declared.field.Field.TheVariants as field
 use Rattle.nam_calls.specs.declared.lock.LockPoint.{LockPoint}
 use Rattle.nam_calls.specs.declared.lock.LockPoint.TheVariants.{Peek, Seize, GiveBack}
+use Rattle.nam_calls.specs.declared.lock.Locks.{Locks}
 use Rattle.nam_calls.specs.declared.lock.LockEnd.{LockEnd}
 use Rattle.nam_calls.specs.declared.lock.LockEnd.TheVariants.{Held, Locked, Newer}
 
@@ -22,56 +23,59 @@ nth_place places nth = slice_index_or places nth no_place
 abbrev pub header_field : Place → Field
 header_field place = field.Header place.row
 
--- 1. LockAll: record after record its header is read, and exchanged for the same with the lock
+-- 1. LockAll: record after record its header is read, and exchanged for the same with the lock. The headers of the
+-- locks that were taken stand beside the point.
+
+abbrev pub locks_at : List ℕ → LockPoint → Locks
+locks_at held at = record { held = held; at = at }
+
+-- what a function says of them and of the point, as one value
+abbrev pub of_locks {ℓ} : {A : Type ℓ} → (List ℕ → LockPoint → A) → Locks → A
+of_locks f locks = f locks.held locks.at
 
 abbrev pub lock_begin : LockPoint
-lock_begin = Peek []
+lock_begin = Peek
 
 -- the verb of each point, where headers have these names
-abbrev pub lock_verb_by : {W : Type 0} → (Place → W) → ℕ → List Place → LockPoint → VerbAt W
-lock_verb_by name worker places (Peek held) = ReadAt (name (nth_place places (length held)))
-lock_verb_by name worker places (Seize held header) =
+abbrev pub lock_verb_by : {W : Type 0} → (Place → W) → ℕ → List Place → List ℕ → LockPoint → VerbAt W
+lock_verb_by name worker places held Peek = ReadAt (name (nth_place places (length held)))
+lock_verb_by name worker places held (Seize header) =
     let place = nth_place places (length held) in
     ExchangeAt (name place) header (with_lock place.form worker header)
-lock_verb_by name worker places (GiveBack held given found) =
+lock_verb_by name worker places held (GiveBack given found) =
     WriteAt (name (nth_place places given)) (slice_index held given)
 
-abbrev pub lock_verb : ℕ → List Place → LockPoint → VerbAt Field
+abbrev pub lock_verb : ℕ → List Place → List ℕ → LockPoint → VerbAt Field
 lock_verb = lock_verb_by header_field
 
 -- what the header found in the way of the next lock says
 abbrev pub loss_of : Form → ℕ → ℕ → LockEnd
 loss_of form nth found = if is_locked form found then Locked nth found else Newer nth found
 
-abbrev pub give_back : List Place → List ℕ → ℕ → ℕ → Now LockPoint LockEnd
+abbrev pub give_back : List Place → List ℕ → ℕ → ℕ → Now Locks LockEnd
 give_back places held given found =
     if given == length held then Over (loss_of (nth_place places (length held)).form (length held) found)
-    else At (GiveBack held given found)
+    else At (locks_at held (GiveBack given found))
 
-abbrev pub lock_next : List Place → List ℕ → Now LockPoint LockEnd
-lock_next places held = if length held == length places then Over (Held held) else At (Peek held)
+abbrev pub lock_next : List Place → List ℕ → Now Locks LockEnd
+lock_next places held = if length held == length places then Over (Held held) else At (locks_at held Peek)
 
-abbrev pub lock_after : List Place → List ℕ → LockPoint → ℕ → Now LockPoint LockEnd
-lock_after places seen (Peek held) found =
+-- one header more is held exactly where an exchange found what it expected
+abbrev pub lock_after : List Place → List ℕ → List ℕ → LockPoint → ℕ → Now Locks LockEnd
+lock_after places seen held Peek found =
     let form = (nth_place places (length held)).form in
     if is_locked form found then give_back places held 0 found
-    else if sees form seen found then At (Seize held found)
+    else if sees form seen found then At (locks_at held (Seize found))
     else give_back places held 0 found
-lock_after places seen (Seize held header) found =
+lock_after places seen held (Seize header) found =
     if found == header then lock_next places (held ++ header ∷ []) else give_back places held 0 found
-lock_after places seen (GiveBack held given found) word = give_back places held (given + 1) found
-
--- the headers of the records that it holds, and of those that it gives back
-abbrev pub taken : LockPoint → List ℕ
-taken (Peek held) = held
-taken (Seize held header) = held
-taken (GiveBack held given found) = held
+lock_after places seen held (GiveBack given found) word = give_back places held (given + 1) found
 
 -- what follows the locks takes no more than rest, which is no less than the number of records
-abbrev pub lock_left : List Place → ℕ → LockPoint → ℕ
-lock_left places rest (Peek held) = 2 * (length places - length held) + rest
-lock_left places rest (Seize held header) = 2 * (length places - length held) - 1 + rest
-lock_left places rest (GiveBack held given found) = length held - given
+abbrev pub lock_left : List Place → ℕ → List ℕ → LockPoint → ℕ
+lock_left places rest held Peek = 2 * (length places - length held) + rest
+lock_left places rest held (Seize header) = 2 * (length places - length held) - 1 + rest
+lock_left places rest held (GiveBack given found) = length held - given
 
 -- 2. UnlockAll: the point is the number of headers written back
 

@@ -39,10 +39,10 @@ claim_key_writes path (KeyTake passed) = Some (nth_key path passed)
 claim_key_writes path _ = None
 
 -- the header of the next record, or of one that is given back
-abbrev pub lock_writes : List Place → LockPoint → Option Field
-lock_writes places (Seize held header) = Some (header_field (nth_place places (length held)))
-lock_writes places (GiveBack held given found) = Some (header_field (nth_place places given))
-lock_writes places _ = None
+abbrev pub lock_writes : List Place → List ℕ → LockPoint → Option Field
+lock_writes places held (Seize header) = Some (header_field (nth_place places (length held)))
+lock_writes places held (GiveBack given found) = Some (header_field (nth_place places given))
+lock_writes places held _ = None
 
 -- the words of the slot that a version is copied into
 abbrev pub copy_writes : Place → ℕ → CopyPoint → Option Field

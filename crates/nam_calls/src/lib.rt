@@ -28,7 +28,7 @@ pub use laws_memory::memory_law;
 pub use laws_programs::{
     claim_program_law, collect_program_law, move_program_law, read_program_law,
 };
-pub use lock::{LockEnd, LockPoint};
+pub use lock::{LockEnd, LockPoint, Locks};
 pub use mover::{MoveAnswer, MovePoint};
 pub use overflow::{CellPoint, ClaimEnd, ClaimPoint, FillPoint, Version};
 pub use reading::{ReadPoint, ReadingEnd, Sight};

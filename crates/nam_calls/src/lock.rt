@@ -4,24 +4,22 @@ ghost use Rattle.std.specs.Prelude.{◌≡◌};
 
 use lists::ShortList;
 
-/// Where the locking stands. It holds the first records, whose headers were these.
-#[derive(Debug, Drop)]
+/// Where the locking stands.
+#[derive(Clone, Copy, Debug, PartialEq, Eq)]
 pub enum LockPoint {
     /// Read the header of the next record.
-    Peek {
-        held: ShortList<u64, 16>,
-    },
+    Peek,
     /// Exchange it for the same with the lock.
-    Seize {
-        held: ShortList<u64, 16>,
-        header: u64,
-    },
+    Seize { header: u64 },
     /// Write the header of a held record back, since the next record's header is this one.
-    GiveBack {
-        held: ShortList<u64, 16>,
-        given: u32,
-        found: u64,
-    },
+    GiveBack { given: u32, found: u64 },
+}
+
+/// A locking that goes on: it holds the first records, whose headers were these, and stands here.
+#[derive(Debug, Drop)]
+pub struct Locks {
+    pub held: ShortList<u64, 16>,
+    pub at: LockPoint,
 }
 
 /// How the locking ended.

@@ -18,7 +18,7 @@ use Rattle.nam_header.specs.Stamp.{with_lock}
 use Rattle.nam_calls.specs.declared.lock.LockPoint.{LockPoint}
 use Rattle.nam_calls.specs.declared.lock.LockPoint.TheVariants.{Peek, Seize, GiveBack}
 use Rattle.nam_calls.specs.declared.lock.LockEnd.TheVariants.{Held}
-use Rattle.nam_calls.specs.Lock.{nth_place, header_field, lock_verb_by, lock_verb, lock_next, unlock_verb_by}
+use Rattle.nam_calls.specs.Lock.{locks_at, of_locks, nth_place, header_field, lock_verb_by, lock_verb, lock_next, unlock_verb_by}
 use Rattle.nam_calls.specs.Lock.{unlock_verb, unlock_begin}
 use Rattle.nam_calls.specs.Fits.{LockFits, LockEnds}
 use Rattle.nam_calls.proofs.FallsLocks.{unlock_falls}
@@ -42,30 +42,32 @@ module _ (shape : Shape) (rows : List ℕ) (are : All (IsRow shape) rows) where
 
   -- 1. Locking
 
-  lock_at_field : (worker : ℕ) (at : LockPoint) → LockFits (length places) at
-      → IsAtField shape (lock_verb_by (λ place. place) worker places at) (lock_verb worker places at)
-  lock_at_field worker (Peek held) fits =
+  lock_at_field : (worker : ℕ) (held : List ℕ) (at : LockPoint) → LockFits (length places) held at
+      → IsAtField shape (lock_verb_by (λ place. place) worker places held at) (lock_verb worker places held at)
+  lock_at_field worker held Peek fits =
       let has = has_header (length held) fits in record { same = ap Read has.0; is_field = has.1 }
-  lock_at_field worker (Seize held header) fits =
+  lock_at_field worker held (Seize header) fits =
       let has = has_header (length held) fits in
       let word = with_lock (nth_place places (length held)).form worker header in
       record { same = ap (λ n. Exchange n header word) has.0; is_field = has.1 }
-  lock_at_field worker (GiveBack held given found) fits =
+  lock_at_field worker held (GiveBack given found) fits =
       let has = has_header given (omega (arith, fits.0, fits.1)) in
       record { same = ap (λ n. Write n (slice_index held given)) has.0; is_field = has.1 }
 
-  lock_begins : FitsNow (LockFits (length places)) (lock_next places [])
+  lock_begins : FitsNow (of_locks (LockFits (length places))) (lock_next places [])
   lock_begins =
-      by_test (FitsNow (LockFits (length places))) (length {A = ℕ} [] == length places) (Over (Held [])) (At (Peek []))
-      (λ none. tt) (λ some. grind (arith, nat_tests))
+      by_test (FitsNow (of_locks (LockFits (length places)))) (length {A = ℕ} [] == length places) (Over (Held []))
+      (At (locks_at [] Peek)) (λ none. tt) (λ some. grind (arith, nat_tests))
 
   pub locks_at_fields : (worker : ℕ) (seen : List ℕ)
-      → Always (λ at. IsAtField shape (lock_verb_by (λ place. place) worker places at) (lock_verb worker places at))
+      → Always (λ locks. IsAtField shape (of_locks (lock_verb_by (λ place. place) worker places) locks)
+      (of_locks (lock_verb worker places) locks))
       (lock.running (lock.locking worker places seen))
   locks_at_fields worker seen =
-      holds_always (LockFits (length places)) (LockEnds (length places))
+      holds_always (of_locks (LockFits (length places))) (LockEnds (length places))
       (lock.running (lock.locking worker places seen))
-      (λ at fits found. word_falls places seen found at fits) _ lock_begins (lock_at_field worker)
+      (λ locks fits found. word_falls places seen found locks.held locks.at fits) _ lock_begins
+      (λ locks fits. lock_at_field worker locks.held locks.at fits)
 
   -- 2. Writing back
 

@@ -14,23 +14,23 @@ use Rattle.nam_verbs.proofs.StepsLemmas.{verbs_are, does_verbs}
 use Rattle.nam_verbs.proofs.TestLemmas.{by_test, by_equal}
 use Rattle.nam_header.specs.Stamp.{sees, is_locked}
 use Rattle.nam_layout.specs.declared.field.Place.{Place}
-use Rattle.nam_calls.specs.declared.lock.LockPoint.{LockPoint}
+use Rattle.nam_calls.specs.declared.lock.Locks.{Locks}
 use Rattle.nam_calls.specs.declared.lock.LockPoint.TheVariants.{Peek, Seize, GiveBack}
 use Rattle.nam_calls.specs.declared.lock.LockEnd.{LockEnd}
 use Rattle.nam_calls.specs.declared.lock.LockEnd.TheVariants.{Held, Locked, Newer}
-use Rattle.nam_calls.specs.Lock.{lock_verb_by, lock_next, lock_after, loss_of, give_back}
+use Rattle.nam_calls.specs.Lock.{locks_at, of_locks, lock_verb_by, lock_next, lock_after, loss_of, give_back}
 use Rattle.nam_lock.specs.LockingLaw.{header_of, form_at, IsLocked, IsUnlocked, IsUnseen, IsFree, AreFree}
 use Rattle.nam_lock.specs.LockingLaw.{tried_lock, locks_from, ReadsTaken, LosesExchange, GivesBack, MissesLock}
 use Rattle.nam_lock.specs.LockingLaw.{IsLockingOf}
 
 module _ {W : Type 0} (name : Place → W) (worker : ℕ) (places : List Place) (seen : List ℕ) where
-  abbrev verb : LockPoint → VerbAt W
-  verb = lock_verb_by name worker places
+  abbrev verb : Locks → VerbAt W
+  verb = of_locks (lock_verb_by name worker places)
 
-  abbrev after : LockPoint → ℕ → Now LockPoint LockEnd
-  after = lock_after places seen
+  abbrev after : Locks → ℕ → Now Locks LockEnd
+  after = of_locks (lock_after places seen)
 
-  abbrev EndsFrom : Now LockPoint LockEnd → List (Step W) → LockEnd → Type 0
+  abbrev EndsFrom : Now Locks LockEnd → List (Step W) → LockEnd → Type 0
   EndsFrom now steps end = Ends verb after now steps end
 
   abbrev read_of : ℕ → ℕ → Step W
@@ -56,7 +56,7 @@ module _ {W : Type 0} (name : Place → W) (worker : ℕ) (places : List Place) 
   Given = GivesBack name worker places seen
 
   -- where it begins to give back, what it writes then, and how it ends
-  abbrev missed_by : List ℕ → ℕ → Now LockPoint LockEnd
+  abbrev missed_by : List ℕ → ℕ → Now Locks LockEnd
   missed_by held found = give_back places held 0 found
 
   abbrev writes : List ℕ → List (VerbAt W)
@@ -68,24 +68,24 @@ module _ {W : Type 0} (name : Place → W) (worker : ℕ) (places : List Place) 
   -- 1. Each word that was found, and what follows it
 
   peek_free : (held : List ℕ) (word : ℕ) → Free (length held) word
-      → after (Peek held) word ≡ At (Seize held word)
+      → after (locks_at held Peek) word ≡ At (locks_at held (Seize word))
   peek_free held word free = let unlocked = free.0 in let visible = free.1 in rw (unlocked, visible) refl
 
   peek_taken : (held : List ℕ) (found : ℕ)
       → IsLocked places (length held) found ⊎ IsUnseen places seen (length held) found
-      → after (Peek held) found ≡ missed_by held found
+      → after (locks_at held Peek) found ≡ missed_by held found
   peek_taken held found (inl taken) = rw taken refl
   peek_taken held found (inr unseen) =
       let form = form_at places (length held) in
       by_test (λ now. now ≡ missed_by held found) (is_locked form found) (missed_by held found)
-      (if sees form seen found then At (Seize held found) else missed_by held found) (λ taken. refl)
+      (if sees form seen found then At (locks_at held (Seize found)) else missed_by held found) (λ taken. refl)
       (λ unlocked. rw unseen refl)
 
-  seize_same : (held : List ℕ) (header : ℕ) → after (Seize held header) header ≡ lock_next places (held ++ header ∷ [])
+  seize_same : (held : List ℕ) (header : ℕ) → after (locks_at held (Seize header)) header ≡ lock_next places (held ++ header ∷ [])
   seize_same held header = let same : (header == header) ≡ true = grind (arith, nat_tests) in rw same refl
 
   seize_other : (held : List ℕ) (header found : ℕ) → found ≢ header
-      → after (Seize held header) found ≡ missed_by held found
+      → after (locks_at held (Seize header)) found ≡ missed_by held found
   seize_other held header found differs =
       let other : (found == header) ≡ false = grind (arith, nat_tests) in rw other refl
 
@@ -93,7 +93,7 @@ module _ {W : Type 0} (name : Place → W) (worker : ℕ) (places : List Place) 
   next_last held full =
       let last : (length held == length places) ≡ true = grind (arith, nat_tests) in rw last refl
 
-  next_more : (held : List ℕ) → length held < length places → lock_next places held ≡ At (Peek held)
+  next_more : (held : List ℕ) → length held < length places → lock_next places held ≡ At (locks_at held Peek)
   next_more held more =
       let other : (length held == length places) ≡ false = grind (arith, nat_tests) in rw other refl
 
@@ -104,9 +104,9 @@ module _ {W : Type 0} (name : Place → W) (worker : ℕ) (places : List Place) 
       let held = header ∷ headers in
       let some : (0 == length held) ≡ false = grind (arith, nat_tests) in
       let end = loss held found in
-      let all = writes_words verb after (header_of name places) held (λ given. GiveBack held given found) (Over end)
+      let all = writes_words verb after (header_of name places) held (λ given. locks_at held (GiveBack given found)) (Over end)
       (λ nth. refl) (λ nth word. refl) [] end refl (omega arith) in
-      rw some (subst (λ verbs. Does verb after (At (GiveBack held 0 found)) verbs (loss held found))
+      rw some (subst (λ verbs. Does verb after (At (locks_at held (GiveBack 0 found))) verbs (loss held found))
       (append-nil (writes held)) all)
 
   -- 2. What steps tell of the end
@@ -180,14 +180,14 @@ module _ {W : Type 0} (name : Place → W) (worker : ℕ) (places : List Place) 
       → From held (length held) rest end
 
   from_seize : (held : List ℕ) (header : ℕ) (steps : List (Step W)) (end : LockEnd) → length held < length places
-      → Free (length held) header → Continues (held ++ header ∷ []) → EndsFrom (At (Seize held header)) steps end
+      → Free (length held) header → Continues (held ++ header ∷ []) → EndsFrom (At (locks_at held (Seize header))) steps end
       → From held (length held) (read_of (length held) header ∷ steps) end
   from_seize held header [] end within free continues ends = absurd ends
   from_seize held header (step ∷ steps) end within free continues ends =
       let n = length held in
       let found = step.found in
       let is : step ≡ try_of n header found = step_of _ step ends.0 in
-      let Claim = λ (now : Now LockPoint LockEnd). EndsFrom now steps end
+      let Claim = λ (now : Now Locks LockEnd). EndsFrom now steps end
       → From held n (read_of n header ∷ step ∷ steps) end in
       by_equal Claim found header (lock_next places (held ++ header ∷ [])) (missed_by held found)
       (λ same goes.
@@ -200,21 +200,21 @@ module _ {W : Type 0} (name : Place → W) (worker : ℕ) (places : List Place) 
       ends.1
 
   from_peek : (held : List ℕ) → length held < length places → ((header : ℕ) → Continues (held ++ header ∷ []))
-      → (steps : List (Step W)) (end : LockEnd) → EndsFrom (At (Peek held)) steps end
+      → (steps : List (Step W)) (end : LockEnd) → EndsFrom (At (locks_at held Peek)) steps end
       → From held (length held) steps end
   from_peek held within continues [] end ends = absurd ends
   from_peek held within continues (step ∷ steps) end ends =
       let n = length held in
       let found = step.found in
       let is : step ≡ read_of n found = step_of _ step ends.0 in
-      let Claim = λ (now : Now LockPoint LockEnd). EndsFrom now steps end → From held n (step ∷ steps) end in
+      let Claim = λ (now : Now Locks LockEnd). EndsFrom now steps end → From held n (step ∷ steps) end in
       let misses : IsLocked places n found ⊎ IsUnseen places seen n found → Claim (missed_by held found) =
       λ why goes. misses_here held found (step ∷ []) steps end within (inl (rw (← is) refl, why)) goes in
       by_test Claim (is_locked (form_at places n) found) (missed_by held found)
-      (if sees (form_at places n) seen found then At (Seize held found) else missed_by held found)
+      (if sees (form_at places n) seen found then At (locks_at held (Seize found)) else missed_by held found)
       (λ taken. misses (inl taken))
       (λ unlocked.
-      by_test Claim (sees (form_at places n) seen found) (At (Seize held found)) (missed_by held found)
+      by_test Claim (sees (form_at places n) seen found) (At (locks_at held (Seize found))) (missed_by held found)
       (λ visible goes. rw is (from_seize held found steps end within (unlocked, visible) (continues found) goes))
       (λ unseen. misses (inr unseen)))
       ends.1
@@ -229,7 +229,7 @@ module _ {W : Type 0} (name : Place → W) (worker : ℕ) (places : List Place) 
 
   from_more : (more : ℕ) (held : List ℕ) → length held + suc more ≡ length places
       → (steps : List (Step W)) (end : LockEnd)
-      → EndsFrom (At (Peek held)) steps end → From held (length held) steps end
+      → EndsFrom (At (locks_at held Peek)) steps end → From held (length held) steps end
   from_more zero held count =
       from_peek held (omega arith) (λ header rest end goes.
       let all = held ++ header ∷ [] in
@@ -245,14 +245,14 @@ module _ {W : Type 0} (name : Place → W) (worker : ℕ) (places : List Place) 
   from_start : (steps : List (Step W)) (end : LockEnd) → EndsFrom (lock_next places []) steps end → From [] 0 steps end
   from_start steps end =
       by_equal (λ now. EndsFrom now steps end → From [] 0 steps end) (length {A = ℕ} []) (length places)
-      (Over (Held [])) (At (Peek [])) (λ none goes. all_held [] steps end none goes)
+      (Over (Held [])) (At (locks_at [] Peek)) (λ none goes. all_held [] steps end none goes)
       (λ some goes. from_more (length places - 1) [] (omega arith) steps end goes)
 
   -- 4. By steps it ends so
 
   ends_missed : (held : List ℕ) (found : ℕ) (last back : List (Step W)) (end : LockEnd)
       → Misses (length held) found last
-      → verbs_of back ≡ writes held → end ≡ loss held found → EndsFrom (At (Peek held)) (last ++ back) end
+      → verbs_of back ≡ writes held → end ≡ loss held found → EndsFrom (At (locks_at held Peek)) (last ++ back) end
   ends_missed held found last back end missed written ending =
       let ends = does_verbs verb after (missed_by held found) (writes held) (loss held found) (gives_back held found)
       back end written ending in
@@ -271,7 +271,7 @@ module _ {W : Type 0} (name : Place → W) (worker : ℕ) (places : List Place) 
       ]
 
   ends_given : (held : List ℕ) (nth found : ℕ) (steps : List (Step W)) (end : LockEnd) → Given held nth found steps
-      → end ≡ loss_of (form_at places nth) nth found → EndsFrom (At (Peek held)) steps end
+      → end ≡ loss_of (form_at places nth) nth found → EndsFrom (At (locks_at held Peek)) steps end
   ends_given held nth found steps end given ending =
       let missed = subst (λ n. Misses n found given.last) (sym given.before) given.missed in
       rw given.steps_are (ends_missed held found given.last given.back end missed given.written
@@ -297,7 +297,7 @@ module _ {W : Type 0} (name : Place → W) (worker : ℕ) (places : List Place) 
 
   ends_peek : (held : List ℕ) (later : List (Step W)) (end : LockEnd) → length held < length places
       → Finish held later end
-      → EndsFrom (At (Peek held)) later end
+      → EndsFrom (At (locks_at held Peek)) later end
   ends_peek held later (Held all) within finish = absurd (omega (arith, finish.2))
   ends_peek held later (Locked nth found) within finish =
       let taken = finish.1 in ends_given held nth found later (Locked nth found) finish.0 (rw taken refl)
@@ -306,7 +306,7 @@ module _ {W : Type 0} (name : Place → W) (worker : ℕ) (places : List Place) 
 
   ends_more : (headers held : List ℕ) (later : List (Step W)) (end : LockEnd) → length held < length places
       → AreFree places seen (length held) headers → Finish (held ++ headers) later end
-      → EndsFrom (At (Peek held)) (locks (length held) headers ++ later) end
+      → EndsFrom (At (locks_at held Peek)) (locks (length held) headers ++ later) end
   ends_more [] held later end within free finish = ends_peek held later end within (rw append-nil at finish)
   ends_more (header ∷ headers) held later end within free finish =
       let n = length held in
@@ -317,7 +317,7 @@ module _ {W : Type 0} (name : Place → W) (worker : ℕ) (places : List Place) 
       let most = few (more ++ headers) later end all in
       let both = length-append more headers in
       let goes = by_equal (λ now. EndsFrom now (rest (length more)) end) (length more) (length places)
-      (Over (Held more)) (At (Peek more)) (λ full. ends_over headers more later end full all)
+      (Over (Held more)) (At (locks_at more Peek)) (λ full. ends_over headers more later end full all)
       (λ further. ends_more headers more later end (omega arith)
       (subst (λ m. AreFree places seen m headers) (sym long) free.1) all) in
       let ends = subst (λ m. EndsFrom (lock_next places more) (rest m) end) long goes in
@@ -328,7 +328,7 @@ module _ {W : Type 0} (name : Place → W) (worker : ℕ) (places : List Place) 
   ends_start : (steps : List (Step W)) (end : LockEnd) → From [] 0 steps end → EndsFrom (lock_next places []) steps end
   ends_start steps end from =
       rw from.steps_are (by_equal (λ now. EndsFrom now (locks 0 from.headers ++ from.later) end)
-      (length {A = ℕ} []) (length places) (Over (Held [])) (At (Peek []))
+      (length {A = ℕ} []) (length places) (Over (Held [])) (At (locks_at [] Peek))
       (λ none. ends_over from.headers [] from.later end none from.finish)
       (λ some. ends_more from.headers [] from.later end (omega arith) from.free from.finish))
 

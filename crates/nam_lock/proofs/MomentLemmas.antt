@@ -18,10 +18,11 @@ use Rattle.nam_verbs.proofs.TestLemmas.{by_test, by_equal}
 use Rattle.nam_header.specs.Stamp.{sees, is_locked}
 use Rattle.nam_layout.specs.declared.field.Place.{Place}
 use Rattle.nam_calls.specs.declared.lock.LockPoint.{LockPoint}
+use Rattle.nam_calls.specs.declared.lock.Locks.{Locks}
 use Rattle.nam_calls.specs.declared.lock.LockPoint.TheVariants.{Peek, Seize, GiveBack}
 use Rattle.nam_calls.specs.declared.lock.LockEnd.{LockEnd}
 use Rattle.nam_calls.specs.declared.lock.LockEnd.TheVariants.{Held, Locked, Newer}
-use Rattle.nam_calls.specs.Lock.{lock_verb_by, lock_next, lock_after, lock_left, loss_of, give_back}
+use Rattle.nam_calls.specs.Lock.{locks_at, of_locks, lock_verb_by, lock_next, lock_after, lock_left, loss_of, give_back}
 use Rattle.nam_lock.specs.Locking.{running}
 use Rattle.nam_lock.specs.LockingLaw.{header_of, form_at, IsFree, AreFree}
 use Rattle.nam_lock.specs.LockingLaw.{tried_lock, locks_from, ReadsTaken, LosesExchange, MissesLock, IsLockingOf}
@@ -60,29 +61,29 @@ writes_more at (word ∷ words) nth (suc given) last within is =
 -- 2. The steps that led to each point
 
 module _ {W : Type 0} (name : Place → W) (worker : ℕ) (places : List Place) (seen : List ℕ) where
-  abbrev verb : LockPoint → VerbAt W
-  verb = lock_verb_by name worker places
+  abbrev verb : Locks → VerbAt W
+  verb = of_locks (lock_verb_by name worker places)
 
-  abbrev after : LockPoint → ℕ → Now LockPoint LockEnd
-  after = lock_after places seen
+  abbrev after : Locks → ℕ → Now Locks LockEnd
+  after = of_locks (lock_after places seen)
 
-  abbrev left : LockPoint → ℕ
-  left = lock_left places (length places)
+  abbrev left : Locks → ℕ
+  left = of_locks (lock_left places (length places))
 
-  abbrev call : Now LockPoint LockEnd → Running W LockPoint LockEnd
+  abbrev call : Now Locks LockEnd → Running W Locks LockEnd
   call state = record { address = λ w. 0; reach = 0; verb = verb; after = after; left = left; state = state }
 
-  abbrev machine : Now LockPoint LockEnd → Running Place LockPoint LockEnd
+  abbrev machine : Now Locks LockEnd → Running Place Locks LockEnd
   machine state = running (record { worker = worker; places = places; seen = seen; state = state })
 
   -- where it stands doesn't depend on the names of the headers
-  same_state : (now : Now LockPoint LockEnd) (words : List ℕ)
+  same_state : (now : Now Locks LockEnd) (words : List ℕ)
       → (after_words (call now) words).state ≡ (after_words (machine now) words).state
   same_state now [] = refl
   same_state (Over end) (word ∷ words) = same_state (Over end) words
   same_state (At at) (word ∷ words) = same_state (after at word) words
 
-  abbrev begins : Now LockPoint LockEnd
+  abbrev begins : Now Locks LockEnd
   begins = lock_next places []
 
   abbrev steps_so_far : List ℕ → List (Step W)
@@ -94,13 +95,13 @@ module _ {W : Type 0} (name : Place → W) (worker : ℕ) (places : List Place) 
   abbrev Given : List ℕ → ℕ → ℕ → List (Step W) → Type 0
   Given = GivenSoFar name worker places seen
 
-  abbrev Holds : LockPoint → List (Step W) → Type 0
-  Holds = LocksSoFar name worker places seen
+  abbrev Holds : Locks → List (Step W) → Type 0
+  Holds = of_locks (LocksSoFar name worker places seen)
 
-  abbrev HoldsNow : Now LockPoint LockEnd → List (Step W) → Type 0
+  abbrev HoldsNow : Now Locks LockEnd → List (Step W) → Type 0
   HoldsNow = past.HoldsNow verb after (λ w. 0) 0 left Holds
 
-  abbrev step_at : LockPoint → ℕ → Step W
+  abbrev step_at : Locks → ℕ → Step W
   step_at = past.step_at verb after
 
   -- it goes on to give back, or has given back all
@@ -108,7 +109,7 @@ module _ {W : Type 0} (name : Place → W) (worker : ℕ) (places : List Place) 
       → given ≤ length held → Given held given found steps → HoldsNow (give_back places held given found) steps
   back_holds held given found steps within least all =
       by_equal (λ now. HoldsNow now steps) given (length held)
-      (Over (loss_of (form_at places (length held)) (length held) found)) (At (GiveBack held given found))
+      (Over (loss_of (form_at places (length held)) (length held) found)) (At (locks_at held (GiveBack given found)))
       (λ last. tt) (λ more. (within, omega arith, all))
 
   -- a lock was missed
@@ -131,26 +132,27 @@ module _ {W : Type 0} (name : Place → W) (worker : ℕ) (places : List Place) 
   next_holds : (held : List ℕ) (steps : List (Step W)) → length held ≤ length places → AreFree places seen 0 held
       → steps ≡ locks held → HoldsNow (lock_next places held) steps
   next_holds held steps most free is =
-      by_equal (λ now. HoldsNow now steps) (length held) (length places) (Over (Held held)) (At (Peek held))
+      by_equal (λ now. HoldsNow now steps) (length held) (length places) (Over (Held held)) (At (locks_at held Peek))
       (λ last. tt) (λ more. (omega arith, free, is))
 
-  keeps : (at : LockPoint) (before : List (Step W)) → Holds at before → (found : ℕ)
-      → HoldsNow (after at found) (before ++ step_at at found ∷ [])
-  keeps (Peek held) before holds found =
+  keeps_at : (held : List ℕ) (at : LockPoint) (before : List (Step W)) → Holds (locks_at held at) before
+      → (found : ℕ)
+      → HoldsNow (after (locks_at held at) found) (before ++ step_at (locks_at held at) found ∷ [])
+  keeps_at held Peek before holds found =
       let n = length held in
       let step = saw (header_of name places n) found in
       let steps = before ++ step ∷ [] in
       let are : steps ≡ locks held ++ step ∷ [] = ap (λ all. all ++ step ∷ []) holds.2 in
       let form = form_at places n in
       let back = give_back places held 0 found in
-      let Claim = λ (now : Now LockPoint LockEnd). HoldsNow now steps in
-      by_test Claim (is_locked form found) back (if sees form seen found then At (Seize held found) else back)
+      let Claim = λ (now : Now Locks LockEnd). HoldsNow now steps in
+      by_test Claim (is_locked form found) back (if sees form seen found then At (locks_at held (Seize found)) else back)
       (λ taken. missed_holds held found (step ∷ []) steps holds.0 holds.1 (inl (refl, inl taken)) are)
       (λ unlocked.
-      by_test Claim (sees form seen found) (At (Seize held found)) back
+      by_test Claim (sees form seen found) (At (locks_at held (Seize found))) back
       (λ visible. (holds.0, holds.1, (unlocked, visible), are))
       (λ unseen. missed_holds held found (step ∷ []) steps holds.0 holds.1 (inl (refl, inr unseen)) are))
-  keeps (Seize held header) before holds found =
+  keeps_at held (Seize header) before holds found =
       let n = length held in
       let read = saw (header_of name places n) header in
       let step = tried_lock name places worker n header found in
@@ -169,8 +171,8 @@ module _ {W : Type 0} (name : Place → W) (worker : ℕ) (places : List Place) 
       ∙ sym (locks_more name places held worker 0 n header (omega arith))))
       (λ differs. missed_holds held found (read ∷ step ∷ []) steps holds.0 holds.1
       (inr (record { header = header; free = holds.2; differs = differs; steps_are = refl })) are)
-  keeps (GiveBack held given found) before holds word =
-      let step = step_at (GiveBack held given found) word in
+  keeps_at held (GiveBack given found) before holds word =
+      let step = step_at (locks_at held (GiveBack given found)) word in
       let so_far = holds.2 in
       let within = holds.1 in
       let wrote : verbs_of (so_far.back ++ step ∷ []) ≡ writes_of (header_of name places) (take (given + 1) held) =
@@ -188,7 +190,11 @@ module _ {W : Type 0} (name : Place → W) (worker : ℕ) (places : List Place) 
             ∙ append_assoc (locks held ++ so_far.last) so_far.back (step ∷ []);
       })
 
-  fits_now : (now : Now LockPoint LockEnd) (steps : List (Step W)) → HoldsNow now steps
+  keeps : (at : Locks) (before : List (Step W)) → Holds at before → (found : ℕ)
+      → HoldsNow (after at found) (before ++ step_at at found ∷ [])
+  keeps at = keeps_at at.held at.at
+
+  fits_now : (now : Now Locks LockEnd) (steps : List (Step W)) → HoldsNow now steps
       → FitsNow (λ at. Holds at steps) now
   fits_now (At at) steps holds = holds
   fits_now (Over end) steps holds = tt
@@ -273,20 +279,20 @@ module _ {W : Type 0} (name : Place → W) (worker : ℕ) (places : List Place) 
   changed_end (Locked nth found) steps both = changed_missed nth found steps both.0
   changed_end (Newer nth found) steps both = changed_missed nth found steps both.0
 
-  changed_at : (at : LockPoint) (steps : List (Step W)) → Holds at steps
-      → ChangedSoFar name worker places (At at) steps
-  changed_at (Peek held) steps holds =
+  changed_at : (held : List ℕ) (at : LockPoint) (steps : List (Step W)) → Holds (locks_at held at) steps
+      → ChangedSoFar name worker places (At (locks_at held at)) steps
+  changed_at held Peek steps holds =
       changed_locks held [] steps refl (holds.2 ∙ sym (append-nil (locks held)))
-  changed_at (Seize held header) steps holds =
+  changed_at held (Seize header) steps holds =
       changed_locks held (saw (header_of name places (length held)) header ∷ []) steps refl holds.3
-  changed_at (GiveBack held given found) steps holds =
+  changed_at held (GiveBack given found) steps holds =
       let so_far = holds.2 in
       changed_by held given so_far.last so_far.back steps
       (stored_none (length held) found so_far.last so_far.missed) so_far.written so_far.steps_are
 
-  changed_now : (now : Now LockPoint LockEnd) (steps : List (Step W)) → HoldsNow now steps
+  changed_now : (now : Now Locks LockEnd) (steps : List (Step W)) → HoldsNow now steps
       → past.Leads verb after begins steps now → ChangedSoFar name worker places now steps
-  changed_now (At at) steps holds leads = changed_at at steps holds
+  changed_now (At at) steps holds leads = changed_at at.held at.at steps holds
   changed_now (Over end) steps holds leads =
       changed_end end steps
       ((locking_ends name worker places seen steps end).0 (past.leads_to_end verb after begins steps end leads))

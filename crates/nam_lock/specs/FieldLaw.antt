@@ -7,7 +7,7 @@ use Rattle.nam_layout.specs.declared.field.Field.{Field}
 use Rattle.nam_layout.specs.declared.field.Place.{Place}
 use Rattle.nam_layout.specs.Address.{IsRow, IsField, address}
 use Rattle.nam_layout.specs.Place.{place_at}
-use Rattle.nam_calls.specs.Lock.{lock_verb_by, lock_verb, unlock_verb_by, unlock_verb}
+use Rattle.nam_calls.specs.Lock.{of_locks, lock_verb_by, lock_verb, unlock_verb_by, unlock_verb}
 use Rattle.nam_lock.specs.Headers.{header_address}
 use Rattle.nam_lock.specs.Locking.{locking}
 use Rattle.nam_lock.specs.Locking as lock
@@ -27,7 +27,8 @@ pub record IsAtField (shape : Shape) (verb : VerbAt Place) (at_field : VerbAt Fi
 abbrev pub LockingFieldLaw : Type 0
 LockingFieldLaw = (shape : Shape) (rows : List ℕ) → All (IsRow shape) rows → (worker : ℕ) (seen : List ℕ)
     → let places = places_of shape rows in
-    Always (λ at. IsAtField shape (lock_verb_by (λ place. place) worker places at) (lock_verb worker places at))
+    Always (λ locks. IsAtField shape (of_locks (lock_verb_by (λ place. place) worker places) locks)
+    (of_locks (lock_verb worker places) locks))
     (lock.running (locking worker places seen))
 
 abbrev pub UnlockingFieldLaw : Type 0

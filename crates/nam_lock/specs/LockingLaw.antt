@@ -7,7 +7,7 @@ use Rattle.nam_layout.specs.declared.field.Field.{Field}
 use Rattle.nam_layout.specs.declared.field.Place.{Place}
 use Rattle.nam_calls.specs.declared.lock.LockEnd.{LockEnd}
 use Rattle.nam_calls.specs.declared.lock.LockEnd.TheVariants.{Held, Locked, Newer}
-use Rattle.nam_calls.specs.Lock.{nth_place, header_field, lock_verb, lock_after, lock_next}
+use Rattle.nam_calls.specs.Lock.{of_locks, nth_place, header_field, lock_verb, lock_after, lock_next}
 use Rattle.nam_lock.specs.Locking.{locking, running}
 
 -- 1. Records by their numbers, and their headers
@@ -115,5 +115,5 @@ LockingLaw = (worker : ℕ) (places : List Place) (seen : List ℕ) (steps : Lis
 -- the same of the protocol's call, at the header fields of rows
 abbrev pub LockingAtFields : Type 0
 LockingAtFields = (worker : ℕ) (places : List Place) (seen : List ℕ) (steps : List (Step Field)) (end : LockEnd)
-    → Ends (lock_verb worker places) (lock_after places seen) (lock_next places []) steps end
+    → Ends (of_locks (lock_verb worker places)) (of_locks (lock_after places seen)) (lock_next places []) steps end
     ↔ IsLockingOf header_field worker places seen end steps

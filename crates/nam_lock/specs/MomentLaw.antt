@@ -10,10 +10,11 @@ use Rattle.nam_verbs.specs.SoFar.{steps_from, steps_by}
 use Rattle.nam_layout.specs.declared.field.Field.{Field}
 use Rattle.nam_layout.specs.declared.field.Place.{Place}
 use Rattle.nam_calls.specs.declared.lock.LockPoint.{LockPoint}
+use Rattle.nam_calls.specs.declared.lock.Locks.{Locks}
 use Rattle.nam_calls.specs.declared.lock.LockPoint.TheVariants.{Peek, Seize, GiveBack}
 use Rattle.nam_calls.specs.declared.lock.LockEnd.{LockEnd}
 use Rattle.nam_calls.specs.declared.lock.LockEnd.TheVariants.{Held, Locked, Newer}
-use Rattle.nam_calls.specs.Lock.{header_field, lock_verb, lock_after, lock_next, taken}
+use Rattle.nam_calls.specs.Lock.{of_locks, header_field, lock_verb, lock_after, lock_next}
 use Rattle.nam_header.specs.Stamp.{with_lock}
 use Rattle.nam_lock.specs.Locking.{locking, running}
 use Rattle.nam_lock.specs.LockingLaw.{form_at, IsFree, AreFree, header_of, locks_from, ReadsTaken, LosesExchange}
@@ -34,31 +35,32 @@ module _ {W : Type 0} (name : Place → W) (worker : ℕ) (places : List Place) 
     pub steps_are : steps ≡ (locks_from name places worker 0 held ++ last) ++ back
 
   -- the locks that were taken so far, and what was done after the last of them
-  abbrev pub LocksSoFar : LockPoint → List (Step W) → Type 0
-  LocksSoFar (Peek held) steps =
+  abbrev pub LocksSoFar : List ℕ → LockPoint → List (Step W) → Type 0
+  LocksSoFar held Peek steps =
       (length held < length places) × AreFree places seen 0 held × (steps ≡ locks_from name places worker 0 held)
-  LocksSoFar (Seize held header) steps =
+  LocksSoFar held (Seize header) steps =
       (length held < length places) × AreFree places seen 0 held × IsFree places seen (length held) header
       × (steps ≡ locks_from name places worker 0 held ++ saw (header_of name places (length held)) header ∷ [])
-  LocksSoFar (GiveBack held given found) steps =
+  LocksSoFar held (GiveBack given found) steps =
       (length held < length places) × (given < length held) × GivenSoFar held given found steps
 
 -- whatever words were found, these are the steps so far, until the locking has ended
 abbrev pub MomentLaw : Type 0
 MomentLaw = (worker : ℕ) (places : List Place) (seen words : List ℕ)
     → let call = running (locking worker places seen) in
-    FitsNow (λ at. LocksSoFar (λ place. place) worker places seen at (steps_by call words))
+    FitsNow (λ locks. of_locks (LocksSoFar (λ place. place) worker places seen) locks (steps_by call words))
     (after_words call words).state
 
 -- the steps by which the protocol's call takes these words, at the header fields of rows
 abbrev pub steps_at_fields : ℕ → List Place → List ℕ → List ℕ → List (Step Field)
 steps_at_fields worker places seen words =
-    steps_from (lock_verb worker places) (lock_after places seen) (lock_next places []) words
+    steps_from (of_locks (lock_verb worker places)) (of_locks (lock_after places seen)) (lock_next places []) words
 
 -- the same of the protocol's call, which stands where the machine does
 abbrev pub MomentAtFields : Type 0
 MomentAtFields = (worker : ℕ) (places : List Place) (seen words : List ℕ)
-    → FitsNow (λ at. LocksSoFar header_field worker places seen at (steps_at_fields worker places seen words))
+    → FitsNow (λ locks. of_locks (LocksSoFar header_field worker places seen) locks
+    (steps_at_fields worker places seen words))
     (after_words (running (locking worker places seen)) words).state
 
 -- 2. What was stored so far
@@ -102,13 +104,13 @@ module _ {W : Type 0} (name : Place → W) (worker : ℕ) (places : List Place) 
 
   -- how many headers were written back
   abbrev pub given_back : LockPoint → ℕ
-  given_back (Peek held) = 0
-  given_back (Seize held header) = 0
-  given_back (GiveBack held given found) = given
+  given_back Peek = 0
+  given_back (Seize header) = 0
+  given_back (GiveBack given found) = given
 
   -- an end without locks has given back each of them
-  abbrev pub ChangedSoFar : Now LockPoint LockEnd → List (Step W) → Type 0
-  ChangedSoFar (At at) steps = IsChanged (taken at) (given_back at) steps
+  abbrev pub ChangedSoFar : Now Locks LockEnd → List (Step W) → Type 0
+  ChangedSoFar (At locks) steps = IsChanged locks.held (given_back locks.at) steps
   ChangedSoFar (Over (Held held)) steps = IsChanged held 0 steps
   ChangedSoFar (Over (Locked nth found)) steps = (held : List ℕ) × (length held ≡ nth) × IsChanged held nth steps
   ChangedSoFar (Over (Newer nth found)) steps = (held : List ℕ) × (length held ≡ nth) × IsChanged held nth steps

@@ -5,7 +5,7 @@ use Rattle.nam_verbs.specs.declared.verb.Verb.TheVariants.{Exchange}
 use Rattle.nam_verbs.specs.Machine.{after_words}
 use Rattle.nam_verbs.specs.Running.{Running, next_verb, after_found}
 use Rattle.nam_layout.specs.declared.field.Place.{Place}
-use Rattle.nam_calls.specs.declared.lock.LockPoint.{LockPoint}
+use Rattle.nam_calls.specs.declared.lock.Locks.{Locks}
 use Rattle.nam_calls.specs.declared.lock.LockEnd.{LockEnd}
 use Rattle.nam_lock.specs.Locking.{locking, running, taken_by}
 
@@ -15,7 +15,7 @@ stored (Some (Exchange at expected new)) found = if found == expected then 1 els
 stored _ found = 0
 
 -- how many exchanges of a call find the word that they expect, where its verbs find these words
-abbrev pub exchanges : Running Place LockPoint LockEnd → List ℕ → ℕ
+abbrev pub exchanges : Running Place Locks LockEnd → List ℕ → ℕ
 exchanges call [] = 0
 exchanges call (word ∷ words) = stored (next_verb call) word + exchanges (after_found call word) words
 

@@ -15,5 +15,5 @@ mod unlock;
 
 pub use laws::{field_law, locking_law, taken_law, unlocking_law};
 pub use lock::{LockAll, lock_after, lock_begin, lock_left, lock_verb};
-pub use nam_calls::{LockEnd, LockPoint};
+pub use nam_calls::{LockEnd, LockPoint, Locks};
 pub use unlock::{UnlockAll, unlock_after, unlock_begin, unlock_left, unlock_verb};

@@ -12,7 +12,7 @@ ghost use Rattle.nam_lock.specs.Headers.{header_address, headers_end};
 ghost use Rattle.nam_lock.specs.Locking.{locking, running, taken_by};
 
 use lists::ShortList;
-use nam_calls::{LockEnd, LockPoint};
+use nam_calls::{LockEnd, LockPoint, Locks};
 use nam_catalog::Form;
 use nam_header::{is_locked, sees, with_lock};
 use nam_layout::Place;
@@ -25,34 +25,32 @@ use std::mem::replace;
 pub fn lock_begin() -> LockPoint
     ensures { result ≡ lock_begin }
 {
-    LockPoint::Peek {
-        held: ShortList::new(),
-    }
+    LockPoint::Peek
 }
 
-/// The verb that stands at a point.
+/// The verb that stands at a point, where locks are held under these headers.
 #[tactic(auto, using(crate::proofs::HeadersLemmas::is_below_end))]
-pub fn lock_verb(worker: u32, places: &[Place], at: &LockPoint) -> Verb
+pub fn lock_verb(worker: u32, places: &[Place], held: &[u64], at: LockPoint) -> Verb
     requires worker { worker ≤ 16 }
-    requires at { LockFits (length places.now) at.now }
-    ensures value { result ≡ verb_by header_address (lock_verb_by (λ place. place) worker places.now at.now) }
+    requires at { LockFits (length places.now) held.now at }
+    ensures value { result ≡ verb_by header_address (lock_verb_by (λ place. place) worker places.now held.now at) }
     ensures within { address_of result < headers_end places.now }
 {
     match at {
-        LockPoint::Peek { held } => Verb::Read {
+        LockPoint::Peek => Verb::Read {
             at: places[held.len()].header_at,
         },
-        LockPoint::Seize { held, header } => {
+        LockPoint::Seize { header } => {
             let place = places[held.len()];
             Verb::Exchange {
                 at: place.header_at,
-                expect: *header,
-                word: with_lock(place.form, worker, *header),
+                expect: header,
+                word: with_lock(place.form, worker, header),
             }
         }
-        LockPoint::GiveBack { held, given, .. } => Verb::Write {
-            at: places[*given as usize].header_at,
-            word: *held.at(*given as usize),
+        LockPoint::GiveBack { given, .. } => Verb::Write {
+            at: places[given as usize].header_at,
+            word: held[given as usize],
         },
     }
 }
@@ -74,25 +72,31 @@ fn give_back(
     held: ShortList<u64, 16>,
     given: u32,
     found: u64,
-) -> Now<LockPoint, LockEnd>
+) -> Now<Locks, LockEnd>
     requires { length held < length places.now }
     ensures { result ≡ give_back places.now held given found }
 {
     if given as usize == held.len() {
         Now::Over(loss_of(places[held.len()].form, given, found))
     } else {
-        Now::At(LockPoint::GiveBack { held, given, found })
+        Now::At(Locks {
+            held,
+            at: LockPoint::GiveBack { given, found },
+        })
     }
 }
 
 /// Goes on with the next record, or ends with all locks.
-fn lock_next(places: &[Place], held: ShortList<u64, 16>) -> Now<LockPoint, LockEnd>
+fn lock_next(places: &[Place], held: ShortList<u64, 16>) -> Now<Locks, LockEnd>
     ensures { result ≡ lock_next places.now held }
 {
     if held.len() == places.len() {
         Now::Over(LockEnd::Held(held))
     } else {
-        Now::At(LockPoint::Peek { held })
+        Now::At(Locks {
+            held,
+            at: LockPoint::Peek,
+        })
     }
 }
 
@@ -100,26 +104,27 @@ fn lock_next(places: &[Place], held: ShortList<u64, 16>) -> Now<LockPoint, LockE
 pub fn lock_after(
     places: &[Place],
     seen: &Snapshot,
-    at: LockPoint,
+    locks: Locks,
     found: u64,
-) -> Now<LockPoint, LockEnd>
+) -> Now<Locks, LockEnd>
     requires most { length places.now ≤ 16 }
-    requires at { LockFits (length places.now) at }
-    ensures { result ≡ lock_after places.now seen.now at found }
+    requires at { LockFits (length places.now) locks.held locks.at }
+    ensures { result ≡ lock_after places.now seen.now locks.held locks.at found }
 {
+    let Locks { mut held, at } = locks;
     match at {
-        LockPoint::Peek { held } => {
+        LockPoint::Peek => {
             let form = places[held.len()].form;
             if is_locked(form, found) || !sees(form, seen, found) {
                 give_back(places, held, 0, found)
             } else {
-                Now::At(LockPoint::Seize {
+                Now::At(Locks {
                     held,
-                    header: found,
+                    at: LockPoint::Seize { header: found },
                 })
             }
         }
-        LockPoint::Seize { mut held, header } => {
+        LockPoint::Seize { header } => {
             if found == header {
                 held.push(header);
                 lock_next(places, held)
@@ -127,22 +132,22 @@ pub fn lock_after(
                 give_back(places, held, 0, found)
             }
         }
-        LockPoint::GiveBack { held, given, found } => give_back(places, held, given + 1, found),
+        LockPoint::GiveBack { given, found } => give_back(places, held, given + 1, found),
     }
 }
 
 /// A number of verbs that are to come from a point at the most, where no more than `rest` follow the last lock.
-pub fn lock_left(places: &[Place], rest: u64, at: &LockPoint) -> u64
+pub fn lock_left(places: &[Place], rest: u64, held: &[u64], at: LockPoint) -> u64
     requires most { length places.now ≤ 16 }
     requires rest { rest < 2 ^ 32 }
-    requires at { LockFits (length places.now) at.now }
-    ensures { result ≡ lock_left places.now rest at.now }
+    requires at { LockFits (length places.now) held.now at }
+    ensures { result ≡ lock_left places.now rest held.now at }
 {
     let records = places.len() as u64;
     match at {
-        LockPoint::Peek { held } => 2 * (records - held.len() as u64) + rest,
-        LockPoint::Seize { held, .. } => 2 * (records - held.len() as u64) - 1 + rest,
-        LockPoint::GiveBack { held, given, .. } => held.len() as u64 - *given as u64,
+        LockPoint::Peek => 2 * (records - held.len() as u64) + rest,
+        LockPoint::Seize { .. } => 2 * (records - held.len() as u64) - 1 + rest,
+        LockPoint::GiveBack { given, .. } => held.len() as u64 - given as u64,
     }
 }
 
@@ -153,20 +158,21 @@ pub struct LockAll {
     worker: u32,
     places: ShortList<Place, 16>,
     seen: Snapshot,
-    state: Now<LockPoint, LockEnd>,
+    state: Now<Locks, LockEnd>,
 }
 
 impl Model for LockAll {
     ghost use Rattle.std.specs.Prelude.{◌≤◌, length};
     ghost use Rattle.nam_verbs.specs.Now.{FitsNow};
     ghost use Rattle.nam_calls.specs.Fits.{LockFits};
+    ghost use Rattle.nam_calls.specs.Lock.{of_locks};
     ghost use Rattle.nam_lock.specs.Locking.{Locking};
 
     ghost Value = { Locking };
 
     ghost view = { λ a. record { worker = a.worker; places = a.places; seen = a.seen; state = a.state } };
 
-    ghost invariant = { λ a. (a.worker ≤ 16) × (length a.places ≤ 16) × FitsNow (LockFits (length a.places)) a.state };
+    ghost invariant = { λ a. (a.worker ≤ 16) × (length a.places ≤ 16) × FitsNow (of_locks (LockFits (length a.places))) a.state };
 }
 
 impl LockAll {
@@ -195,10 +201,8 @@ impl LockAll {
         ensures { result ≡ taken_by self.now.state }
     {
         match &self.state {
-            Now::At(LockPoint::Peek { held })
-            | Now::At(LockPoint::Seize { held, .. })
-            | Now::At(LockPoint::GiveBack { held, .. })
-            | Now::Over(LockEnd::Held(held)) => held.len() as u32,
+            Now::At(locks) => locks.held.len() as u32,
+            Now::Over(LockEnd::Held(held)) => held.len() as u32,
             Now::Over(LockEnd::Locked { nth, .. } | LockEnd::Newer { nth, .. }) => *nth,
         }
     }
@@ -209,27 +213,37 @@ impl Machine for LockAll {
 
     type Word = Place;
 
-    type Point = LockPoint;
+    type Point = Locks;
 
     type End = LockEnd;
 
     ghost running = { running };
 
-    fn state(&self) -> &Now<LockPoint, LockEnd> {
+    fn state(&self) -> &Now<Locks, LockEnd> {
         &self.state
     }
 
-    fn verb_from(&self, place: &LockPoint) -> Verb {
-        lock_verb(self.worker, self.places.as_slice(), place)
+    fn verb_from(&self, locks: &Locks) -> Verb {
+        lock_verb(
+            self.worker,
+            self.places.as_slice(),
+            locks.held.as_slice(),
+            locks.at,
+        )
     }
 
-    fn left_from(&self, place: &LockPoint) -> u64 {
-        lock_left(self.places.as_slice(), self.places.len() as u64, place)
+    fn left_from(&self, locks: &Locks) -> u64 {
+        let places = self.places.as_slice();
+        lock_left(places, places.len() as u64, locks.held.as_slice(), locks.at)
     }
 
     fn take(&mut self, found: u64) {
-        self.state = match replace(&mut self.state, Now::At(lock_begin())) {
-            Now::At(place) => lock_after(self.places.as_slice(), &self.seen, place, found),
+        let begin = Locks {
+            held: ShortList::new(),
+            at: lock_begin(),
+        };
+        self.state = match replace(&mut self.state, Now::At(begin)) {
+            Now::At(locks) => lock_after(self.places.as_slice(), &self.seen, locks, found),
             Now::Over(end) => Now::Over(end),
         };
     }

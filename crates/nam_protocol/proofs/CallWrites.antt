@@ -29,7 +29,7 @@ use Rattle.nam_protocol.specs.Scan.{scan_verb}
 use Rattle.nam_protocol.specs.TxnCalls.{txn_verb}
 
 pub commit_written : (state : TxnState) (at : CommitPoint) → written_by (commit_verb state at) ≡ commit_writes state at
-commit_written state (Locking at) = lock_written state.worker (places state) at
+commit_written state (Locking at) = lock_written state.worker (places state) state.held at
 commit_written state (Checking at) = slot_reads (record_place state (length state.counts)) at
 commit_written state (Returning given full) = refl
 commit_written state (Saving nth got) = refl

@@ -18,7 +18,7 @@ use Rattle.nam_calls.specs.declared.ring.SlotPoint.{SlotPoint}
 use Rattle.nam_calls.specs.declared.ring.SlotEnd.{SlotEnd}
 use Rattle.nam_calls.specs.declared.ring.SlotEnd.TheVariants.{Free, NotMoved}
 use Rattle.nam_calls.specs.declared.ring.CopyPoint.{CopyPoint}
-use Rattle.nam_calls.specs.declared.lock.LockPoint.{LockPoint}
+use Rattle.nam_calls.specs.declared.lock.Locks.{Locks}
 use Rattle.nam_calls.specs.declared.lock.LockEnd.{LockEnd}
 use Rattle.nam_calls.specs.Record.{words_begin, install_begin}
 use Rattle.nam_calls.specs.Ring.{slot_begin, copy_begin}
@@ -115,11 +115,12 @@ module _ (shape : Shape) (limits : FitsLimits shape) (state : TxnState) (fits : 
   enough : length (places state) ≤ after_locks
   enough = let w = within in let e = as_many in let l = rest_least in omega arith
 
-  on_lock_falls : (n : ℕ) (now : Now LockPoint LockEnd) → length state.counts ≡ 0
+  on_lock_falls : (n : ℕ) (now : Now Locks LockEnd) → length state.counts ≡ 0
       → LockFalls (places state) after_locks enough n now
       → TxnFalls shape n (on_lock state now)
-  on_lock_falls n (At place) none h =
-      goes shape state n (Locking place) fits are some (subst (λ m. LockFits m place) as_many h.0, none) h.1
+  on_lock_falls n (At locks) none h =
+      goes shape (record state { held = locks.held }) n (Locking locks.at) fits are some
+      (subst (λ m. LockFits m locks.held locks.at) as_many h.0, none) h.1
   on_lock_falls n (Over (lock_end.Held headers)) none h =
       goes shape (record state { held = headers }) n (Checking slot_begin) fits are some (h.0 ∙ as_many, omega arith)
       (let m = h.1 in omega arith)
@@ -250,8 +251,8 @@ module _ (shape : Shape) (limits : FitsLimits shape) (state : TxnState) (fits : 
   commit_falls (Locking at) found c =
       let e = as_many shape limits state fits c.0 c.1 in
       on_lock_falls shape limits state fits c.0 c.1 _ _ c.2.1
-      (lock_falls (places state) _ (enough shape limits state fits c.0 c.1) state.seen at found
-      (subst (λ m. LockFits m at) (sym e) c.2.0))
+      (lock_falls (places state) _ (enough shape limits state fits c.0 c.1) state.seen state.held at found
+      (subst (λ m. LockFits m state.held at) (sym e) c.2.0))
   commit_falls (Checking at) found c =
       let is = nth_is shape limits state fits c.0 c.1 (length state.counts) c.2.1 in
       on_slot_falls shape limits state fits c.0 c.1 _ is _ _ c.2.0 c.2.1

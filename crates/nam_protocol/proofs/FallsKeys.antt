@@ -220,15 +220,17 @@ module _ (shape : Shape) where
   each_placed cs placed (k ∷ ks) all = (record_placed cs k placed all.0, each_placed cs placed ks all.1)
 
   module _ (state : TxnState) (fits : StateFits shape state) where
-    records_placed : AllByRecursion (IsPlaced shape) (records_of state)
-    records_placed =
+    pub keys_claimed : AllByRecursion (λ key. is_claimed state.claims key ≡ true) (commit_keys state)
+    keys_claimed =
         let P : Key → Type 0 = λ key. is_claimed state.claims key ≡ true in
-        let keys : AllByRecursion P (commit_keys state) =
         All-append P (map item_key state.writes) (unwritten state.writes state.guards)
         (All-map item_key P state.writes fits.written)
-        (all_filter P (λ key. not (writes_key state.writes key)) state.guards fits.guarded) in
+        (all_filter P (λ key. not (writes_key state.writes key)) state.guards fits.guarded)
+
+    records_placed : AllByRecursion (IsPlaced shape) (records_of state)
+    records_placed =
         All-map (record_in state.claims) (IsPlaced shape) (commit_keys state)
-        (each_placed state.claims fits.placed (commit_keys state) keys)
+        (each_placed state.claims fits.placed (commit_keys state) keys_claimed)
 
     -- how many records there are
     pub records_length : length (records_of state) ≡ length state.writes + length (unwritten state.writes state.guards)

@@ -131,11 +131,11 @@ module _ (shape : Shape) (limits : FitsLimits shape) where
         (place_stands shape (record_place state nth).row f
         (subst (λ place. IsOfPlace place f) p.place_is (is (nth_fits shape state fits are limits nth l)))).1 p.row_is
 
-    lock_at : state.records ≡ records_of state → (at : LockPoint) → LockFits (length state.records) at
-        → IsAtField shape (lock_verb state.worker (places state) at)
-    lock_at are (Peek held) l = (placed are (length held) l).row_is
-    lock_at are (Seize held header) l = (placed are (length held) l).row_is
-    lock_at are (GiveBack held given found) l =
+    lock_at : state.records ≡ records_of state → (at : LockPoint) → LockFits (length state.records) state.held at
+        → IsAtField shape (lock_verb state.worker (places state) state.held at)
+    lock_at are Peek l = (placed are (length state.held) l).row_is
+    lock_at are (Seize header) l = (placed are (length state.held) l).row_is
+    lock_at are (GiveBack given found) l =
         (placed are given (let m = l.0 in let n = l.1 in omega arith)).row_is
 
     pub commit_at : (at : CommitPoint) → CommitFits shape state at → IsAtField shape (commit_verb state at)

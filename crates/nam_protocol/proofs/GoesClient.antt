@@ -42,7 +42,7 @@ use Rattle.nam_protocol.specs.Txn.{Stepped}
 use Rattle.nam_protocol.specs.TxnCalls.{taken_now}
 use Rattle.nam_protocol.specs.Scan.{scan_skip}
 use Rattle.nam_protocol.specs.Log.{with_locks, with_snap, prefix_of, unbegun}
-use Rattle.nam_protocol.specs.Telling.{go, with_answer, new_attempt, with_listed, with_end, with_commit, read_listed}
+use Rattle.nam_protocol.specs.Telling.{go, with_answer, new_attempt, with_listed, with_end, with_commit, call_listed}
 use Rattle.nam_protocol.specs.Telling.{items_of, new_locks}
 use Rattle.nam_protocol.specs.Telling.{on_answer, on_call, stepped}
 use Rattle.nam_protocol.specs.ScanCall.{with_gathered, scan_listed, scan_ended, on_skip, on_scan}
@@ -115,7 +115,7 @@ module _ (P : ClientState → Type 0) where
 
   -- the transaction stays open and lists what was read, or it ends, having listed it or not, or it is committed
   pub on_answer_goes : (client : ClientState) (attempt : Open) (answer : TxnAnswer)
-      → (outcome_of attempt answer ≡ None → P (read_listed client attempt (items_of attempt.state.read)))
+      → (outcome_of attempt answer ≡ None → P (call_listed client attempt))
       → ((outcome : Outcome) → outcome_of attempt answer ≡ Some outcome → P (with_end client attempt outcome))
       → ((outcome : Outcome) → outcome_of attempt answer ≡ Some outcome
       → P (read_ended client attempt (items_of attempt.state.read) outcome))

@@ -9,7 +9,8 @@ use Rattle.nam_verbs.specs.declared.now.Now.TheVariants.{At, Over}
 use Rattle.nam_catalog.specs.declared.shape.Shape.{Shape}
 use Rattle.nam_catalog.specs.Greatest.{greatest_number}
 use Rattle.nam_calls.specs.declared.lock.LockPoint.{LockPoint}
-use Rattle.nam_calls.specs.declared.lock.LockPoint.TheVariants.{Peek}
+use Rattle.nam_calls.specs.declared.lock.LockPoint.TheVariants.{Peek, Seize, GiveBack}
+use Rattle.nam_calls.specs.declared.lock.Locks.{Locks}
 use Rattle.nam_calls.specs.declared.lock.LockEnd.{LockEnd}
 use Rattle.nam_calls.specs.declared.ring.SlotPoint.{SlotPoint}
 use Rattle.nam_calls.specs.declared.ring.SlotPoint.TheVariants.{CheckCount}
@@ -18,7 +19,9 @@ use Rattle.nam_calls.specs.declared.ring.SlotEnd.TheVariants.{Free, NotMoved}
 use Rattle.nam_calls.specs.declared.ring.CopyPoint.{CopyPoint}
 use Rattle.nam_calls.specs.declared.ring.CopyPoint.TheVariants.{CopyMark}
 use Rattle.nam_calls.specs.declared.record.InstallPoint.{InstallPoint}
+use Rattle.nam_calls.specs.Lock.{give_back}
 use Rattle.nam_calls.specs.Record.{install_begin}
+use Rattle.nam_calls.proofs.GoesTests.{give_back_goes, peek_goes, seize_goes}
 use Rattle.nam_calls.specs.declared.lock.LockEnd.TheVariants as lock_end
 use Rattle.nam_protocol.specs.declared.txn.TxnState.{TxnState}
 use Rattle.nam_protocol.specs.declared.txn.TxnAnswer.{TxnAnswer}
@@ -28,10 +31,10 @@ use Rattle.nam_protocol.specs.declared.txn.CommitPoint.TheVariants.{Locking, Che
 use Rattle.nam_protocol.specs.declared.txn.CommitPoint.TheVariants.{Installing, Publishing, Freeing}
 use Rattle.nam_protocol.specs.Txn.{Stepped, over}
 use Rattle.nam_protocol.specs.ProgramCommit.{committing}
-use Rattle.nam_protocol.specs.Commit.{go, lock_at, value_at, ask_commit, on_lock, on_slot, on_return, on_words}
+use Rattle.nam_protocol.specs.Commit.{go, lock_at, places, value_at, ask_commit, on_lock, on_slot, on_return, on_words}
 use Rattle.nam_protocol.specs.Commit.{on_copy, on_install, next_free, commit_after}
 
--- the state with all locks, and with one more count
+-- the state with these locks, and with one more count
 abbrev pub holding_locks : TxnState → List ℕ → TxnState
 holding_locks state headers = record state { held = headers }
 
@@ -46,7 +49,7 @@ module _ (P : Stepped → Type 0) (state : TxnState) where
       → ((length state.writes == 0) ≡ false → (state.last == greatest_number shape.form) ≡ true
       → P (over (record state { read = None }) Spent))
       → ((length state.writes == 0) ≡ false → (state.last == greatest_number shape.form) ≡ false
-      → P (go (committing state) (Locking (Peek []))))
+      → P (go (committing state) (Locking Peek)))
       → P (ask_commit shape state)
   ask_commit_goes shape read_only spent locking =
       cond_both (length state.writes == 0) _ _ P read_only
@@ -54,15 +57,15 @@ module _ (P : Stepped → Type 0) (state : TxnState) where
 
   -- 2. By what a step has come to
 
-  pub on_lock_goes : (now : Now LockPoint LockEnd)
-      → ((place : LockPoint) → now ≡ At place → P (go state (Locking place)))
+  pub on_lock_goes : (now : Now Locks LockEnd)
+      → ((locks : Locks) → now ≡ At locks → P (go (holding_locks state locks.held) (Locking locks.at)))
       → ((headers : List ℕ) → now ≡ Over (lock_end.Held headers)
       → P (go (holding_locks state headers) (Checking CheckCount)))
       → ((nth found : ℕ) → now ≡ Over (lock_end.Locked nth found)
       → P (over state (Locked (lock_at state nth found))))
       → ((nth found : ℕ) → now ≡ Over (lock_end.Newer nth found) → P (over state (Newer (lock_at state nth found))))
       → P (on_lock state now)
-  on_lock_goes (At place) stays held locked newer = stays place refl
+  on_lock_goes (At locks) stays held locked newer = stays locks refl
   on_lock_goes (Over (lock_end.Held headers)) stays held locked newer = held headers refl
   on_lock_goes (Over (lock_end.Locked nth found)) stays held locked newer = locked nth found refl
   on_lock_goes (Over (lock_end.Newer nth found)) stays held locked newer = newer nth found refl
@@ -144,19 +147,37 @@ module _ (P : Stepped → Type 0) (state : TxnState) where
   EndsAs (Freeing nth) answer = answer ≡ Committed (state.last + 1)
   EndsAs _ answer = ⊥
 
-  -- a count is added only where a slot was looked at, and locks are all held only after the last
+  -- where a lock was missed, and after each that was given back
+  back_goes : (at : LockPoint) (given found : ℕ)
+      → ((next : CommitPoint) → GoesTo (Locking at) next → P (go state next))
+      → ((answer : TxnAnswer) → EndsAs (Locking at) answer → P (over state answer))
+      → P (on_lock state (give_back (places state) state.held given found))
+  back_goes at given found stays answer =
+      let lock = lock_at state (length state.held) found in
+      give_back_goes (λ now. P (on_lock state now)) (places state) state.held given found
+      (λ e f. answer (Locked lock) (lock, inl refl)) (λ e f. answer (Newer lock) (lock, inr refl))
+      (λ e. stays (Locking (GiveBack given found)) (GiveBack given found, refl))
+
+  -- a count is added only where a slot was looked at, and a lock only where its header was exchanged
   pub commit_goes : (place : CommitPoint) (found : ℕ)
       → ((next : CommitPoint) → GoesTo place next → P (go state next))
-      → ((at : LockPoint) (headers : List ℕ) → place ≡ Locking at
-      → P (go (holding_locks state headers) (Checking CheckCount)))
+      → ((header : ℕ) (next : CommitPoint) → place ≡ Locking (Seize header)
+      → (next ≡ Locking Peek) ⊎ (next ≡ Checking CheckCount)
+      → P (go (holding_locks state (state.held ++ header ∷ [])) next))
       → ((at : SlotPoint) (count : ℕ) → place ≡ Checking at → P (go (with_count state count) (Saving 0 [])))
       → ((at : SlotPoint) (count : ℕ) → place ≡ Checking at → P (go (with_count state count) (Checking CheckCount)))
       → ((answer : TxnAnswer) → EndsAs place answer → P (over state answer))
       → P (commit_after state place found)
-  commit_goes (Locking at) found stays held last next answer =
-      on_lock_goes _ (λ later e. stays (Locking later) (later, refl)) (λ headers e. held at headers refl)
-      (λ nth word e. let lock = lock_at state nth word in answer (Locked lock) (lock, inl refl))
-      (λ nth word e. let lock = lock_at state nth word in answer (Newer lock) (lock, inr refl))
+  commit_goes (Locking Peek) found stays held last next answer =
+      peek_goes (λ now. P (on_lock state now)) (places state) state.seen state.held found
+      (λ e. back_goes Peek 0 found stays answer) (λ e f. stays (Locking (Seize found)) (Seize found, refl))
+      (λ e f. back_goes Peek 0 found stays answer)
+  commit_goes (Locking (Seize header)) found stays held last next answer =
+      seize_goes (λ now. P (on_lock state now)) (places state) state.seen state.held header found
+      (λ e f. held header (Checking CheckCount) refl (inr refl)) (λ e f. held header (Locking Peek) refl (inl refl))
+      (λ e. back_goes (Seize header) 0 found stays answer)
+  commit_goes (Locking (GiveBack given lost)) found stays held last next answer =
+      back_goes (GiveBack given lost) (given + 1) lost stays answer
   commit_goes (Checking at) found stays held last next answer =
       on_slot_goes _ (λ later e. stays (Checking later) (inl (later, refl))) (λ count e f. last at count refl)
       (λ count e f. next at count refl)

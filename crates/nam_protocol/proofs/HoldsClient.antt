@@ -51,7 +51,11 @@ module _ (shape : Shape) where
       → Holds (with_answer (on_answer client attempt answer) (client_answer.Txn answer))
   answered_holds client attempt answer last state ends =
       on_answer_goes (λ c. Holds (with_answer c (client_answer.Txn answer))) client attempt answer
-      (λ e. record { last_is = last; opened = state; running = tt })
+      (λ e. record {
+        last_is = last;
+        opened = record { last_is = state.last_is; written = state.written; found = tt; headers = state.headers };
+        running = tt;
+      })
       (λ outcome e. record { last_is = last; opened = tt; running = tt })
       (λ outcome e. record { last_is = last; opened = tt; running = tt })
       (λ number e. record { last_is = subst (TxnEndHolds shape.form) e ends; opened = tt; running = tt })

@@ -22,10 +22,10 @@ use Rattle.nam_calls.specs.declared.index.ClaimKeyEnd.{ClaimKeyEnd}
 use Rattle.nam_calls.specs.declared.index.ClaimKeyPoint.{ClaimKeyPoint}
 use Rattle.nam_calls.specs.declared.index.FindEnd.{FindEnd}
 use Rattle.nam_calls.specs.declared.lock.LockEnd.{LockEnd}
-use Rattle.nam_calls.specs.declared.lock.LockPoint.{LockPoint}
+use Rattle.nam_calls.specs.declared.lock.Locks.{Locks}
 use Rattle.nam_calls.specs.declared.reading.ReadPoint.{ReadPoint}
 use Rattle.nam_calls.specs.declared.reading.ReadingEnd.{ReadingEnd}
-use Rattle.nam_calls.specs.Holds.{AreWords, HasWords, HoldsNow, LockEndHolds, LockHolds, ReadHolds, ReadingHolds}
+use Rattle.nam_calls.specs.Holds.{AreWords, HasWords, HoldsNow, LockEndHolds, LocksHold, ReadHolds, ReadingHolds}
 use Rattle.nam_calls.specs.Holds.{IsWord}
 use Rattle.nam_calls.specs.Reading.{sight_of}
 use Rattle.nam_calls.proofs.FallsTests.{either}
@@ -215,8 +215,9 @@ module _ (form : Form) (state : TxnState) (h : StateHolds form state) (room : st
   abbrev Commits : Stepped → Type 0
   Commits = StepHolds form
 
-  on_lock_holds : (now : Now LockPoint LockEnd) → HoldsNow LockHolds LockEndHolds now → Commits (on_lock state now)
-  on_lock_holds (At place) n = (h, (room, n))
+  on_lock_holds : (now : Now Locks LockEnd) → HoldsNow LocksHold LockEndHolds now → Commits (on_lock state now)
+  on_lock_holds (At locks) n =
+      (record { last_is = h.last_is; written = h.written; found = h.found; headers = n.0 }, (room, n.1))
   on_lock_holds (Over (lock_end.Held headers)) n =
       (record { last_is = h.last_is; written = h.written; found = h.found; headers = n }, (room, tt))
   on_lock_holds (Over (lock_end.Locked nth found)) n = (h, tt)
@@ -232,7 +233,8 @@ module _ (form : Form) (state : TxnState) (h : StateHolds form state) (room : st
 
   pub commit_holds : (at : CommitPoint) (found : ℕ) → CommitPlaceHolds at → IsWord found
       → Commits (commit_after state at found)
-  commit_holds (Locking at) found p is = on_lock_holds _ (lock_holds (places state) state.seen at found p is)
+  commit_holds (Locking at) found p is =
+      on_lock_holds _ (lock_holds (places state) state.seen state.held at found h.headers p is)
   commit_holds (Checking at) found p is =
       on_slot_goes Commits state _ (λ next e. (h, (room, tt))) (λ count e f. (h, (room, tt)))
       (λ count e f. (h, (room, tt))) (λ slot word e. (h, (room, tt)))

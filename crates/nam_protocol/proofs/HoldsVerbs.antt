@@ -90,7 +90,8 @@ module _ (shape : Shape) (limits : FitsLimits shape) where
 
     commit_word : (at : CommitPoint) → CommitFits shape state at → state.last < greatest_number shape.form
         → CommitPlaceHolds at → WritesWord (commit_verb state at)
-    commit_word (Locking at) c room p = lock_word (places state) state.worker at (most state.worker fits.worker_is) p
+    commit_word (Locking at) c room p =
+        lock_word (places state) state.worker state.held at (most state.worker fits.worker_is) h.headers p
     commit_word (Checking at) c room p =
         no_word (slot_verb (record_place state (length state.counts)) at)
         (slot_reads (record_place state (length state.counts)) at)

@@ -52,3 +52,5 @@ pub mod SteppedLemmas
 pub mod OwnLemmas
 pub mod StageLemmas
 pub mod OpenLemmas
+pub mod UnreadLemmas
+pub mod RecordLemmas

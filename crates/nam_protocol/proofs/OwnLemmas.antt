@@ -27,12 +27,12 @@ use Rattle.nam_protocol.specs.Own.{Rests}
 use Rattle.nam_protocol.specs.Plain.{KeepsOpen, Plain, SameBegin}
 use Rattle.nam_protocol.specs.Sorts.{AskOf, StepOf, committing_at, AsksPlain, AsksBegin, AsksCollect, AsksCommit, Finds}
 use Rattle.nam_protocol.specs.Sorts.{Reads, Moves, Collects, Begins, Snaps, Commits}
-use Rattle.nam_protocol.specs.Telling.{go, with_answer, stepped, on_answer, items_of, with_read, new_client}
+use Rattle.nam_protocol.specs.Telling.{go, with_answer, stepped, on_answer, items_of, unread, with_read, new_client}
 use Rattle.nam_protocol.specs.Txn.{Stepped}
 use Rattle.nam_protocol.proofs.FallsClient.{client_begins}
 use Rattle.nam_protocol.proofs.GoesClient.{begin_goes, snap_goes, on_answer_goes, step_lists, step_opens, stepped_goes}
 use Rattle.nam_protocol.proofs.GoesCommit.{ask_commit_goes, commit_goes}
-use Rattle.nam_protocol.proofs.PlainLemmas.{same_begin}
+use Rattle.nam_protocol.proofs.PlainLemmas.{same_begin, unread_same}
 use Rattle.nam_protocol.proofs.SortsLemmas.{ask_sort, word_sort}
 use Rattle.nam_protocol.proofs.SteppedLemmas.{rested_view}
 use Rattle.nam_protocol.specs.declared.client.Answer.TheVariants as client_answer
@@ -133,7 +133,8 @@ module _ (shape : Shape) (worker : ℕ) where
           start_is = own.start_is;
           opened =
               owns_kept client.worker client.last client.log.snaps attempt
-              (with_read (step_opens attempt before step) (items_of step.state.read)) same opened;
+              (with_read (unread (step_opens attempt before step)) (items_of step.state.read))
+              (unread_same attempt.state step.state same) opened;
         })
         (λ outcome e. record { worker_is = own.worker_is; start_is = own.start_is; opened = tt })
         (λ outcome e. record { worker_is = own.worker_is; start_is = own.start_is; opened = tt })
@@ -147,7 +148,7 @@ module _ (shape : Shape) (worker : ℕ) where
       → SameBegin state (commit_after state at found).state
   commit_same state at found =
       commit_goes (λ step. SameBegin state step.state) state at found (λ next to. same_begin state)
-      (λ place headers e. record { worker = refl; last = refl; seen = refl })
+      (λ header next e to. record { worker = refl; last = refl; seen = refl })
       (λ place count e. record { worker = refl; last = refl; seen = refl })
       (λ place count e. record { worker = refl; last = refl; seen = refl }) (λ answer ends. same_begin state)
 

@@ -38,6 +38,9 @@ same_begin s = record { worker = refl; last = refl; seen = refl }
 knows_same : (s : TxnState) (op : Op) (value : Option (List ℕ)) → SameBegin s (knowing s op value)
 knows_same s op value = record { worker = refl; last = refl; seen = refl }
 
+pub unread_same : (s later : TxnState) → SameBegin s later → SameBegin s (record later { read = None })
+unread_same s later same = record { worker = same.worker; last = same.last; seen = same.seen }
+
 same_open : (opened : Option Open) → KeepsOpen opened opened
 same_open None = tt
 same_open (Some attempt) = same_begin attempt.state
@@ -73,7 +76,15 @@ module _ (client : ClientState) (attempt : Open) (before : ℕ) where
   steps_over s answer same silent =
       on_answer_goes (λ c. Plain opened (telling.with_answer c (client_answer.Txn answer)))
       (step_lists client before (over s answer)) (step_opens attempt before (over s answer)) answer
-      (λ e. record { worker = refl; start = refl; last = refl; cut = refl; snaps = refl; opened = same; aside = tt })
+      (λ e. record {
+        worker = refl;
+        start = refl;
+        last = refl;
+        cut = refl;
+        snaps = refl;
+        opened = unread_same attempt.state s same;
+        aside = tt;
+      })
       (λ end e. record { worker = refl; start = refl; last = refl; cut = refl; snaps = refl; opened = tt; aside = tt })
       (λ end e. record { worker = refl; start = refl; last = refl; cut = refl; snaps = refl; opened = tt; aside = tt })
       (λ number e. absurd (subst IsSilent e silent))

@@ -20,14 +20,14 @@ use Rattle.nam_calls.specs.declared.ring.CopyPoint.TheVariants.{CopyMark, CopyWo
 use Rattle.nam_calls.specs.declared.ring.SlotPoint.{SlotPoint}
 use Rattle.nam_calls.specs.declared.ring.SlotPoint.TheVariants.{CheckCount}
 use Rattle.nam_calls.specs.declared.ring.SlotEnd.{SlotEnd}
-use Rattle.nam_calls.specs.declared.lock.LockPoint.{LockPoint}
+use Rattle.nam_calls.specs.declared.lock.Locks.{Locks}
 use Rattle.nam_calls.specs.declared.lock.LockPoint.TheVariants.{Peek, GiveBack}
 use Rattle.nam_calls.specs.declared.lock.LockEnd.{LockEnd}
 use Rattle.nam_calls.specs.Record.{install_begin, word_in}
-use Rattle.nam_calls.specs.Lock.{nth_place, lock_begin, lock_verb, lock_after, lock_next, loss_of, give_back}
+use Rattle.nam_calls.specs.Lock.{nth_place, lock_begin, lock_verb, lock_after, lock_next, locks_at, loss_of, give_back, of_locks}
 use Rattle.nam_calls.specs.Program.{Prog, ◌>>=◌, write_words, IsProgram, standing, taking}
 use Rattle.nam_calls.proofs.Programs.{both, both_not, is_last, is_more, at_last, before_last, word_then, words_is}
-use Rattle.nam_calls.proofs.Programs.{writes_left, writes_is, part_is, the_program}
+use Rattle.nam_calls.proofs.Programs.{writes_left, writes_is, part_with, the_program}
 use Rattle.nam_calls.specs.declared.lock.LockEnd.TheVariants as lock_end
 use Rattle.nam_protocol.specs.declared.txn.TxnState.{TxnState}
 use Rattle.nam_protocol.specs.declared.txn.TxnAnswer.{TxnAnswer}
@@ -44,15 +44,15 @@ use Rattle.nam_protocol.specs.ProgramCommit.{committing, txn_stands, txn_takes, 
 -- 1. The locks
 
 module _ (worker : ℕ) (places : List Place) (seen : List ℕ) where
-  abbrev IsLock : Now LockPoint LockEnd → Prog LockEnd → Type 0
-  IsLock = IsProgram (standing (lock_verb worker places)) (taking (lock_after places seen))
+  abbrev IsLock : Now Locks LockEnd → Prog LockEnd → Type 0
+  IsLock = IsProgram (standing (of_locks (lock_verb worker places))) (taking (of_locks (lock_after places seen)))
 
   back_is : (held : List ℕ) (found : ℕ)
       → IsLock (give_back places held 0 found) (give_all_back worker places seen held found)
   back_is held found =
-      writes_left (standing (lock_verb worker places)) (taking (lock_after places seen)) _ (slice_index held)
-      (length held)
-      (λ nth. At (GiveBack held nth found)) (Over (loss_of (nth_place places (length held)).form (length held) found)) _
+      writes_left (standing (of_locks (lock_verb worker places))) (taking (of_locks (lock_after places seen))) _
+      (slice_index held) (length held)
+      (λ nth. At (locks_at held (GiveBack nth found))) (Over (loss_of (nth_place places (length held)).form (length held) found)) _
       (λ nth. refl) (λ nth word. refl) refl (length held) 0 (omega arith)
 
   locks_from : (rest : ℕ) (held : List ℕ) → length held + rest ≡ length places
@@ -72,10 +72,10 @@ module _ (worker : ℕ) (places : List Place) (seen : List ℕ) where
       (λ t. back_is held found))
 
   -- there is a record to be locked
-  locks_are : 0 < length places → IsLock (At lock_begin) (lock_records worker places seen (length places) [])
+  locks_are : 0 < length places → IsLock (At (locks_at [] lock_begin)) (lock_records worker places seen (length places) [])
   locks_are l =
       let t : (0 == length places) ≡ false = grind (arith, nat_tests) in
-      subst (λ b. IsLock (if b then Over (lock_end.Held []) else At (Peek []))
+      subst (λ b. IsLock (if b then Over (lock_end.Held []) else At (locks_at [] Peek))
       (lock_records worker places seen (length places) [])) t
       (locks_from (length places) [] (omega arith))
 
@@ -208,19 +208,22 @@ module _ (shape : Shape) (state : TxnState) where
         >>= after_check state held)) t
         (checks_from held (length state.writes) [] (omega arith))
 
-    after_locks_is : state.counts ≡ [] → (end : LockEnd) → IsTxn (on_lock state (Over end)) (after_locks state end)
-    after_locks_is fresh (lock_end.Held held) =
+    after_locks_is : state.counts ≡ [] → (held : List ℕ) (end : LockEnd)
+        → IsTxn (on_lock (record state { held = held }) (Over end)) (after_locks state end)
+    after_locks_is fresh before (lock_end.Held held) =
         subst (λ counts. IsTxn (go (with_locks held counts) (Checking CheckCount))
         (after_locks state (lock_end.Held held))) (sym fresh)
         (checks_are held)
-    after_locks_is fresh (lock_end.Locked nth found) = refl
-    after_locks_is fresh (lock_end.Newer nth found) = refl
+    after_locks_is fresh before (lock_end.Locked nth found) = refl
+    after_locks_is fresh before (lock_end.Newer nth found) = refl
 
-    pub records_commit : state.counts ≡ [] → IsTxn (go state (Locking lock_begin)) (commit_records state)
+    pub records_commit : state.counts ≡ []
+        → IsTxn (go (record state { held = [] }) (Locking lock_begin)) (commit_records state)
     records_commit fresh =
-        part_is (txn_stands shape) (txn_takes shape) (lock_verb state.worker (places state))
-        (lock_after (places state) state.seen) (on_lock state)
-        (λ place. refl) (λ place found. refl) _ (after_locks_is fresh) (At lock_begin) _
+        part_with (txn_stands shape) (txn_takes shape) (of_locks (lock_verb state.worker (places state)))
+        (of_locks (lock_after (places state) state.seen)) (λ (held : List ℕ). on_lock (record state { held = held }))
+        (λ held locks. locks.held)
+        (λ held locks. refl) (λ held locks found. refl) _ (after_locks_is fresh) [] (At (locks_at [] lock_begin)) _
         (locks_are state.worker (places state) state.seen (omega arith))
 
 -- 3. The commit from its asking on

@@ -29,7 +29,7 @@ use Rattle.nam_calls.specs.declared.ring.SlotPoint.{SlotPoint}
 use Rattle.nam_calls.specs.declared.ring.SlotEnd.{SlotEnd}
 use Rattle.nam_calls.specs.declared.ring.SlotEnd.TheVariants.{Free, NotMoved}
 use Rattle.nam_calls.specs.declared.ring.CopyPoint.{CopyPoint}
-use Rattle.nam_calls.specs.declared.lock.LockPoint.{LockPoint}
+use Rattle.nam_calls.specs.declared.lock.Locks.{Locks}
 use Rattle.nam_calls.specs.declared.lock.LockEnd.{LockEnd}
 use Rattle.nam_calls.specs.Index.{find_begin, claim_key_begin, find_after, claim_key_after}
 use Rattle.nam_calls.specs.Reading.{sight_of, read_after}
@@ -197,8 +197,8 @@ module _ (shape : Shape) where
   CommitStands ops step = HasAsked step.state ops × CommitRuns ops step.state step.call
 
   module _ (ops : List Op) (state : TxnState) (asked : HasAsked state ops) where
-    on_lock_runs : (now : Now LockPoint LockEnd) → CommitStands ops (on_lock state now)
-    on_lock_runs (At place) = (asked, tt)
+    on_lock_runs : (now : Now Locks LockEnd) → CommitStands ops (on_lock state now)
+    on_lock_runs (At locks) = (asked, tt)
     on_lock_runs (Over (lock_end.Held headers)) = (asked, tt)
     on_lock_runs (Over (lock_end.Locked nth found)) = (asked, (refl, tt))
     on_lock_runs (Over (lock_end.Newer nth found)) = (asked, (refl, tt))
@@ -262,7 +262,7 @@ module _ (shape : Shape) where
     pub commit_runs : (at : CommitPoint) (found : ℕ) → StateFits shape state → CommitFits shape state at
         → FullIsWritten state at
         → CommitStands ops (commit_after state at found)
-    commit_runs (Locking at) found fits c w = on_lock_runs (lock_after (places state) state.seen at found)
+    commit_runs (Locking at) found fits c w = on_lock_runs (lock_after (places state) state.seen state.held at found)
     commit_runs (Checking at) found fits c w =
         on_slot_runs (slot_after (record_place state (length state.counts)) at found) fits c.0 c.2.1
     commit_runs (Returning given full) found fits c w =

@@ -68,14 +68,15 @@ module _ (state : TxnState) where
       give_back_goes (λ now. Stage (on_lock state now)) (places state) held given found (λ e f. tt) (λ e f. tt)
       (λ e. tt)
 
-  lock_stage : (at : LockPoint) (found : ℕ) → Stage (on_lock state (lock_after (places state) state.seen at found))
-  lock_stage (Peek held) found =
+  lock_stage : (held : List ℕ) (at : LockPoint) (found : ℕ)
+      → Stage (on_lock state (lock_after (places state) state.seen held at found))
+  lock_stage held Peek found =
       peek_goes (λ now. Stage (on_lock state now)) (places state) state.seen held found (λ e. given_back held 0 found)
       (λ free sees. (free, sees)) (λ e f. given_back held 0 found)
-  lock_stage (Seize held header) found =
+  lock_stage held (Seize header) found =
       seize_goes (λ now. Stage (on_lock state now)) (places state) state.seen held header found (λ e f. tt) (λ e f. tt)
       (λ e. given_back held 0 found)
-  lock_stage (GiveBack held given word) found = given_back held (given + 1) word
+  lock_stage held (GiveBack given word) found = given_back held (given + 1) word
 
   -- only a value's first word follows the copy
   install_starts : (nth : ℕ) (value : Option (List ℕ)) → value_at state nth ≡ value
@@ -94,7 +95,7 @@ module _ (state : TxnState) where
       (λ e. tt) (λ e. tt)
 
   commit_stage : (at : CommitPoint) (found : ℕ) → StageAt state at → Stage (commit_after state at found)
-  commit_stage (Locking at) found stage = lock_stage at found
+  commit_stage (Locking at) found stage = lock_stage state.held at found
   commit_stage (Checking at) found stage =
       on_slot_goes Stage state _ (λ next e. tt) (λ count e f. tt) (λ count e f. tt) (λ slot word e. tt)
   commit_stage (Returning given full) found stage = on_return_goes Stage state full _ (λ next e. tt) (λ e. tt)

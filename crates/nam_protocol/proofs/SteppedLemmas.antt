@@ -1,7 +1,7 @@
 -- A client whose transaction has stepped, seen by what its call has come to.
 use Rattle.std.proofs.Common.{List, Option, Some, [], ap, append-nil, arith, length, refl, ℕ, ◌+◌, ◌∙◌, ◌≡◌}
-use Rattle.std.proofs.Common.{None}
-use Rattle.std.proofs.Math.Seq.{drop-length}
+use Rattle.std.proofs.Common.{None, ◌++◌, ◌∷◌}
+use Rattle.std.proofs.Math.Seq.{drop-append_seam, drop-length}
 use Rattle.si_model.specs.declared.log.Lock.{Lock}
 use Rattle.nam_verbs.specs.declared.now.Now.{Now}
 use Rattle.nam_verbs.specs.declared.now.Now.TheVariants.{At, Over}
@@ -10,10 +10,13 @@ use Rattle.nam_protocol.specs.declared.client.CallPoint.{CallPoint}
 use Rattle.nam_protocol.specs.declared.client.CallPoint.TheVariants.{InTxn}
 use Rattle.nam_protocol.specs.declared.client.ClientState.{ClientState}
 use Rattle.nam_protocol.specs.declared.client.Open.{Open}
+use Rattle.nam_protocol.specs.declared.txn.CommitPoint.{CommitPoint}
 use Rattle.nam_protocol.specs.declared.txn.TxnAnswer.{TxnAnswer}
 use Rattle.nam_protocol.specs.declared.txn.TxnPoint.{TxnPoint}
+use Rattle.nam_protocol.specs.declared.txn.TxnPoint.TheVariants.{Committing}
 use Rattle.nam_protocol.specs.declared.txn.TxnState.{TxnState}
 use Rattle.nam_protocol.specs.Client.{abandon_open, client_abandon}
+use Rattle.nam_protocol.specs.Commit.{lock_at}
 use Rattle.nam_protocol.specs.Log.{with_locks}
 use Rattle.nam_protocol.specs.Own.{Rests}
 use Rattle.nam_protocol.specs.Telling.{locks_from, new_locks, stepped, on_call}
@@ -69,7 +72,19 @@ module _ (client : ClientState) (attempt : Open) where
       ≡ record client { txn = Some attempt; call = Some (At (InTxn place)) }
   quiet place = quiet_step (at attempt.state place) (taken_at attempt.state place) refl
 
--- 3. A client at rest, and after it has given its transaction up
+  -- 3. A step that takes a lock lists it
+
+  pub locked : (header : ℕ) (next : CommitPoint)
+      → let state = record attempt.state { held = attempt.state.held ++ header ∷ [] } in
+      stepped client attempt (length attempt.state.held) (at state (Committing next))
+      ≡ record client {
+        log = with_locks client.log (lock_at state (length attempt.state.held) header ∷ []);
+        txn = Some (record attempt { locks = attempt.locks + 1; state = state });
+        call = Some (At (InTxn (Committing next)));
+      }
+  locked header next = rw (drop-append_seam attempt.state.held (header ∷ [])) refl
+
+-- 4. A client at rest, and after it has given its transaction up
 
 module _ (View : Option (Now CallPoint Answer) → Option Open → Type 0)
     (none : (opened : Option Open) → View None opened)

@@ -42,7 +42,8 @@ abbrev pub rest_from : TxnState → ℕ → ℕ
 rest_from state nth = installs_most (written_from state nth) + publish_most state
 
 abbrev pub commit_left : TxnState → CommitPoint → ℕ
-commit_left state (Locking at) = lock_left (places state) (2 * length state.writes + rest_from state 0) at
+commit_left state (Locking at) =
+    lock_left (places state) (2 * length state.writes + rest_from state 0) state.held at
 commit_left state (Checking at) =
     slot_left at + (2 * (length state.writes - length state.counts - 1) + rest_from state 0)
 commit_left state (Returning given full) = unlock_left (places state) given

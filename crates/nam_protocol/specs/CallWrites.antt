@@ -21,7 +21,7 @@ use Rattle.nam_protocol.specs.Commit.{places, record_place}
 use Rattle.nam_protocol.specs.Operations.{op_path}
 
 abbrev pub commit_writes : TxnState → CommitPoint → Option Field
-commit_writes state (Locking at) = lock_writes (places state) at
+commit_writes state (Locking at) = lock_writes (places state) state.held at
 commit_writes state (Checking at) = None
 commit_writes state (Returning given full) = Some (header_field (nth_place (places state) given))
 commit_writes state (Saving nth got) = None

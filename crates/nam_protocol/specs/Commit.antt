@@ -22,11 +22,11 @@ use Rattle.nam_calls.specs.declared.ring.SlotPoint.{SlotPoint}
 use Rattle.nam_calls.specs.declared.ring.SlotEnd.{SlotEnd}
 use Rattle.nam_calls.specs.declared.ring.SlotEnd.TheVariants.{Free, NotMoved}
 use Rattle.nam_calls.specs.declared.ring.CopyPoint.{CopyPoint}
-use Rattle.nam_calls.specs.declared.lock.LockPoint.{LockPoint}
+use Rattle.nam_calls.specs.declared.lock.Locks.{Locks}
 use Rattle.nam_calls.specs.declared.lock.LockEnd.{LockEnd}
 use Rattle.nam_calls.specs.Record.{words_begin, words_verb, words_after, install_begin, install_verb, install_after}
 use Rattle.nam_calls.specs.Ring.{slot_begin, slot_verb, slot_after, copy_begin, copy_verb, copy_after}
-use Rattle.nam_calls.specs.Lock.{nth_place, lock_begin, lock_verb, lock_after, taken, unlock_verb, unlock_after}
+use Rattle.nam_calls.specs.Lock.{nth_place, lock_begin, lock_verb, lock_after, unlock_verb, unlock_after}
 use Rattle.nam_calls.specs.declared.lock.LockEnd.TheVariants as lock_end
 use Rattle.nam_protocol.specs.declared.txn.Record.{Record}
 use Rattle.nam_protocol.specs.declared.txn.TxnState.{TxnState}
@@ -94,7 +94,7 @@ ask_commit shape state =
 -- 3. The verb that stands
 
 abbrev pub commit_verb : TxnState → CommitPoint → VerbAt Field
-commit_verb state (Locking at) = lock_verb state.worker (places state) at
+commit_verb state (Locking at) = lock_verb state.worker (places state) state.held at
 commit_verb state (Checking at) = slot_verb (record_place state (length state.counts)) at
 commit_verb state (Returning given full) = unlock_verb (places state) state.held given
 commit_verb state (Saving nth got) = words_verb (record_place state nth) got
@@ -111,9 +111,9 @@ commit_verb state (Freeing nth) = unlock_verb (places state) state.held nth
 abbrev pub go : TxnState → CommitPoint → Stepped
 go state place = at state (Committing place)
 
--- step 1: the locks
-abbrev pub on_lock : TxnState → Now LockPoint LockEnd → Stepped
-on_lock state (At place) = go state (Locking place)
+-- step 1: the locks, whose headers it holds one after another
+abbrev pub on_lock : TxnState → Now Locks LockEnd → Stepped
+on_lock state (At locks) = go (record state { held = locks.held }) (Locking locks.at)
 on_lock state (Over (lock_end.Held headers)) = go (record state { held = headers }) (Checking slot_begin)
 on_lock state (Over (lock_end.Locked nth found)) = over state (Locked (lock_at state nth found))
 on_lock state (Over (lock_end.Newer nth found)) = over state (Newer (lock_at state nth found))
@@ -152,7 +152,8 @@ next_free state nth =
     if nth == length state.records then over state (Committed (state.last + 1)) else go state (Freeing nth)
 
 abbrev pub commit_after : TxnState → CommitPoint → ℕ → Stepped
-commit_after state (Locking at) found = on_lock state (lock_after (places state) state.seen at found)
+commit_after state (Locking at) found =
+    on_lock state (lock_after (places state) state.seen state.held at found)
 commit_after state (Checking at) found = on_slot state (slot_after (record_place state (length state.counts)) at found)
 commit_after state (Returning given full) found = on_return state full (unlock_after (places state) given)
 commit_after state (Saving nth got) found = on_words state nth (words_after (record_place state nth) got found)
@@ -160,9 +161,3 @@ commit_after state (Copying nth old at) found = on_copy state nth old (copy_afte
 commit_after state (Installing nth at) found = on_install state nth (install_after (record_place state nth) at)
 commit_after state Publishing found = next_free state (length state.writes)
 commit_after state (Freeing nth) found = next_free state (nth + 1)
-
--- 5. The locks that it has taken: while it locks, those so far
-
-abbrev pub locks_taken : TxnState → CommitPoint → List ℕ
-locks_taken state (Locking at) = taken at
-locks_taken state _ = state.held

@@ -23,6 +23,7 @@ pub mod AttemptLaw
 pub mod FieldLaw
 pub mod OpeningLaw
 pub mod StepLaw
+pub mod UnreadLaw
 pub mod Grows
 pub mod SessionFits
 pub mod EndsLaw

@@ -44,8 +44,8 @@ pub record OwnOk (shape : Shape) (worker : ℕ) (client : ClientState) : Type 0 
 
 -- the header to be exchanged is unlocked, and its stamp seen; words are written of a value
 abbrev pub StageAt : TxnState → CommitPoint → Type 0
-StageAt state (Locking (Seize held header)) =
-    let form = (record_place state (length held)).form in
+StageAt state (Locking (Seize header)) =
+    let form = (record_place state (length state.held)).form in
     (is_locked form header ≡ false) × (sees form state.seen header ≡ true)
 StageAt state (Installing nth (InstallWord word)) = is_some (value_at state nth) ≡ true
 StageAt state _ = Unit {0}
@@ -80,6 +80,19 @@ OpenClient client = IsOpenNow client.txn client.call
 abbrev pub Rests : Option (Now CallPoint Answer) → Type 0
 Rests (Some (At place)) = ⊥
 Rests _ = Unit {0}
+
+-- nothing that was read is at hand
+abbrev pub IsUnread : Option Open → Type 0
+IsUnread None = Unit {0}
+IsUnread (Some attempt) = attempt.state.read ≡ None
+
+-- so it is, but while a call of the transaction runs
+abbrev pub UnreadIn : Option (Now CallPoint Answer) → Option Open → Type 0
+UnreadIn (Some (At (InTxn at))) opened = Unit {0}
+UnreadIn _ opened = IsUnread opened
+
+abbrev pub UnreadClient : ClientState → Type 0
+UnreadClient client = UnreadIn client.call client.txn
 
 -- it may be asked: none of its calls runs
 pub record MayAsk (shape : Shape) (client : ClientState) (asked : Call) : Type 0 where

@@ -18,7 +18,7 @@ use Rattle.nam_protocol.specs.declared.scan.ScanPoint.TheVariants.{ScanKey}
 use Rattle.nam_protocol.specs.declared.txn.CommitPoint.{CommitPoint}
 use Rattle.nam_protocol.specs.declared.txn.TxnPoint.TheVariants.{Finding, Claiming, Committing}
 use Rattle.nam_protocol.specs.Client.{call_after, client_ask}
-use Rattle.nam_protocol.specs.Commit.{ask_commit, commit_after, locks_taken}
+use Rattle.nam_protocol.specs.Commit.{ask_commit, commit_after}
 use Rattle.nam_protocol.specs.Plain.{Plain}
 use Rattle.nam_protocol.specs.Reader.{Reader, ReadsAnew, ReadsOn, reader_at, reader_of}
 use Rattle.nam_protocol.specs.Telling.{go, stepped}
@@ -62,7 +62,7 @@ module _ (shape : Shape) (found : ℕ) where
         → StepOf (go client (Snapping bucket at)) (word_taken client (Snapping bucket at))
     Commits : (client : ClientState) (attempt : Open) (at : CommitPoint)
         → StepOf (committing_at client attempt at)
-        (stepped (committing_at client attempt at) attempt (length (locks_taken attempt.state at))
+        (stepped (committing_at client attempt at) attempt (length attempt.state.held)
         (commit_after attempt.state at found))
 
 module _ (shape : Shape) where

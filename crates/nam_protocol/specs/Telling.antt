@@ -77,6 +77,10 @@ with_commit client attempt number = record client {
 abbrev pub with_read : Open → List Item → Open
 with_read attempt items = record attempt { reads = attempt.reads + length items }
 
+-- what its call has read is no longer at hand
+abbrev pub unread : Open → Open
+unread attempt = record attempt { state = record attempt.state { read = None } }
+
 -- the items that were read are listed, and the transaction stays open
 abbrev pub read_listed : ClientState → Open → List Item → ClientState
 read_listed client attempt items =
@@ -91,6 +95,10 @@ abbrev pub items_of : Option Item → List Item
 items_of None = []
 items_of (Some item) = item ∷ []
 
+-- what the transaction's call has read is listed, and is at hand no longer
+abbrev pub call_listed : ClientState → Open → ClientState
+call_listed client attempt = read_listed client (unread attempt) (items_of attempt.state.read)
+
 -- the locks of these headers, the first of which is that of this record
 abbrev pub locks_from : TxnState → ℕ → List ℕ → List Lock
 locks_from state nth [] = []
@@ -104,10 +112,10 @@ new_locks state before headers = locks_from state before (drop before headers)
 
 -- a call lists what it has read when it answers; each end but the first four is the attempt's
 abbrev pub on_answer : ClientState → Open → TxnAnswer → ClientState
-on_answer client attempt (txn_answer.Value value) = read_listed client attempt (items_of attempt.state.read)
-on_answer client attempt txn_answer.Written = read_listed client attempt (items_of attempt.state.read)
-on_answer client attempt (txn_answer.Added n) = read_listed client attempt (items_of attempt.state.read)
-on_answer client attempt txn_answer.Met = read_listed client attempt (items_of attempt.state.read)
+on_answer client attempt (txn_answer.Value value) = call_listed client attempt
+on_answer client attempt txn_answer.Written = call_listed client attempt
+on_answer client attempt (txn_answer.Added n) = call_listed client attempt
+on_answer client attempt txn_answer.Met = call_listed client attempt
 on_answer client attempt (txn_answer.Committed number) = with_commit client attempt number
 on_answer client attempt txn_answer.ReadOnly = with_end client attempt outcome.ReadOnly
 on_answer client attempt (txn_answer.TooOld worker entry horizon) =

@@ -17,7 +17,7 @@ use Rattle.nam_protocol.specs.declared.txn.TxnPoint.TheVariants.{Finding, Readin
 use Rattle.nam_protocol.specs.declared.txn.TxnAnswer.{TxnAnswer}
 use Rattle.nam_protocol.specs.Operations.{op_path}
 use Rattle.nam_protocol.specs.Txn.{Stepped, ask_op, on_find, on_read, on_claim}
-use Rattle.nam_protocol.specs.Commit.{ask_commit, commit_verb, commit_after, locks_taken}
+use Rattle.nam_protocol.specs.Commit.{ask_commit, commit_verb, commit_after}
 
 module _ (shape : Shape) where
   abbrev pub txn_ask : TxnState → TxnCall → Stepped
@@ -46,7 +46,7 @@ module _ (shape : Shape) where
 
 -- the headers of the locks that the transaction has taken so far
 abbrev pub taken_at : TxnState → TxnPoint → List ℕ
-taken_at state (Committing at) = locks_taken state at
+taken_at state (Committing at) = state.held
 taken_at state _ = []
 
 abbrev pub taken_now : TxnState → Now TxnPoint TxnAnswer → List ℕ

@@ -71,7 +71,7 @@ module _ (shape : Shape) where
   -- 2. Points of a commit
 
   abbrev pub CommitPointFits : TxnState → CommitPoint → Type 0
-  CommitPointFits state (Locking at) = LockFits (length state.records) at × (length state.counts ≡ 0)
+  CommitPointFits state (Locking at) = LockFits (length state.records) state.held at × (length state.counts ≡ 0)
   CommitPointFits state (Checking at) =
       (length state.held ≡ length state.records) × (length state.counts < length state.writes)
   CommitPointFits state (Returning given full) =

@@ -56,6 +56,35 @@ pub enum Answer {
     Collected(Snapshot),
 }
 
+impl Answer {
+    ghost use Rattle.std.specs.Prelude.{◌≡◌};
+
+    /// An equal answer, made without memory.
+    pub fn copy(&self) -> Answer
+        ensures { result ≡ self.now }
+    {
+        match self {
+            Answer::Begun { prefix } => Answer::Begun { prefix: *prefix },
+            Answer::Again {
+                worker,
+                first,
+                second,
+            } => Answer::Again {
+                worker: *worker,
+                first: *first,
+                second: *second,
+            },
+            Answer::Txn(answer) => Answer::Txn(answer.copy()),
+            Answer::Scanned { items } => Answer::Scanned { items: *items },
+            Answer::Moved => Answer::Moved,
+            Answer::Back => Answer::Back,
+            Answer::Nothing => Answer::Nothing,
+            Answer::NoRoom { bucket } => Answer::NoRoom { bucket: *bucket },
+            Answer::Collected(known) => Answer::Collected(known.copy()),
+        }
+    }
+}
+
 /// Where a client's call stands.
 #[derive(Debug, Drop)]
 pub enum CallPoint {

@@ -30,7 +30,7 @@ pub use laws_left::{
 };
 pub use laws_opening::{blank_law, opening_law};
 pub use laws_room::{events_within, room_suffices};
-pub use laws_steps::step_law;
+pub use laws_steps::{step_law, unread_law};
 pub use laws_words::words_law;
 pub use scan::{ScanAnswer, ScanPoint};
 pub use session::{DriverPoint, DriverState, Job, SessionState};

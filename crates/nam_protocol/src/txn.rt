@@ -3,7 +3,7 @@
 use lists::ShortList;
 use nam_calls::{ClaimKeyPoint, CopyPoint, InstallPoint, LockPoint, ReadPoint, SlotPoint};
 use nam_layout::Place;
-use si_model::{Item, Key, Lock, Op, Snapshot, Value};
+use si_model::{Item, Key, Lock, Op, Snapshot, Value, copy_value};
 
 /// A call of a transaction. Fields are counted from 1.
 #[derive(Debug, Drop, PartialEq, Eq)]
@@ -55,6 +55,21 @@ pub struct Record {
     pub place: Place,
 }
 
+impl Default for Record {
+    ghost use Rattle.std.specs.Prelude.{◌≡◌};
+    ghost use Rattle.nam_protocol.specs.Commit.{no_record};
+
+    ghost is_default = { λ r. r ≡ no_record };
+
+    /// No record of a commit. Lists of records need one to begin with.
+    fn default() -> Record {
+        Record {
+            key: Key { table: 0, key: 0 },
+            place: Place::default(),
+        }
+    }
+}
+
 /// An open transaction of a worker whose last commit number is `last`, on the snapshot `seen`.
 #[derive(Debug, Drop)]
 pub struct TxnState {
@@ -67,11 +82,11 @@ pub struct TxnState {
     pub guards: ShortList<Key, 16>,
     /// The keys that are written or guarded, each once, with their positions.
     pub claims: ShortList<Record, 16>,
-    /// What the call that runs or was answered last has read.
+    /// What the call that runs has read, until it is listed.
     pub read: Option<Item>,
     /// The records of the commit: the written ones in write-set order, then the others that are guarded.
     pub records: ShortList<Record, 16>,
-    /// The headers that the locked records bore.
+    /// The headers that the commit's records bore which it has locked: the first ones, while it locks them.
     pub held: ShortList<u64, 16>,
     /// The numbers of the current versions of the written records whose slots were looked at.
     pub counts: ShortList<u64, 16>,
@@ -162,4 +177,38 @@ pub enum TxnAnswer {
     Full(Lock),
     /// A read went astray: this never comes in a world.
     Astray,
+}
+
+impl TxnAnswer {
+    ghost use Rattle.std.specs.Prelude.{◌≡◌};
+
+    /// An equal answer, made without memory.
+    pub fn copy(&self) -> TxnAnswer
+        ensures { result ≡ self.now }
+    {
+        match self {
+            TxnAnswer::Value(value) => TxnAnswer::Value(copy_value(value)),
+            TxnAnswer::Written => TxnAnswer::Written,
+            TxnAnswer::Added(number) => TxnAnswer::Added(*number),
+            TxnAnswer::Met => TxnAnswer::Met,
+            TxnAnswer::Committed { number } => TxnAnswer::Committed { number: *number },
+            TxnAnswer::ReadOnly => TxnAnswer::ReadOnly,
+            TxnAnswer::TooOld {
+                worker,
+                entry,
+                horizon,
+            } => TxnAnswer::TooOld {
+                worker: *worker,
+                entry: *entry,
+                horizon: *horizon,
+            },
+            TxnAnswer::NoSpace { table } => TxnAnswer::NoSpace { table: *table },
+            TxnAnswer::Declined => TxnAnswer::Declined,
+            TxnAnswer::Spent => TxnAnswer::Spent,
+            TxnAnswer::Locked(lock) => TxnAnswer::Locked(*lock),
+            TxnAnswer::Newer(lock) => TxnAnswer::Newer(*lock),
+            TxnAnswer::Full(lock) => TxnAnswer::Full(*lock),
+            TxnAnswer::Astray => TxnAnswer::Astray,
+        }
+    }
 }

@@ -54,6 +54,60 @@ pub enum Op {
 impl Op {
     ghost use Rattle.si_model.specs.Evaluation.{op_key, key_read, key_written, key_guarded, key_claimed};
 
+    /// An equal operation, made without memory.
+    pub fn copy(&self) -> Op
+        ensures { result ≡ self.now }
+    {
+        match self {
+            Op::Get { table, key } => Op::Get {
+                table: *table,
+                key: *key,
+            },
+            Op::Put { table, key, value } => Op::Put {
+                table: *table,
+                key: *key,
+                value: value.copy(),
+            },
+            Op::Add {
+                table,
+                key,
+                field,
+                up,
+                by,
+            } => Op::Add {
+                table: *table,
+                key: *key,
+                field: *field,
+                up: *up,
+                by: *by,
+            },
+            Op::Del { table, key } => Op::Del {
+                table: *table,
+                key: *key,
+            },
+            Op::Need {
+                table,
+                key,
+                field,
+                least,
+            } => Op::Need {
+                table: *table,
+                key: *key,
+                field: *field,
+                least: *least,
+            },
+            Op::Guard { table, key } => Op::Guard {
+                table: *table,
+                key: *key,
+            },
+            Op::Scan { table, low, high } => Op::Scan {
+                table: *table,
+                low: *low,
+                high: *high,
+            },
+        }
+    }
+
     /// The key that the operation names; of a scan its lowest.
     pub fn key(&self) -> Key
         ensures { result ≡ op_key self.now }

@@ -12,6 +12,7 @@ mod PolicyExample
 mod ClientExample
 mod BoundsExample
 mod WorldExample
+pub mod KeyLemmas
 pub mod FallsKeys
 pub mod FallsCommit
 pub mod FallsTxn
@@ -28,6 +29,7 @@ pub mod GrowsSession
 pub mod RunsTxn
 pub mod RunsClient
 pub mod EndsDriver
+pub mod JobKeys
 pub mod EndsSession
 pub mod EndsWorld
 pub mod RoomDriver

@@ -45,7 +45,7 @@ use Rattle.nam_protocol.specs.declared.txn.TxnState.{TxnState}
 use Rattle.nam_protocol.specs.Commit.{ask_commit, commit_after, next_free, on_lock, on_words, places, record_place}
 use Rattle.nam_protocol.specs.HoldsWords.{CommitPlaceHolds, ItemHolds, OpHolds, ResultHolds, StateHolds, StepHolds}
 use Rattle.nam_protocol.specs.HoldsWords.{TxnCallHolds, TxnPlaceHolds}
-use Rattle.nam_protocol.specs.Operations.{answer_of, holding, own_value, read_of, value_in}
+use Rattle.nam_protocol.specs.Operations.{holding, own_value, read_of, value_in}
 use Rattle.nam_protocol.specs.Txn.{Stepped, ask_op, on_find, on_read, on_value, with_op, on_claim}
 use Rattle.nam_protocol.specs.TxnCalls.{txn_after, txn_ask}
 use Rattle.nam_protocol.proofs.FallsKeys.{all_wrote}

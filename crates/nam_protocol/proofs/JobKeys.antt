@@ -1,16 +1,15 @@
 -- The keys that a job writes or guards, and that each of them has room where it is asked.
-use Rattle.std.proofs.Common.{◌≡◌, ℕ, zero, suc, ◌+◌, ◌<◌, ◌≤◌, List, [], ◌∷◌, length, take, refl, sym, ◌∙◌, ap, subst}
-use Rattle.std.proofs.Common.{arith, inl, inr, Bool, true, false, Option, Some, None}
-use Rattle.std.specs.Prelude.{◌||◌, map, slice_get}
+use Rattle.std.proofs.Common.{◌≡◌, ℕ, zero, suc, ◌≤◌, List, [], ◌∷◌, length, take, refl, sym, ◌∙◌, ap, subst}
+use Rattle.std.proofs.Common.{arith, inl, inr, true, Option, Some, None}
+use Rattle.std.specs.Prelude.{◌||◌, slice_get}
 use Rattle.std.specs.List.{AllByRecursion}
 use Rattle.std.specs.Set.{is_member}
 use Rattle.std.proofs.lemmas.Bool.{cases_Bool, false≢true}
 use Rattle.std.proofs.lemmas.Bool.Decides.{nat_tests}
 use Rattle.si_model.specs.declared.row.Key.{Key}
-use Rattle.si_model.specs.declared.row.Item.{Item}
 use Rattle.si_model.specs.declared.op.Op.{Op}
 use Rattle.si_model.specs.declared.op.Op.TheVariants.{Get, Put, Add, Del, Need, Guard, Scan}
-use Rattle.si_model.specs.Rows.{same_key, has_key, item_key, writes_key}
+use Rattle.si_model.specs.Rows.{same_key, writes_key}
 use Rattle.si_model.specs.Evaluation.{with_guard, op_key, key_written, key_guarded, key_claimed, keys_from}
 use Rattle.si_model.specs.Operations.{op_claims}
 use Rattle.si_model.proofs.EvaluationLemmas.{same_key-refl}
@@ -19,9 +18,9 @@ use Rattle.nam_catalog.specs.declared.bounds.TheConstants.{MOST_KEYS}
 use Rattle.nam_catalog.specs.declared.shape.Shape.{Shape}
 use Rattle.nam_protocol.specs.declared.txn.Record.{Record}
 use Rattle.nam_protocol.specs.declared.txn.TxnState.{TxnState}
-use Rattle.nam_protocol.specs.TxnFits.{is_claimed, is_used, StateFits, HasRoom}
+use Rattle.nam_protocol.specs.TxnFits.{is_used, StateFits, HasRoom}
 use Rattle.nam_protocol.specs.AttemptLaw.{HasAsked}
-use Rattle.nam_protocol.proofs.KeyLemmas.{member_holds, member_here, claimed_keys, guarded_once, once_within}
+use Rattle.nam_protocol.proofs.KeyLemmas.{member_holds, claimed_keys, guarded_once, once_within}
 use Rattle.nam_protocol.proofs.KeyLemmas.{written_member, has_member, claimed_length}
 use Rattle.nam_protocol.proofs.FallsKeys.{all_guarded, claims_each}
 

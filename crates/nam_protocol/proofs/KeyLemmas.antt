@@ -1,8 +1,8 @@
 -- Keys that are listed once: what is listed after one more, and how many there are.
-use Rattle.std.proofs.Common.{◌≡◌, ℕ, zero, suc, ◌+◌, ◌<◌, ◌≤◌, List, [], ◌∷◌, ◌++◌, length, refl, sym, ◌∙◌, ap, subst}
+use Rattle.std.proofs.Common.{◌≡◌, ℕ, zero, suc, ◌<◌, ◌≤◌, List, [], ◌∷◌, ◌++◌, length, refl, sym, ◌∙◌, ap, subst}
 use Rattle.std.proofs.Common.{arith, inl, inr, Bool, true, false, not}
 use Rattle.std.specs.Prelude.{◌||◌, if◌then◌else◌, map, filter}
-use Rattle.std.specs.List.{AllByRecursion, IsDistinct, list_any}
+use Rattle.std.specs.List.{AllByRecursion, IsDistinct}
 use Rattle.std.specs.Set.{is_member}
 use Rattle.std.specs.Cmp.{IsEquivalence}
 use Rattle.std.proofs.lemmas.Bool.{cases_Bool, false≢true}
@@ -13,8 +13,8 @@ use Rattle.si_model.specs.declared.row.Key.{Key}
 use Rattle.si_model.specs.declared.row.Item.{Item}
 use Rattle.si_model.specs.declared.op.Op.{Op}
 use Rattle.si_model.specs.declared.op.Op.TheVariants.{Get, Put, Add, Del, Need, Guard, Scan}
-use Rattle.si_model.specs.Rows.{Rows, key_at, same_key, has_key, item_key, item_at, writes_key}
-use Rattle.si_model.specs.Evaluation.{field_of, with_field, new_number, with_write, with_guard, writes_after}
+use Rattle.si_model.specs.Rows.{Rows, key_at, same_key, has_key, item_key, writes_key}
+use Rattle.si_model.specs.Evaluation.{with_write, with_guard, writes_after}
 use Rattle.si_model.specs.Evaluation.{guards_after, unwritten, op_key, key_guarded}
 use Rattle.si_model.specs.Operations.{op_claims}
 use Rattle.si_model.proofs.EvaluationLemmas.{same_key-refl, same_key_says, distinct-keys_from}

@@ -200,11 +200,12 @@ module _ (shape : Shape) (limits : FitsLimits shape) (state : TxnState) (fits : 
       (held, counts, l, k) (omega arith))
 
   on_return_falls : (full : Lock) (n : ℕ) (now : Now ℕ (Unit {0})) → length state.held ≡ records
-      → UnlockFalls (places state) n now
+      → length state.counts < writes → UnlockFalls (places state) n now
       → TxnFalls shape n (on_return state full now)
-  on_return_falls full n (At given) held h =
-      goes shape state n (Returning given full) fits are some room (held, let e = as_many in let l = h.0 in omega arith) h.1
-  on_return_falls full n (Over done) held h = ends shape state n (Full full) fits tt h.1
+  on_return_falls full n (At given) held counts h =
+      goes shape state n (Returning given full) fits are some room
+      (held, let e = as_many in let l = h.0 in omega arith, counts) h.1
+  on_return_falls full n (Over done) held counts h = ends shape state n (Full full) fits tt h.1
 
 -- 4. The slots: each that is free brings a count
 
@@ -242,8 +243,8 @@ module _ (shape : Shape) (limits : FitsLimits shape) (state : TxnState) (fits : 
       let e = as_many shape limits state fits are some room in
       let r = rest_least shape limits state fits are some room in
       let m = h.1 in
-      goes shape state _ (Returning 0 (lock_at state (length state.counts) found)) fits are some room (held, omega arith)
-      (omega arith)
+      goes shape state _ (Returning 0 (lock_at state (length state.counts) found)) fits are some room
+      (held, omega arith, l) (omega arith)
 
 -- 5. A commit
 
@@ -261,7 +262,7 @@ module _ (shape : Shape) (limits : FitsLimits shape) (state : TxnState) (fits : 
       (slot_falls (record_place state (length state.counts)) is at found)
   commit_falls (Returning given full) found c =
       let e = as_many shape limits state fits c.0 c.1 c.3 in
-      on_return_falls shape limits state fits c.0 c.1 c.3 full _ _ c.2.0
+      on_return_falls shape limits state fits c.0 c.1 c.3 full _ _ c.2.0 c.2.2
       (unlock_falls (places state) given (let l = c.2.1 in omega arith))
   commit_falls (Saving nth got) found c =
       on_words_falls shape limits state fits c.0 c.1 c.3 nth _ _ c.2.0 c.2.1 c.2.2

@@ -12,6 +12,7 @@ mod PolicyExample
 mod ClientExample
 mod BoundsExample
 mod WorldExample
+mod FitsExample
 pub mod KeyLemmas
 pub mod FallsKeys
 pub mod FallsCommit
@@ -19,6 +20,7 @@ pub mod FallsTxn
 pub mod FallsBegins
 pub mod FallsScan
 pub mod FallsClient
+pub mod FewLemmas
 pub mod FieldLemmas
 pub mod BlankLemmas
 pub mod OpeningLemmas

@@ -18,6 +18,7 @@ pub mod Bound
 pub mod Left
 pub mod TxnFits
 pub mod ClientFits
+pub mod FewLaw
 pub mod FallsLaw
 pub mod AttemptLaw
 pub mod FieldLaw

@@ -111,6 +111,7 @@ module _ (shape : Shape) where
       (length state.held ≡ length state.records) × (length state.counts < length state.writes)
   CommitPointFits state (Returning given full) =
       (length state.held ≡ length state.records) × (given < length state.records)
+      × (length state.counts < length state.writes)
   CommitPointFits state (Saving nth got) =
       (length state.held ≡ length state.records) × (length state.counts ≡ length state.writes)
       × (nth < length state.writes)

@@ -53,8 +53,8 @@ use Rattle.nam_protocol.specs.Left.{rest_bound, session_left}
 use Rattle.nam_protocol.specs.AttemptLaw.{HasAsked}
 use Rattle.nam_protocol.specs.TxnFits.{IsKeyOf, StateFits, OpStands, TxnCallFits, txn_call_bound}
 use Rattle.nam_protocol.specs.ClientFits.{OpenFits, NowFits, CallPointFits, ClientFits, OpenCallFits, open_bound}
-use Rattle.nam_protocol.specs.SessionFits.{OpenAsked, NowRuns, is_running, ops_of, OpsFit, JobFits, DriverPointFits, DriverFits}
-use Rattle.nam_protocol.specs.SessionFits.{SessionFits}
+use Rattle.nam_protocol.specs.SessionFits.{OpenAsked, NowRuns, is_running, ops_of, OpsFit, JobFits, DriverPointFits}
+use Rattle.nam_protocol.specs.SessionFits.{DriverFits, SessionFits}
 use Rattle.nam_protocol.specs.EndsLaw.{FitsWithin, SettlesLaw, SessionCutLaw}
 use Rattle.nam_protocol.proofs.FallsKeys.{all_at}
 use Rattle.nam_protocol.proofs.JobKeys.{op_has_room}

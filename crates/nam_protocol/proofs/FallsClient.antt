@@ -1,6 +1,6 @@
 -- The verbs to come fall in each call of a client, and how many a call begins with.
-use Rattle.std.proofs.Common.{◌≡◌, ℕ, ◌+◌, ◌-◌, ◌<◌, ◌≤◌, List, [], length, refl, sym, ◌∙◌, ap, subst, arith, Bool, true}
-use Rattle.std.proofs.Common.{false, Option, Some, None}
+use Rattle.std.proofs.Common.{◌≡◌, ℕ, ◌+◌, ◌-◌, ◌<◌, ◌≤◌, List, [], length, refl, sym, ◌∙◌, ap, subst, arith, Bool}
+use Rattle.std.proofs.Common.{true, false, Option, Some, None}
 use Rattle.std.specs.Prelude.{◌==◌, if◌then◌else◌, slice_index, IsSome}
 use Rattle.si_model.specs.Rows.{key_at, writes_key}
 use Rattle.nam_verbs.specs.declared.now.Now.{Now}
@@ -192,7 +192,8 @@ module _ (shape : Shape) (limits : FitsLimits shape) where
     on_skip_falls client position n (At place) r h = (r.0, r.1, ((r.2, is, h.0), h.1), r.3)
     on_skip_falls client position n (Over end) r h = (r.0, fits, (tt, omega arith), r.3)
 
-    skipped : (client : ClientState) (position key n : ℕ) (value : Option (List ℕ)) → Runs client.worker client.last client.txn
+    skipped : (client : ClientState) (position key n : ℕ) (value : Option (List ℕ))
+        → Runs client.worker client.last client.txn
         → position < capacity_of shape table
         → positions_left shape table (capacity_of shape table - position - 1) < n
         → ClientFalls n
@@ -390,13 +391,15 @@ module _ (shape : Shape) (limits : FitsLimits shape) where
       → ClientBegins (txn_call_bound shape attempt.state call)
       (stepped client (with_call attempt call) 0 (txn_ask shape attempt.state call))
   counted_falls client (Get t k) attempt w l f c = ask_falls client (Get t k) (with_call attempt (Get t k)) w l f c
-  counted_falls client (Put t k v) attempt w l f c = ask_falls client (Put t k v) (with_call attempt (Put t k v)) w l f c
+  counted_falls client (Put t k v) attempt w l f c =
+      ask_falls client (Put t k v) (with_call attempt (Put t k v)) w l f c
   counted_falls client (Add t k i up by) attempt w l f c =
       ask_falls client (Add t k i up by) (with_call attempt (Add t k i up by)) w l f c
   counted_falls client (Del t k) attempt w l f c = ask_falls client (Del t k) (with_call attempt (Del t k)) w l f c
   counted_falls client (Need t k i least) attempt w l f c =
       ask_falls client (Need t k i least) (with_call attempt (Need t k i least)) w l f c
-  counted_falls client (Guard t k) attempt w l f c = ask_falls client (Guard t k) (with_call attempt (Guard t k)) w l f c
+  counted_falls client (Guard t k) attempt w l f c =
+      ask_falls client (Guard t k) (with_call attempt (Guard t k)) w l f c
   counted_falls client Commit attempt w l f c = ask_falls client Commit attempt w l f c
 
   ask_txn_falls : (client : ClientState) (call : TxnCall) (opened : Option Open) → IsOf shape.workers client.worker

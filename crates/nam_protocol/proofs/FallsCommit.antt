@@ -122,9 +122,11 @@ module _ (shape : Shape) (limits : FitsLimits shape) (state : TxnState) (fits : 
       → LockFalls (places state) after_locks enough n now
       → TxnFalls shape n (on_lock state now)
   on_lock_falls n (At place) none h =
-      goes shape state n (Locking place) fits are some room (subst (λ m. LockFits m place) as_many h.0, none.0, none.1) h.1
+      goes shape state n (Locking place) fits are some room
+      (subst (λ m. LockFits m place) as_many h.0, none.0, none.1) h.1
   on_lock_falls n (Over (lock_end.Held headers)) none h =
-      goes shape (record state { held = headers }) n (Checking slot_begin) fits are some room (h.0 ∙ as_many, let c = none.0 in omega arith)
+      goes shape (record state { held = headers }) n (Checking slot_begin) fits are some room
+      (h.0 ∙ as_many, let c = none.0 in omega arith)
       (let m = h.1 in omega arith)
   on_lock_falls n (Over (lock_end.Locked nth found)) none h =
       ends shape state n (Locked (lock_at state nth found)) fits tt h.1
@@ -159,7 +161,8 @@ module _ (shape : Shape) (limits : FitsLimits shape) (state : TxnState) (fits : 
       goes shape state n (Installing nth InstallCount) fits are some room (held, counts, l, tt) (omega arith)
   install_begins nth n (Some value) held counts l m =
       let w = (nth_is nth l).least_width in
-      goes shape state n (Installing nth (InstallWord 0)) fits are some room (held, counts, l, omega arith) (omega arith)
+      goes shape state n (Installing nth (InstallWord 0)) fits are some room (held, counts, l, omega arith)
+      (omega arith)
 
   on_copy_falls : (nth n : ℕ) (old : List ℕ) (now : Now CopyPoint (Unit {0})) → length state.held ≡ records
       → length state.counts ≡ writes
@@ -168,7 +171,8 @@ module _ (shape : Shape) (limits : FitsLimits shape) (state : TxnState) (fits : 
       → TxnFalls shape (n + ((record_place state nth).width + 2) + rest_from state (nth + 1))
       (on_copy state nth old now)
   on_copy_falls nth n old (At place) held counts l wide h =
-      goes shape state _ (Copying nth old place) fits are some room (held, counts, l, wide, h.0) (let m = h.1 in omega arith)
+      goes shape state _ (Copying nth old place) fits are some room (held, counts, l, wide, h.0)
+      (let m = h.1 in omega arith)
   on_copy_falls nth n old (Over done) held counts l wide h =
       install_begins nth _ (value_at state nth) held counts l (let m = h.1 in omega arith)
 
@@ -275,7 +279,8 @@ module _ (shape : Shape) (limits : FitsLimits shape) (state : TxnState) (fits : 
       (install_falls (record_place state nth) (nth_is shape limits state fits c.0 c.1 c.3 nth c.2.2) at c.2.3)
   commit_falls Publishing found c =
       let w = within shape limits state fits c.0 c.1 c.3 in
-      next_free_falls shape limits state fits c.0 c.1 c.3 (length state.writes) _ c.2.0 c.2.1 (omega arith) w (omega arith)
+      next_free_falls shape limits state fits c.0 c.1 c.3 (length state.writes) _ c.2.0 c.2.1 (omega arith) w
+      (omega arith)
   commit_falls (Freeing nth) found c =
       let e = as_many shape limits state fits c.0 c.1 c.3 in
       let l = c.2.3 in

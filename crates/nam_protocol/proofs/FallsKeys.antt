@@ -57,13 +57,15 @@ place_of_nth (r ∷ rs) (suc nth) = place_of_nth rs nth
 module _ (shape : Shape) (limits : FitsLimits shape) where
   pub op_table : (claims : List Record) (op : Op) → OpStands shape claims op → IsTableOf shape (op_key op).table
   op_table claims (Get t k) s = let e = length-map shape.tables (λ (t : Table). t.width) in let l = s.0.0 in omega arith
-  op_table claims (Put t k v) s = let e = length-map shape.tables (λ (t : Table). t.width) in let l = s.0.0.0 in omega arith
+  op_table claims (Put t k v) s =
+      let e = length-map shape.tables (λ (t : Table). t.width) in let l = s.0.0.0 in omega arith
   op_table claims (Add t k f up by) s =
       let e = length-map shape.tables (λ (t : Table). t.width) in let l = s.0.0.0 in omega arith
   op_table claims (Del t k) s = let e = length-map shape.tables (λ (t : Table). t.width) in let l = s.0.0 in omega arith
   op_table claims (Need t k f least) s =
       let e = length-map shape.tables (λ (t : Table). t.width) in let l = s.0.0.0 in omega arith
-  op_table claims (Guard t k) s = let e = length-map shape.tables (λ (t : Table). t.width) in let l = s.0.0 in omega arith
+  op_table claims (Guard t k) s =
+      let e = length-map shape.tables (λ (t : Table). t.width) in let l = s.0.0 in omega arith
   op_table claims (Scan t low high) s =
       let e = length-map shape.tables (λ (t : Table). t.width) in let l = s.0.0 in omega arith
 

@@ -1,17 +1,12 @@
 -- How many keys, records, headers and counts a transaction has that fits.
-use Rattle.std.proofs.Common.{◌≡◌, ℕ, ◌+◌, ◌<◌, ◌≤◌, List, ◌++◌, length, sym, ◌∙◌, ap, subst, arith, true}
-use Rattle.std.specs.Prelude.{map}
+use Rattle.std.proofs.Common.{◌≡◌, ◌≤◌, List, length, ap, arith, true}
 use Rattle.std.specs.List.{AllByRecursion}
 use Rattle.std.specs.Set.{is_member}
 use Rattle.std.proofs.lemmas.List.{length-map}
 use Rattle.si_model.specs.declared.row.Key.{Key}
-use Rattle.si_model.specs.declared.row.Item.{Item}
-use Rattle.si_model.specs.Rows.{same_key, item_key}
-use Rattle.si_model.specs.Evaluation.{unwritten}
+use Rattle.si_model.specs.Rows.{same_key}
 use Rattle.si_model.proofs.ListLemmas.{All-map}
-use Rattle.nam_catalog.specs.declared.bounds.TheConstants.{MOST_KEYS}
 use Rattle.nam_catalog.specs.declared.shape.Shape.{Shape}
-use Rattle.nam_catalog.specs.Greatest.{greatest_number}
 use Rattle.nam_protocol.specs.declared.txn.CommitPoint.{CommitPoint}
 use Rattle.nam_protocol.specs.declared.txn.CommitPoint.TheVariants.{Locking, Checking, Returning, Saving, Copying}
 use Rattle.nam_protocol.specs.declared.txn.CommitPoint.TheVariants.{Installing, Publishing, Freeing}
@@ -20,22 +15,22 @@ use Rattle.nam_protocol.specs.declared.txn.TxnState.{TxnState}
 use Rattle.nam_protocol.specs.Commit.{commit_keys, records_of}
 use Rattle.nam_protocol.specs.TxnFits.{is_claimed, is_used, StateFits, CommitPointFits, CommitFits}
 use Rattle.nam_protocol.specs.FewLaw.{FewKeys, FewKeysLaw, FewPlaces, FewPlacesLaw, KeyWordLaw}
-use Rattle.nam_protocol.proofs.KeyLemmas.{AreOnce, member_holds, claimed_keys, claimed_is_member, used_once, used_member}
-use Rattle.nam_protocol.proofs.KeyLemmas.{once_within}
+use Rattle.nam_protocol.proofs.KeyLemmas.{AreOnce, member_holds, claimed_keys, claimed_is_member, used_once}
+use Rattle.nam_protocol.proofs.KeyLemmas.{used_member, once_within}
 use Rattle.nam_protocol.proofs.FallsKeys.{claims_each, keys_claimed, records_length, writes_within}
 
 module _ (shape : Shape) (state : TxnState) (fits : StateFits shape state) where
-  abbrev claimed : List Key
-  claimed = claimed_keys state.claims
+  abbrev claim_keys : List Key
+  claim_keys = claimed_keys state.claims
 
-  claimed_length : length claimed ≡ length state.claims
+  claimed_length : length claim_keys ≡ length state.claims
   claimed_length = length-map state.claims (λ (r : Record). r.key)
 
   -- keys that are listed once and claimed
   within_claims : (keys : List Key) → AreOnce keys → AllByRecursion (λ key. is_claimed state.claims key ≡ true) keys
       → length keys ≤ length state.claims
   within_claims keys once all =
-      let few = once_within keys claimed once (λ key is. claimed_is_member state.claims key
+      let few = once_within keys claim_keys once (λ key is. claimed_is_member state.claims key
       (member_holds (λ k. is_claimed state.claims k ≡ true) keys key all is)) in
       let e = claimed_length in
       omega arith
@@ -47,12 +42,12 @@ module _ (shape : Shape) (state : TxnState) (fits : StateFits shape state) where
   within_keys : length state.claims ≤ length (commit_keys state)
   within_keys =
       let Of : Key → Type 0 = λ key. is_member same_key (commit_keys state) key ≡ true in
-      let all : AllByRecursion Of claimed =
+      let all : AllByRecursion Of claim_keys =
       All-map (λ (r : Record). r.key) Of state.claims
       (claims_each (λ r. is_used state.writes state.guards r.key ≡ true) (λ r. Of r.key)
       (λ r. used_member state.writes state.guards r.key) state.claims fits.used) in
-      let few = once_within claimed (commit_keys state) fits.claimed_once
-      (λ key is. member_holds Of claimed key all is) in
+      let few = once_within claim_keys (commit_keys state) fits.claimed_once
+      (λ key is. member_holds Of claim_keys key all is) in
       let e = claimed_length in
       omega arith
 

@@ -1,7 +1,7 @@
--- A transaction with 16 claimed keys fits, and one with 17 does not; of a job the same; and what a call asks of its key.
-use Rattle.std.proofs.Common.{◌≡◌, ℕ, zero, suc, ◌+◌, ◌<◌, ◌≤◌, Bool, true, false, List, [], ◌∷◌, length, refl, arith, sym}
-use Rattle.std.proofs.Common.{Some, None}
-use Rattle.std.specs.Prelude.{if◌then◌else◌, map}
+-- A transaction with 16 claimed keys fits, and one with 17 does not; a job likewise; and what a call asks of its key.
+use Rattle.std.proofs.Common.{◌≡◌, ℕ, zero, suc, ◌+◌, ◌≤◌, Bool, true, false, List, [], ◌∷◌, refl, arith}
+use Rattle.std.proofs.Common.{sym, Some, None}
+use Rattle.std.specs.Prelude.{if◌then◌else◌, map, option_map}
 use Rattle.std.specs.List.{AllByRecursion}
 use Rattle.std.proofs.lemmas.Bool.{false≢true}
 use Rattle.si_model.specs.declared.row.Item.{Item}
@@ -9,7 +9,7 @@ use Rattle.si_model.specs.declared.op.Op.{Op}
 use Rattle.si_model.specs.Rows.{key_at, item_key}
 use Rattle.si_model.specs.Evaluation.{OpFits, key_claimed}
 use Rattle.si_model.specs.EvaluationLaws.{IsWide}
-use Rattle.si_model.specs.declared.op.Op.TheVariants.{Get, Del, Scan}
+use Rattle.si_model.specs.declared.op.Op.TheVariants.{Get, Del}
 use Rattle.si_model.proofs.EvaluationLemmas.{distinct-keys_from}
 use Rattle.nam_catalog.specs.declared.form.Form.TheVariants.{Narrow}
 use Rattle.nam_catalog.specs.declared.shape.Shape.{Shape}
@@ -17,6 +17,7 @@ use Rattle.nam_catalog.specs.Tables.{widths_of}
 use Rattle.nam_layout.specs.Place.{place_of}
 use Rattle.nam_calls.specs.declared.lock.LockPoint.TheVariants.{Peek}
 use Rattle.nam_protocol.specs.declared.txn.CommitPoint.TheVariants.{Locking}
+use Rattle.nam_protocol.specs.declared.client.Call.{Call}
 use Rattle.nam_protocol.specs.declared.client.Open.{Open}
 use Rattle.nam_protocol.specs.declared.txn.Record.{Record}
 use Rattle.nam_protocol.specs.declared.txn.TxnState.{TxnState}
@@ -26,10 +27,12 @@ use Rattle.nam_protocol.specs.Schedule.{numbers_from}
 use Rattle.nam_protocol.specs.Txn.{new_txn}
 use Rattle.nam_protocol.specs.Telling.{new_attempt, new_client}
 use Rattle.nam_protocol.specs.Commit.{records_of}
-use Rattle.nam_protocol.specs.TxnFits.{is_claimed, is_used, IsPlaced, HasRoom, OpStands, KeysFit, StateFits, CommitFits}
-use Rattle.nam_protocol.specs.ClientFits.{CallFits}
+use Rattle.nam_protocol.specs.TxnFits.{is_claimed, is_used, IsPlaced, HasRoom, OpStands, StateFits, CommitFits}
+use Rattle.nam_protocol.specs.ClientFits.{CallFits, ClientFits}
 use Rattle.nam_protocol.specs.SessionFits.{OpsFit}
+use Rattle.nam_protocol.specs.Opening.{copies, load_from, opening_words}
 use Rattle.nam_protocol.proofs.Shown.{shape, table, item}
+use Rattle.nam_protocol.proofs.ClientExample.{Alone, after_calls, after_verbs}
 use Rattle.nam_protocol.proofs.KeyLemmas.{none_once}
 
 -- one worker, and a table of 32 positions
@@ -47,8 +50,8 @@ writes_of keys = map (λ k. item 0 k None) keys
 abbrev deletions : List ℕ → List Op
 deletions keys = map (λ k. Del 0 k) keys
 
-abbrev many : ℕ → TxnState
-many count = record (new_txn 1 0 (0 ∷ [])) {
+abbrev state_with : ℕ → TxnState
+state_with count = record (new_txn 1 0 (0 ∷ [])) {
   claims = claims_of (numbers_from 0 count);
   writes = writes_of (numbers_from 0 count);
 }
@@ -76,7 +79,7 @@ wide_all [] = tt
 wide_all (k ∷ ks) = (tt, wide_all ks)
 
 -- 16 claimed keys fit
-sixteen_fit : StateFits wide (many 16)
+sixteen_fit : StateFits wide (state_with 16)
 sixteen_fit = record {
   worker_is = (omega arith, omega arith);
   last_is = omega arith;
@@ -85,53 +88,55 @@ sixteen_fit = record {
   claimed_once = distinct-keys_from key_claimed [] (deletions (numbers_from 0 16)) none_once;
   written_once = distinct-keys_from key_claimed [] (deletions (numbers_from 0 16)) none_once;
   guarded_once = none_once;
-  written = each_passes (λ (i : Item). is_claimed (many 16).claims (item_key i)) (many 16).writes refl;
+  written = each_passes (λ (i : Item). is_claimed (state_with 16).claims (item_key i)) (state_with 16).writes refl;
   guarded = tt;
-  used = each_passes (λ (r : Record). is_used (many 16).writes (many 16).guards r.key) (many 16).claims refl;
+  used =
+      each_passes (λ (r : Record). is_used (state_with 16).writes (state_with 16).guards r.key) (state_with 16).claims
+      refl;
   wide = wide_all (numbers_from 0 16);
 }
 
 -- 17 do not
-seventeen_refused : StateFits wide (many 17) → ⊥
+seventeen_refused : StateFits wide (state_with 17) → ⊥
 seventeen_refused fits = let few = fits.few in omega arith
 
 -- nor does a key that is claimed and neither written nor guarded
-unused_refused : StateFits wide (record (many 16) { writes = [] }) → ⊥
+unused_refused : StateFits wide (record (state_with 16) { writes = [] }) → ⊥
 unused_refused fits = false≢true fits.used.0
 
 -- nor a worker's number that is none of the form
-number_refused : StateFits wide (record (many 1) { last = 4294967296 }) → ⊥
+number_refused : StateFits wide (record (state_with 1) { last = 4294967296 }) → ⊥
 number_refused fits = let last = fits.last_is in omega arith
 
 -- 2. A commit of them, which needs a number
 
-abbrev committing : ℕ → TxnState
-committing last = record (many 16) { last = last; records = records_of (many 16) }
+abbrev commit_state : ℕ → TxnState
+commit_state last = record (state_with 16) { last = last; records = records_of (state_with 16) }
 
-commit_fits : CommitFits wide (committing 4294967294) (Locking (Peek []))
+commit_fits : CommitFits wide (commit_state 4294967294) (Locking (Peek []))
 commit_fits = (refl, omega arith, (omega arith, refl, omega arith), omega arith)
 
-spent_refused : CommitFits wide (committing 4294967295) (Locking (Peek [])) → ⊥
+spent_refused : CommitFits wide (commit_state 4294967295) (Locking (Peek [])) → ⊥
 spent_refused fits = let room = fits.3 in omega arith
 
 -- 3. What is asked
 
 -- one more key has room beside 15, and none beside 16
-room_beside_15 : HasRoom (many 15).claims (Del 0 15)
+room_beside_15 : HasRoom (state_with 15).claims (Del 0 15)
 room_beside_15 claims new = omega arith
 
-no_room_beside_16 : HasRoom (many 16).claims (Del 0 16) → ⊥
+no_room_beside_16 : HasRoom (state_with 16).claims (Del 0 16) → ⊥
 no_room_beside_16 room = let l = room refl refl in omega arith
 
 -- a claimed key needs none, and neither does a get
-room_of_claimed : HasRoom (many 16).claims (Del 0 3)
+room_of_claimed : HasRoom (state_with 16).claims (Del 0 3)
 room_of_claimed claims new = absurd (false≢true (sym new))
 
-room_of_get : HasRoom (many 16).claims (Get 0 16)
+room_of_get : HasRoom (state_with 16).claims (Get 0 16)
 room_of_get claims new = absurd (false≢true claims)
 
 abbrev open_with : ℕ → Open
-open_with count = record (new_attempt (new_client 1 0) 1 1 0 (0 ∷ [])) { state = many count }
+open_with count = record (new_attempt (new_client 1 0) 1 1 0 (0 ∷ [])) { state = state_with count }
 
 call_fits : CallFits wide (Some (open_with 15)) (call.Txn (txn_call.Del 0 15))
 call_fits = ((omega arith, omega arith), refl, omega arith, room_beside_15)
@@ -148,6 +153,22 @@ key_refused stands = let word = stands.2 in omega arith
 
 tidied_key_refused : CallFits wide None (call.Tidy 0 18446744073709551615) → ⊥
 tidied_key_refused fits = let word = fits.1.1 in omega arith
+
+-- a client with 16 claimed keys fits
+client_fits : ClientFits wide (record (new_client 1 0) { txn = Some (open_with 16) })
+client_fits = ((omega arith, omega arith), sixteen_fit, tt, omega arith)
+
+-- and comes there by its calls
+abbrev its_calls : List Call
+its_calls = call.Begin 1 1 ∷ map (λ k. call.Txn (txn_call.Del 0 k)) (numbers_from 0 16)
+
+abbrev opened : Alone
+opened = record { words = opening_words wide []; client = new_client 1 0 }
+
+claims_of_client : option_map (λ (attempt : Open). attempt.state.claims) (after_calls wide opened its_calls).client.txn
+    ≡ Some (state_with 16).claims
+unfolding after_verbs copies load_from
+claims_of_client = refl
 
 -- 4. A job
 

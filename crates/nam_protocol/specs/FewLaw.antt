@@ -1,6 +1,6 @@
 -- What fits takes no more places than there are: at most 16 keys, records, headers and counts; and a commit's number is
 -- one of its form.
-use Rattle.std.specs.Prelude.{◌≡◌, ℕ, ◌+◌, ◌≤◌, List, length}
+use Rattle.std.specs.Prelude.{◌≡◌, ◌+◌, ◌≤◌, List, length}
 use Rattle.si_model.specs.declared.op.Op.{Op}
 use Rattle.si_model.specs.Evaluation.{unwritten, op_key}
 use Rattle.nam_catalog.specs.declared.bounds.TheConstants.{MOST_KEYS}

@@ -17,6 +17,7 @@ use Rattle.si_model.specs.Rows.{key_at}
 use Rattle.si_model.specs.Evaluation.{OpFits, with_guard, op_key, key_written, keys_from, written_keys}
 use Rattle.si_model.specs.Answers.{lock_key}
 use Rattle.nam_verbs.proofs.TestLemmas.{by_test, by_equal}
+use Rattle.nam_catalog.specs.declared.bounds.TheConstants.{MOST_KEYS}
 use Rattle.nam_catalog.specs.declared.shape.Table.{Table}
 use Rattle.nam_catalog.specs.declared.shape.Shape.{Shape}
 use Rattle.nam_catalog.specs.Tables.{widths_of}
@@ -42,6 +43,7 @@ use Rattle.nam_protocol.specs.SessionFits.{OpenAsked, ops_of, JobFits, AreKeysOf
 use Rattle.nam_protocol.specs.SessionFits.{DriverFits}
 use Rattle.nam_protocol.proofs.FallsKeys.{all_guarded}
 use Rattle.nam_protocol.proofs.RunsClient.{HasPassed, TxnAnswered, AskAnswered, TidyAnswered, IsAnswered}
+use Rattle.nam_protocol.proofs.JobKeys.{written_few}
 use Rattle.nam_protocol.specs.declared.txn.TxnAnswer.TheVariants as txn_answer
 use Rattle.nam_protocol.specs.declared.client.Answer.TheVariants as answer
 
@@ -280,16 +282,16 @@ module _ (shape : Shape) where
 
     goes_tidying : (n calls : ℕ) (keys : List Key) (nth : ℕ) (retry : Bool) → AreKeysOf shape keys
         → nth ≤ length keys
-        → (retry ≡ true → driver.nth < tries)
+        → (retry ≡ true → driver.nth < tries) → length keys ≤ MOST_KEYS
         → keys_bound shape (drop nth keys) + later ≤ n → 1 ≤ calls
         → Goes n calls (tidying driver keys nth retry)
-    goes_tidying n calls keys nth retry of within may l c =
+    goes_tidying n calls keys nth retry of within may few l c =
         by_equal (Goes n calls) nth (length keys) (if retry then next_try driver else next_job driver)
         (record driver { place = ToTidy keys nth false retry })
         (λ e. goes_tidied n calls retry may (omega arith) c)
         (λ other. let m : nth < length keys = omega arith in
         let f = tidy_figure job.ops keys nth retry m in
-        goes_at n calls driver.nth (ToTidy keys nth false retry) (least, most) (of, m, may) tt (omega arith) c)
+        goes_at n calls driver.nth (ToTidy keys nth false retry) (least, most) (of, m, may, few) tt (omega arith) c)
 
     first_false : (a b : Bool) → (a || b) ≡ false → a ≡ false
     first_false true b e = e
@@ -305,7 +307,7 @@ module _ (shape : Shape) where
         (λ e. goes_retried n calls (omega arith) c)
         (λ e. let other = first_false (driver.nth == tries) (not driver.policy.tidy) e in
         let m : driver.nth < tries = grind (arith, nat_tests) in
-        goes_tidying n calls (key ∷ []) 0 true (is, tt) (omega arith) (λ t. m) (omega arith) c)
+        goes_tidying n calls (key ∷ []) 0 true (is, tt) (omega arith) (λ t. m) (omega arith) (omega arith) c)
 
     goes_commit : (n calls : ℕ) → JobFits shape job → keys_bound shape (written_keys job.ops) + later ≤ n → 1 ≤ calls
         → Goes n calls (on_commit jobs driver)
@@ -317,7 +319,7 @@ module _ (shape : Shape) where
         (sym here)
         (either (Goes n calls) driver.policy.tidy tidied (next_job driver)
         (goes_tidying n calls keys 0 false (written_of_tables [] job.ops fit.fit fit.keys tt) (omega arith)
-        (λ t. absurd (false≢true t)) l c)
+        (λ t. absurd (false≢true t)) (written_few job.ops fit.few) l c)
         (goes_next n calls (omega arith) c))
 
     goes_ask : (n calls nth : ℕ) → OpenAsked txn (take nth job.ops)
@@ -394,7 +396,7 @@ module _ (shape : Shape) where
           let l = fits.1 in
           let f = tidied_figure job.ops keys nth again retry l in
           goes_tidying (follows (ToTidy keys nth again retry)) (length job.ops + 2) keys (nth + 1) retry fits.0
-          (omega arith) fits.2 (omega arith) (omega arith)
+          (omega arith) fits.2 fits.3 (omega arith) (omega arith)
 
       tidy_goes : (again : Bool) (end : Answer) → TidyAnswered shape end
           → Goes (follows (ToTidy keys nth again retry)) (length job.ops + 2) (on_tidy driver keys nth again retry end)

@@ -241,11 +241,13 @@ module _ (shape : Shape) (limits : FitsLimits shape) where
   -- 5. The other calls
 
   -- a new transaction
-  new_fits : (worker last : ℕ) → IsOf shape.workers worker → last ≤ greatest_number shape.form
-      → KeysFit shape worker last [] [] []
-  new_fits worker last w l = record {
+  begun_fits : (worker last : ℕ) (seen : List ℕ) → IsOf shape.workers worker → last ≤ greatest_number shape.form
+      → length seen ≡ shape.workers
+      → KeysFit shape worker last seen [] [] []
+  begun_fits worker last seen w l e = record {
     worker_is = w;
     last_is = l;
+    seen_is = e;
     few = omega arith;
     placed = tt;
     claimed_once = none_once;
@@ -263,7 +265,7 @@ module _ (shape : Shape) (limits : FitsLimits shape) where
         → ClientFalls n (on_begin shape client txn nth now)
     on_begin_falls txn nth n (At place) h = (w, f, h, last)
     on_begin_falls txn nth n (Over (snap_end.Done seen)) h =
-        (w, new_fits client.worker client.last w last, (tt, h.1), last)
+        (w, begun_fits client.worker client.last seen w last h.0, (tt, h.1), last)
     on_begin_falls txn nth n (Over (snap_end.Again worker first second)) h = (w, f, (tt, h.1), last)
 
     on_seek_falls : (table key n : ℕ) (now : Now ℕ FindEnd) → IsTableOf shape table → IsWord (key_word key)

@@ -155,8 +155,8 @@ module _ (shape : Shape) where
     pub written : AllByRecursion (λ item. is_claimed claims (item_key item) ≡ true) writes
     pub guarded : AllByRecursion (λ key. is_claimed claims key ≡ true) guards
 
-  module _ (worker last : ℕ) (cs : List Record) (ws : List Item) (gs : List Key)
-      (fits : KeysFit shape worker last cs ws gs) where
+  module _ (worker last : ℕ) (seen : List ℕ) (cs : List Record) (ws : List Item) (gs : List Key)
+      (fits : KeysFit shape worker last seen cs ws gs) where
     pub are_claimed : AreClaimed cs ws gs
     are_claimed = record {
       few = fits.few;
@@ -182,10 +182,11 @@ module _ (shape : Shape) where
 
     module _ (claims : List Record) (are : AreClaimed claims ws gs) where
       same_fits : AllByRecursion (λ (r : Record). is_used ws gs r.key ≡ true) claims
-          → KeysFit shape worker last claims ws gs
+          → KeysFit shape worker last seen claims ws gs
       same_fits used = record {
         worker_is = fits.worker_is;
         last_is = fits.last_is;
+        seen_is = fits.seen_is;
         few = are.few;
         placed = are.placed;
         claimed_once = are.once;
@@ -200,10 +201,11 @@ module _ (shape : Shape) where
       write_fits : (key : Key) (value : Option (List ℕ)) → is_claimed claims key ≡ true
           → HasWidth (width_of shape key.table) value
           → AllByRecursion (λ (r : Record). is_used (with_write ws (item_at key value)) gs r.key ≡ true) claims
-          → KeysFit shape worker last claims (with_write ws (item_at key value)) gs
+          → KeysFit shape worker last seen claims (with_write ws (item_at key value)) gs
       write_fits key value claimed wide used = record {
         worker_is = fits.worker_is;
         last_is = fits.last_is;
+        seen_is = fits.seen_is;
         few = are.few;
         placed = are.placed;
         claimed_once = are.once;
@@ -219,10 +221,11 @@ module _ (shape : Shape) where
 
       guard_fits : (key : Key) → is_claimed claims key ≡ true
           → AllByRecursion (λ (r : Record). is_used ws (with_guard gs key) r.key ≡ true) claims
-          → KeysFit shape worker last claims ws (with_guard gs key)
+          → KeysFit shape worker last seen claims ws (with_guard gs key)
       guard_fits key claimed used = record {
         worker_is = fits.worker_is;
         last_is = fits.last_is;
+        seen_is = fits.seen_is;
         few = are.few;
         placed = are.placed;
         claimed_once = are.once;
@@ -239,7 +242,7 @@ module _ (shape : Shape) where
           → is_claimed claims (op_key op) ≡ true → HasWidth (width_of shape (op_key op).table) value
           → AllByRecursion
           (λ (r : Record). used_after (widths_of shape.tables) (holding value) ws gs op r.key ≡ true) claims
-          → KeysFit shape worker last claims (writes_after (widths_of shape.tables) op (holding value) ws)
+          → KeysFit shape worker last seen claims (writes_after (widths_of shape.tables) op (holding value) ws)
           (guards_after op gs)
       op_fits (Get t k) value f claimed wide used = same_fits used
       op_fits (Put t k v) value f claimed wide used = write_fits (key_at t k) (Some v) claimed f.1 used
@@ -255,7 +258,7 @@ module _ (shape : Shape) where
     -- of a key that is claimed already
     pub own_fits : (op : Op) (value : Option (List ℕ)) → OpFits (widths_of shape.tables) op
         → is_claimed cs (op_key op) ≡ true → HasWidth (width_of shape (op_key op).table) value
-        → KeysFit shape worker last cs (writes_after (widths_of shape.tables) op (holding value) ws)
+        → KeysFit shape worker last seen cs (writes_after (widths_of shape.tables) op (holding value) ws)
         (guards_after op gs)
     own_fits op value f claimed wide =
         op_fits cs are_claimed op value f claimed wide
@@ -267,7 +270,7 @@ module _ (shape : Shape) where
     pub new_fits : (op : Op) (r : Record) (value : Option (List ℕ)) → OpFits (widths_of shape.tables) op
         → op_claims op ≡ true → r.key ≡ op_key op → IsPlaced shape r
         → (is_claimed cs r.key ≡ false → length cs < MOST_KEYS) → HasWidth (width_of shape (op_key op).table) value
-        → KeysFit shape worker last (with_claim cs r)
+        → KeysFit shape worker last seen (with_claim cs r)
         (writes_after (widths_of shape.tables) op (holding value) ws) (guards_after op gs)
     new_fits op r value f claims same new room wide =
         let c = claim_fits r new room in

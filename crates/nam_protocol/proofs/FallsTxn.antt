@@ -122,7 +122,7 @@ module _ (shape : Shape) (limits : FitsLimits shape) where
     on_claim_falls n (At place) wide claims h = (fits, ((stands, h.0, wide, claims), h.1))
     on_claim_falls n (Over claimed_key.NoSpace) wide claims h = (fits, (tt, h.1))
     on_claim_falls n (Over (claimed_key.At position)) wide claims h = (
-      new_fits shape state.worker state.last state.claims state.writes state.guards fits op
+      new_fits shape state.worker state.last state.seen state.claims state.writes state.guards fits op
           (record_of shape op position) (value_in state.read) stands.0 claims refl
           (position, (is_table, h.0), refl, stands.2) (stands.3 claims) wide,
       (answer_fits shape.form op (value_in state.read), h.1),
@@ -179,8 +179,8 @@ module _ (shape : Shape) (limits : FitsLimits shape) where
       either (TxnBegins shape n) (not (passes op (holding value))) (over state Declined)
       (over (with_op shape state op value) (answer_of op value))
       (fits, tt) (
-        own_fits shape state.worker state.last state.claims state.writes state.guards fits op value stands.0
-            (own_claimed shape state.worker state.last state.claims state.writes state.guards fits (op_key op) e)
+        own_fits shape state.worker state.last state.seen state.claims state.writes state.guards fits op value stands.0
+            (own_claimed shape state.worker state.last state.seen state.claims state.writes state.guards fits (op_key op) e)
             wide,
         answer_fits shape.form op value,
       )

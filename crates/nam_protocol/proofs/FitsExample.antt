@@ -83,6 +83,7 @@ sixteen_fit : StateFits wide (state_with 16)
 sixteen_fit = record {
   worker_is = (omega arith, omega arith);
   last_is = omega arith;
+  seen_is = refl;
   few = omega arith;
   placed = placed_from 0 16 (omega arith);
   claimed_once = distinct-keys_from key_claimed [] (deletions (numbers_from 0 16)) none_once;

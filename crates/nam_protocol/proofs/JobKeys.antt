@@ -11,8 +11,9 @@ use Rattle.si_model.specs.declared.op.Op.{Op}
 use Rattle.si_model.specs.declared.op.Op.TheVariants.{Get, Put, Add, Del, Need, Guard, Scan}
 use Rattle.si_model.specs.Rows.{same_key, writes_key}
 use Rattle.si_model.specs.Evaluation.{with_guard, op_key, key_written, key_guarded, key_claimed, keys_from}
+use Rattle.si_model.specs.Evaluation.{written_keys}
 use Rattle.si_model.specs.Operations.{op_claims}
-use Rattle.si_model.proofs.EvaluationLemmas.{same_key-refl}
+use Rattle.si_model.proofs.EvaluationLemmas.{same_key-refl, distinct-keys_from}
 use Rattle.si_model.proofs.ListLemmas.{All-map}
 use Rattle.nam_catalog.specs.declared.bounds.TheConstants.{MOST_KEYS}
 use Rattle.nam_catalog.specs.declared.shape.Shape.{Shape}
@@ -20,7 +21,7 @@ use Rattle.nam_protocol.specs.declared.txn.Record.{Record}
 use Rattle.nam_protocol.specs.declared.txn.TxnState.{TxnState}
 use Rattle.nam_protocol.specs.TxnFits.{is_used, StateFits, HasRoom}
 use Rattle.nam_protocol.specs.AttemptLaw.{HasAsked}
-use Rattle.nam_protocol.proofs.KeyLemmas.{member_holds, claimed_keys, guarded_once, once_within}
+use Rattle.nam_protocol.proofs.KeyLemmas.{none_once, member_holds, claimed_keys, guarded_once, once_within}
 use Rattle.nam_protocol.proofs.KeyLemmas.{written_member, has_member, claimed_length}
 use Rattle.nam_protocol.proofs.FallsKeys.{all_guarded, claims_each}
 
@@ -129,6 +130,20 @@ claims_its_key (Del t k) e = refl
 claims_its_key (Need t k f least) e = absurd (false≢true e)
 claims_its_key (Guard t k) e = refl
 claims_its_key (Scan t low high) e = absurd (false≢true e)
+
+take_all : {A : Type 0} (xs : List A) → take (length xs) xs ≡ xs
+take_all [] = refl
+take_all (x ∷ xs) = ap (λ ys. x ∷ ys) (take_all xs)
+
+-- the keys that are written are no more than those that are written or guarded
+pub written_few : (ops : List Op) → length (keys_from key_claimed [] ops) ≤ MOST_KEYS
+    → length (written_keys ops) ≤ MOST_KEYS
+written_few ops few =
+    let within = once_within (written_keys ops) (keys_from key_claimed [] ops)
+    (distinct-keys_from key_written [] ops none_once)
+    (λ key is. named_before key_written key_claimed written_claims [] [] ops (length ops) (λ k i. i) key
+    (subst (λ some. is_member same_key (keys_from key_written [] some) key ≡ true) (sym (take_all ops)) is)) in
+    omega arith
 
 -- 3. Each operation of a job has room, where those before it have passed
 

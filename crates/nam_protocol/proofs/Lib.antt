@@ -30,8 +30,8 @@ pub mod Grows
 pub mod GrowsSession
 pub mod RunsTxn
 pub mod RunsClient
-pub mod EndsDriver
 pub mod JobKeys
+pub mod EndsDriver
 pub mod EndsSession
 pub mod EndsWorld
 pub mod RoomDriver

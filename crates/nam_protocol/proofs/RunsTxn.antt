@@ -175,7 +175,7 @@ module _ (shape : Shape) where
   written_is_key : (state : TxnState) (key : Key) → StateFits shape state → writes_key state.writes key ≡ true
       → IsKeyOf shape key
   written_is_key state key fits e =
-      let is = own_claimed shape state.worker state.last state.claims state.writes state.guards fits key e in
+      let is = own_claimed shape state.worker state.last state.seen state.claims state.writes state.guards fits key e in
       let p = record_placed shape state.claims key fits.placed is in
       subst (IsKeyOf shape) (record_key state.claims key is) (p.1.0, p.3)
 

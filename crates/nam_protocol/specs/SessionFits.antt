@@ -103,9 +103,10 @@ module _ (shape : Shape) where
   abbrev pub AreKeysOf : List Key → Type 0
   AreKeysOf keys = AllByRecursion (IsKeyOf shape) keys
 
-  -- the nth of the keys is to be tidied; another try follows only where one is left
+  -- the nth of at most 16 keys is to be tidied; another try follows only where one is left
   abbrev pub TidiesFit : ℕ → ℕ → List Key → ℕ → Bool → Type 0
-  TidiesFit tries try keys nth retry = AreKeysOf keys × (nth < length keys) × (retry ≡ true → try < tries)
+  TidiesFit tries try keys nth retry =
+      AreKeysOf keys × (nth < length keys) × (retry ≡ true → try < tries) × (length keys ≤ MOST_KEYS)
 
   abbrev pub DriverPointFits : ℕ → ℕ → DriverPoint → Type 0
   DriverPointFits tries try ToBegin = Unit {0}

@@ -83,12 +83,14 @@ module _ (shape : Shape) where
       × IsWord (key_word r.key.key)
 
   -- 1. What a transaction has at hand: the keys that it writes or guards are claimed, and no others, at most 16 in all;
-  -- each of them once, with a position; each value has its table's width; and the worker's last number is one of the
-  -- form
+  -- each of them once, with a position; each value has its table's width; the worker's last number is one of the form;
+  -- and its snapshot has an entry for each worker
 
-  pub record KeysFit (worker last : ℕ) (claims : List Record) (writes : List Item) (guards : List Key) : Type 0 where
+  pub record KeysFit (worker last : ℕ) (seen : List ℕ) (claims : List Record) (writes : List Item)
+      (guards : List Key) : Type 0 where
     pub worker_is : IsOf shape.workers worker
     pub last_is : last ≤ greatest_number shape.form
+    pub seen_is : length seen ≡ shape.workers
     pub few : length claims ≤ MOST_KEYS
     pub placed : AllByRecursion (IsPlaced) claims
     pub claimed_once : IsDistinct same_key (map (λ (r : Record). r.key) claims)
@@ -100,7 +102,7 @@ module _ (shape : Shape) where
     pub wide : AllByRecursion (IsWide (widths_of shape.tables)) writes
 
   abbrev pub StateFits : TxnState → Type 0
-  StateFits state = KeysFit state.worker state.last state.claims state.writes state.guards
+  StateFits state = KeysFit state.worker state.last state.seen state.claims state.writes state.guards
 
   -- 2. Points of a commit
 

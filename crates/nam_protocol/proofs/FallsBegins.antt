@@ -44,7 +44,7 @@ record_key (c ∷ cs) key e =
     (λ f. record_key cs key (rw f at e))
 
 module _ (shape : Shape) (limits : FitsLimits shape) where
-  record_width : (cs : List Record) (key : Key) → AllByRecursion (IsPlaced shape) cs → is_claimed cs key ≡ true
+  pub record_width : (cs : List Record) (key : Key) → AllByRecursion (IsPlaced shape) cs → is_claimed cs key ≡ true
       → (record_in cs key).place.width ≡ width_of shape key.table
   record_width cs key placed e =
       let p = record_placed shape cs key placed e in

@@ -14,10 +14,11 @@ use Rattle.nam_protocol.specs.declared.txn.Record.{Record}
 use Rattle.nam_protocol.specs.declared.txn.TxnState.{TxnState}
 use Rattle.nam_protocol.specs.Commit.{commit_keys, records_of}
 use Rattle.nam_protocol.specs.TxnFits.{is_claimed, is_used, StateFits, CommitPointFits, CommitFits}
-use Rattle.nam_protocol.specs.FewLaw.{FewKeys, FewKeysLaw, FewPlaces, FewPlacesLaw, KeyWordLaw}
+use Rattle.nam_protocol.specs.FewLaw.{FewKeys, FewKeysLaw, FewPlaces, FewPlacesLaw, FewTidiesLaw, KeyWordLaw}
 use Rattle.nam_protocol.proofs.KeyLemmas.{AreOnce, member_holds, claimed_keys, claimed_is_member, used_once}
 use Rattle.nam_protocol.proofs.KeyLemmas.{used_member, once_within}
 use Rattle.nam_protocol.proofs.FallsKeys.{claims_each, keys_claimed, records_length, writes_within}
+use Rattle.nam_protocol.proofs.JobKeys.{written_few}
 
 module _ (shape : Shape) (state : TxnState) (fits : StateFits shape state) where
   abbrev claim_keys : List Key
@@ -97,6 +98,9 @@ few_keys = few_keys_here
 
 pub few_places : FewPlacesLaw
 few_places shape state at fits c = few_places_at shape state fits at c
+
+pub few_tidies : FewTidiesLaw
+few_tidies shape ops fits = written_few ops fits.few
 
 pub key_words : KeyWordLaw
 key_words shape claims op stands = stands.2

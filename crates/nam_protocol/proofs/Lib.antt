@@ -20,7 +20,7 @@ pub mod FallsTxn
 pub mod FallsBegins
 pub mod FallsScan
 pub mod FallsClient
-pub mod FewLemmas
+pub mod GivesCommit
 pub mod FieldLemmas
 pub mod BlankLemmas
 pub mod OpeningLemmas
@@ -31,6 +31,7 @@ pub mod GrowsSession
 pub mod RunsTxn
 pub mod RunsClient
 pub mod JobKeys
+pub mod FewLemmas
 pub mod EndsDriver
 pub mod EndsSession
 pub mod EndsWorld

@@ -2,7 +2,7 @@
 -- one of its form.
 use Rattle.std.specs.Prelude.{◌≡◌, ◌+◌, ◌≤◌, List, length}
 use Rattle.si_model.specs.declared.op.Op.{Op}
-use Rattle.si_model.specs.Evaluation.{unwritten, op_key}
+use Rattle.si_model.specs.Evaluation.{unwritten, op_key, written_keys}
 use Rattle.nam_catalog.specs.declared.bounds.TheConstants.{MOST_KEYS}
 use Rattle.nam_catalog.specs.declared.shape.Shape.{Shape}
 use Rattle.nam_catalog.specs.Greatest.{greatest_number}
@@ -13,6 +13,7 @@ use Rattle.nam_protocol.specs.declared.txn.Record.{Record}
 use Rattle.nam_protocol.specs.declared.txn.TxnState.{TxnState}
 use Rattle.nam_protocol.specs.Commit.{records_of}
 use Rattle.nam_protocol.specs.TxnFits.{StateFits, CommitFits, OpStands}
+use Rattle.nam_protocol.specs.SessionFits.{OpsFit}
 
 -- the claimed keys are those that are written and those that are guarded only, at most 16 in all
 pub record FewKeys (state : TxnState) : Type 0 where
@@ -35,6 +36,10 @@ pub record FewPlaces (shape : Shape) (state : TxnState) : Type 0 where
 abbrev pub FewPlacesLaw : Type 0
 FewPlacesLaw = (shape : Shape) (state : TxnState) (at : CommitPoint) → StateFits shape state
     → CommitFits shape state at → FewPlaces shape state
+
+-- the keys that a job's operations write, which are tidied after its commit
+abbrev pub FewTidiesLaw : Type 0
+FewTidiesLaw = (shape : Shape) (ops : List Op) → OpsFit shape ops → length (written_keys ops) ≤ MOST_KEYS
 
 -- the word that a position bears for an operation's key
 abbrev pub KeyWordLaw : Type 0

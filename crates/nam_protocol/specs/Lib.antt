@@ -18,7 +18,7 @@ pub mod Bound
 pub mod Left
 pub mod TxnFits
 pub mod ClientFits
-pub mod FewLaw
+pub mod CommitGives
 pub mod FallsLaw
 pub mod AttemptLaw
 pub mod FieldLaw
@@ -26,6 +26,7 @@ pub mod OpeningLaw
 pub mod StepLaw
 pub mod Grows
 pub mod SessionFits
+pub mod FewLaw
 pub mod EndsLaw
 pub mod RoomLaw
 pub mod ClientEvents

@@ -14,13 +14,16 @@ use Rattle.si_model.specs.declared.op.Op.{Op}
 use Rattle.si_model.specs.declared.op.Op.TheVariants.{Get, Put, Add, Del, Need, Guard, Scan}
 use Rattle.si_model.specs.declared.log.Lock.{Lock}
 use Rattle.si_model.specs.Rows.{key_at}
-use Rattle.si_model.specs.Evaluation.{OpFits, with_guard, key_written, keys_from, written_keys}
+use Rattle.si_model.specs.Evaluation.{OpFits, with_guard, op_key, key_written, keys_from, written_keys}
 use Rattle.si_model.specs.Answers.{lock_key}
 use Rattle.nam_verbs.proofs.TestLemmas.{by_test, by_equal}
+use Rattle.nam_catalog.specs.declared.bounds.TheConstants.{MOST_KEYS}
 use Rattle.nam_catalog.specs.declared.shape.Table.{Table}
 use Rattle.nam_catalog.specs.declared.shape.Shape.{Shape}
 use Rattle.nam_catalog.specs.Tables.{widths_of}
 use Rattle.nam_calls.specs.Fits.{IsTableOf}
+use Rattle.nam_calls.specs.Holds.{IsWord}
+use Rattle.nam_calls.specs.Words.{key_word}
 use Rattle.nam_calls.proofs.FallsTests.{either}
 use Rattle.nam_protocol.specs.declared.txn.TxnAnswer.{TxnAnswer}
 use Rattle.nam_protocol.specs.declared.client.Answer.{Answer}
@@ -35,10 +38,12 @@ use Rattle.nam_protocol.specs.AttemptLaw.{has_passed}
 use Rattle.nam_protocol.specs.Bound.{op_bound, ops_bound, tidy_bound, collect_bound}
 use Rattle.nam_protocol.specs.Left.{key_bound, keys_bound, commit_bound, try_bound, jobs_bound}
 use Rattle.nam_protocol.specs.Left.{after_call_bound, rest_bound}
-use Rattle.nam_protocol.specs.SessionFits.{OpenAsked, ops_of, JobFits, AreOfTables, TidiesFit, DriverPointFits}
+use Rattle.nam_protocol.specs.TxnFits.{IsKeyOf}
+use Rattle.nam_protocol.specs.SessionFits.{OpenAsked, ops_of, JobFits, AreKeysOf, TidiesFit, DriverPointFits}
 use Rattle.nam_protocol.specs.SessionFits.{DriverFits}
 use Rattle.nam_protocol.proofs.FallsKeys.{all_guarded}
 use Rattle.nam_protocol.proofs.RunsClient.{HasPassed, TxnAnswered, AskAnswered, TidyAnswered, IsAnswered}
+use Rattle.nam_protocol.proofs.JobKeys.{written_few}
 use Rattle.nam_protocol.specs.declared.txn.TxnAnswer.TheVariants as txn_answer
 use Rattle.nam_protocol.specs.declared.client.Answer.TheVariants as answer
 
@@ -158,39 +163,41 @@ module _ (shape : Shape) where
 
   -- 3. The keys that a job writes
 
-  of_table : (t k : ℕ) (key : Key) → t < length (widths_of shape.tables) → Some (key_at t k) ≡ Some key
-      → IsTableOf shape key.table
-  of_table t k key l e =
+  of_table : (t k : ℕ) (key : Key) → t < length (widths_of shape.tables) → IsWord (key_word k)
+      → Some (key_at t k) ≡ Some key
+      → IsKeyOf shape key
+  of_table t k key l word e =
       let same = ap (key_or (key_at t k)) e in
       let m = length-map shape.tables (λ (table : Table). table.width) in
       let is : IsTableOf shape t = omega arith in
-      subst (λ (other : Key). IsTableOf shape other.table) same is
+      subst (IsKeyOf shape) same (is, word)
 
   -- an operation's key is of a table
-  written_of_table : (op : Op) (key : Key) → OpFits (widths_of shape.tables) op → key_written op ≡ Some key
-      → IsTableOf shape key.table
-  written_of_table (Get t k) key f e = absurd (cc)
-  written_of_table (Put t k v) key f e = of_table t k key f.0.0 e
-  written_of_table (Add t k i up by) key f e = of_table t k key f.0.0 e
-  written_of_table (Del t k) key f e = of_table t k key f.0 e
-  written_of_table (Need t k i least) key f e = absurd (cc)
-  written_of_table (Guard t k) key f e = absurd (cc)
-  written_of_table (Scan t low high) key f e = absurd (cc)
+  written_of_table : (op : Op) (key : Key) → OpFits (widths_of shape.tables) op → IsWord (key_word (op_key op).key)
+      → key_written op ≡ Some key
+      → IsKeyOf shape key
+  written_of_table (Get t k) key f word e = absurd (cc)
+  written_of_table (Put t k v) key f word e = of_table t k key f.0.0 word e
+  written_of_table (Add t k i up by) key f word e = of_table t k key f.0.0 word e
+  written_of_table (Del t k) key f word e = of_table t k key f.0 word e
+  written_of_table (Need t k i least) key f word e = absurd (cc)
+  written_of_table (Guard t k) key f word e = absurd (cc)
+  written_of_table (Scan t low high) key f word e = absurd (cc)
 
   guarded_of_tables : (ks : List Key) (op : Op) (o : Option Key) → key_written op ≡ o
-      → OpFits (widths_of shape.tables) op → AreOfTables shape ks
-      → AreOfTables shape (elim o [ None ↦ ks | Some key ↦ with_guard ks key ])
-  guarded_of_tables ks op None e f all = all
-  guarded_of_tables ks op (Some key) e f all =
-      all_guarded (λ k. IsTableOf shape k.table) ks key all (written_of_table op key f e)
+      → OpFits (widths_of shape.tables) op → IsWord (key_word (op_key op).key) → AreKeysOf shape ks
+      → AreKeysOf shape (elim o [ None ↦ ks | Some key ↦ with_guard ks key ])
+  guarded_of_tables ks op None e f word all = all
+  guarded_of_tables ks op (Some key) e f word all =
+      all_guarded (IsKeyOf shape) ks key all (written_of_table op key f word e)
 
   written_of_tables : (ks : List Key) (ops : List Op) → AllByRecursion (OpFits (widths_of shape.tables)) ops
-      → AreOfTables shape ks
-      → AreOfTables shape (keys_from key_written ks ops)
-  written_of_tables ks [] fit all = all
-  written_of_tables ks (op ∷ ops) fit all =
-      written_of_tables (elim (key_written op) [ None ↦ ks | Some key ↦ with_guard ks key ]) ops fit.1
-      (guarded_of_tables ks op (key_written op) refl fit.0 all)
+      → AllByRecursion (λ op. IsWord (key_word (op_key op).key)) ops → AreKeysOf shape ks
+      → AreKeysOf shape (keys_from key_written ks ops)
+  written_of_tables ks [] fit words all = all
+  written_of_tables ks (op ∷ ops) fit words all =
+      written_of_tables (elim (key_written op) [ None ↦ ks | Some key ↦ with_guard ks key ]) ops fit.1 words.1
+      (guarded_of_tables ks op (key_written op) refl fit.0 words.0 all)
 
   -- 4. What the driver asks next
 
@@ -273,24 +280,24 @@ module _ (shape : Shape) where
     goes_tidied n calls true may l c = goes_try n calls (may refl) l c
     goes_tidied n calls false may l c = goes_next n calls l c
 
-    goes_tidying : (n calls : ℕ) (keys : List Key) (nth : ℕ) (retry : Bool) → AreOfTables shape keys
+    goes_tidying : (n calls : ℕ) (keys : List Key) (nth : ℕ) (retry : Bool) → AreKeysOf shape keys
         → nth ≤ length keys
-        → (retry ≡ true → driver.nth < tries)
+        → (retry ≡ true → driver.nth < tries) → length keys ≤ MOST_KEYS
         → keys_bound shape (drop nth keys) + later ≤ n → 1 ≤ calls
         → Goes n calls (tidying driver keys nth retry)
-    goes_tidying n calls keys nth retry of within may l c =
+    goes_tidying n calls keys nth retry of within may few l c =
         by_equal (Goes n calls) nth (length keys) (if retry then next_try driver else next_job driver)
         (record driver { place = ToTidy keys nth false retry })
         (λ e. goes_tidied n calls retry may (omega arith) c)
         (λ other. let m : nth < length keys = omega arith in
         let f = tidy_figure job.ops keys nth retry m in
-        goes_at n calls driver.nth (ToTidy keys nth false retry) (least, most) (of, m, may) tt (omega arith) c)
+        goes_at n calls driver.nth (ToTidy keys nth false retry) (least, most) (of, m, may, few) tt (omega arith) c)
 
     first_false : (a b : Bool) → (a || b) ≡ false → a ≡ false
     first_false true b e = e
     first_false false b e = refl
 
-    goes_full : (n calls : ℕ) (lock : Lock) → IsTableOf shape lock.table
+    goes_full : (n calls : ℕ) (lock : Lock) → IsKeyOf shape (lock_key lock)
         → key_bound shape (lock_key lock) + later ≤ n → 1 ≤ calls
         → Goes n calls (on_full driver lock)
     goes_full n calls lock is l c =
@@ -300,7 +307,7 @@ module _ (shape : Shape) where
         (λ e. goes_retried n calls (omega arith) c)
         (λ e. let other = first_false (driver.nth == tries) (not driver.policy.tidy) e in
         let m : driver.nth < tries = grind (arith, nat_tests) in
-        goes_tidying n calls (key ∷ []) 0 true (is, tt) (omega arith) (λ t. m) (omega arith) c)
+        goes_tidying n calls (key ∷ []) 0 true (is, tt) (omega arith) (λ t. m) (omega arith) (omega arith) c)
 
     goes_commit : (n calls : ℕ) → JobFits shape job → keys_bound shape (written_keys job.ops) + later ≤ n → 1 ≤ calls
         → Goes n calls (on_commit jobs driver)
@@ -311,8 +318,8 @@ module _ (shape : Shape) where
         (if driver.policy.tidy then tidying driver (keys_of_job o) 0 false else next_job driver))
         (sym here)
         (either (Goes n calls) driver.policy.tidy tidied (next_job driver)
-        (goes_tidying n calls keys 0 false (written_of_tables [] job.ops fit tt) (omega arith)
-        (λ t. absurd (false≢true t)) l c)
+        (goes_tidying n calls keys 0 false (written_of_tables [] job.ops fit.fit fit.keys tt) (omega arith)
+        (λ t. absurd (false≢true t)) (written_few job.ops fit.few) l c)
         (goes_next n calls (omega arith) c))
 
     goes_ask : (n calls nth : ℕ) → OpenAsked txn (take nth job.ops)
@@ -389,7 +396,7 @@ module _ (shape : Shape) where
           let l = fits.1 in
           let f = tidied_figure job.ops keys nth again retry l in
           goes_tidying (follows (ToTidy keys nth again retry)) (length job.ops + 2) keys (nth + 1) retry fits.0
-          (omega arith) fits.2 (omega arith) (omega arith)
+          (omega arith) fits.2 fits.3 (omega arith) (omega arith)
 
       tidy_goes : (again : Bool) (end : Answer) → TidyAnswered shape end
           → Goes (follows (ToTidy keys nth again retry)) (length job.ops + 2) (on_tidy driver keys nth again retry end)

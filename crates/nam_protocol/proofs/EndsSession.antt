@@ -8,7 +8,8 @@ use Rattle.std.proofs.lemmas.List.{length-map}
 use Rattle.si_model.specs.declared.op.Op.{Op}
 use Rattle.si_model.specs.declared.op.Policy.{Policy}
 use Rattle.si_model.specs.Rows.{key_at}
-use Rattle.si_model.specs.Evaluation.{OpFits}
+use Rattle.si_model.specs.Evaluation.{OpFits, op_key}
+use Rattle.si_model.specs.EvaluationLaws.{is_scan}
 use Rattle.si_model.specs.declared.op.Op.TheVariants as op
 use Rattle.nam_verbs.specs.declared.now.Now.{Now}
 use Rattle.nam_verbs.specs.declared.now.Now.TheVariants.{At, Over}
@@ -17,9 +18,12 @@ use Rattle.nam_verbs.proofs.TestLemmas.{by_test}
 use Rattle.nam_catalog.specs.declared.shape.Table.{Table}
 use Rattle.nam_catalog.specs.declared.shape.Shape.{Shape}
 use Rattle.nam_catalog.specs.Fits.{FitsLimits}
+use Rattle.nam_catalog.specs.Greatest.{greatest_number}
 use Rattle.nam_catalog.specs.Tables.{widths_of}
 use Rattle.nam_layout.specs.declared.field.Field.{Field}
 use Rattle.nam_calls.specs.Fits.{IsOf, IsTableOf}
+use Rattle.nam_calls.specs.Holds.{IsWord}
+use Rattle.nam_calls.specs.Words.{key_word}
 use Rattle.nam_calls.proofs.FallsTests.{either}
 use Rattle.nam_protocol.specs.declared.txn.TxnCall.{TxnCall}
 use Rattle.nam_protocol.specs.declared.txn.TxnCall.TheVariants.{Get, Put, Add, Del, Need, Guard, Commit}
@@ -47,12 +51,13 @@ use Rattle.nam_protocol.specs.Bound.{op_bound}
 use Rattle.nam_protocol.specs.Left.{left_of, client_left, commit_bound, try_bound, jobs_bound, after_call_bound}
 use Rattle.nam_protocol.specs.Left.{rest_bound, session_left}
 use Rattle.nam_protocol.specs.AttemptLaw.{HasAsked}
-use Rattle.nam_protocol.specs.TxnFits.{TxnCallFits, txn_call_bound}
-use Rattle.nam_protocol.specs.ClientFits.{NowFits, CallPointFits, ClientFits, open_bound}
-use Rattle.nam_protocol.specs.SessionFits.{OpenAsked, NowRuns, is_running, ops_of, JobFits, DriverPointFits, DriverFits}
-use Rattle.nam_protocol.specs.SessionFits.{SessionFits}
+use Rattle.nam_protocol.specs.TxnFits.{IsKeyOf, StateFits, OpStands, TxnCallFits, txn_call_bound}
+use Rattle.nam_protocol.specs.ClientFits.{OpenFits, NowFits, CallPointFits, ClientFits, OpenCallFits, open_bound}
+use Rattle.nam_protocol.specs.SessionFits.{OpenAsked, NowRuns, is_running, ops_of, OpsFit, JobFits, DriverPointFits}
+use Rattle.nam_protocol.specs.SessionFits.{DriverFits, SessionFits}
 use Rattle.nam_protocol.specs.EndsLaw.{FitsWithin, SettlesLaw, SessionCutLaw}
 use Rattle.nam_protocol.proofs.FallsKeys.{all_at}
+use Rattle.nam_protocol.proofs.JobKeys.{op_has_room}
 use Rattle.nam_protocol.proofs.FallsAttempt.{ask_asks, attempt_bound}
 use Rattle.nam_protocol.proofs.FallsClient.{client_falls, client_begins}
 use Rattle.nam_protocol.proofs.RunsTxn.{ask_of, ask_commit_runs}
@@ -136,6 +141,10 @@ module _ (shape : Shape) where
 
     module _ (nth : ℕ) (asked : OpenAsked client.txn (take nth ops)) (calls : ℕ)
         (few : length ops - nth + 1 ≤ calls) where
+      commit_fits : (opened : Option Open) → OpenAsked opened ops → OpenCallFits shape opened Commit
+      commit_fits None a = absurd a
+      commit_fits (Some attempt) a = tt
+
       commit_within : (opened : Option Open) → OpenAsked opened ops
           → open_bound shape opened Commit ≤ commit_bound shape ops
       commit_within None a = absurd a
@@ -151,7 +160,7 @@ module _ (shape : Shape) where
       asks_commit : slice_get ops nth ≡ None → Asked (ToAsk nth) calls (client_ask shape client (Txn Commit))
       asks_commit here =
           let all = subst (OpenAsked client.txn) (take_past ops nth here) asked in
-          let b = client_begins shape limits client (Txn Commit) fits (is_open ops client.txn all, tt) in
+          let b = client_begins shape limits client (Txn Commit) fits (commit_fits client.txn all) in
           record {
             stands = b.0;
             within = rw here (let l = commit_within client.txn all in let m = b.1 in omega arith);
@@ -165,7 +174,9 @@ module _ (shape : Shape) where
           stepped_does shape ops nth op here client again 0 (ask_op shape attempt.state op)
           (ask_asks shape attempt.state (take nth ops) op a) (ask_of shape attempt.state op)
 
-      module _ (op : Op) (call : TxnCall) (here : slice_get ops nth ≡ Some op) (stands : TxnCallFits shape call)
+      module _ (op : Op) (call : TxnCall) (here : slice_get ops nth ≡ Some op)
+          (stands : (attempt : Open) → StateFits shape attempt.state → HasAsked attempt.state (take nth ops)
+          → TxnCallFits shape attempt.state call)
           (most : (attempt : Open) → txn_call_bound shape attempt.state call ≤ op_bound shape op)
           (does : (attempt : Open) → HasAsked attempt.state (take nth ops)
           → ClientDoes shape (ToAsk nth) ops (ask_txn shape client call (Some attempt))) where
@@ -179,10 +190,14 @@ module _ (shape : Shape) where
         op_does_it None a = absurd a
         op_does_it (Some attempt) a = does attempt a
 
+        op_stands : (opened : Option Open) → OpenFits shape opened → OpenAsked opened (take nth ops)
+            → OpenCallFits shape opened call
+        op_stands None f a = absurd a
+        op_stands (Some attempt) f a = stands attempt f a
+
         asks_txn : Asked (ToAsk nth) calls (client_ask shape client (Txn call))
         asks_txn =
-            let b = client_begins shape limits client (Txn call) fits
-            (is_open (take nth ops) client.txn asked, stands) in
+            let b = client_begins shape limits client (Txn call) fits (op_stands client.txn fits.1 asked) in
             record {
               stands = b.0;
               within = rw here (let l = op_within client.txn asked in let m = b.1 in omega arith);
@@ -208,36 +223,55 @@ module _ (shape : Shape) where
             few = few_any ops (ToAsk nth) calls _ few;
           }
 
-      asks_op : (o : Op) → slice_get ops nth ≡ Some o → OpFits (widths_of shape.tables) o
+      module _ (o : Op) (here : slice_get ops nth ≡ Some o) (fit : OpsFit shape ops) where
+        op_is : OpFits (widths_of shape.tables) o
+        op_is = nth_holds (OpFits (widths_of shape.tables)) ops nth o fit.fit here
+
+        -- an operation on one key
+        on_key : is_scan o ≡ false → (attempt : Open) → StateFits shape attempt.state
+            → HasAsked attempt.state (take nth ops) → OpStands shape attempt.state.claims o
+        on_key one attempt f a = (
+          op_is,
+          one,
+          nth_holds (λ op. IsWord (key_word (op_key op).key)) ops nth o fit.keys here,
+          op_has_room shape attempt.state ops nth f a o here fit.few,
+        )
+
+      asks_op : (o : Op) → slice_get ops nth ≡ Some o → OpsFit shape ops
           → Asked (ToAsk nth) calls (client_ask shape client (call_of o))
-      asks_op (op.Get t k) here f = asks_txn (op.Get t k) (Get t k) here (f, refl) (λ attempt. omega arith)
+      asks_op (op.Get t k) here f =
+          asks_txn (op.Get t k) (Get t k) here (on_key (op.Get t k) here f refl) (λ attempt. omega arith)
           (λ attempt a. does_op (op.Get t k) here attempt (with_call attempt (Get t k)) a)
-      asks_op (op.Put t k v) here f = asks_txn (op.Put t k v) (Put t k v) here (f, refl) (λ attempt. omega arith)
+      asks_op (op.Put t k v) here f =
+          asks_txn (op.Put t k v) (Put t k v) here (on_key (op.Put t k v) here f refl) (λ attempt. omega arith)
           (λ attempt a. does_op (op.Put t k v) here attempt (with_call attempt (Put t k v)) a)
       asks_op (op.Add t k i up by) here f =
-          asks_txn (op.Add t k i up by) (Add t k i up by) here (f, refl) (λ attempt. omega arith)
+          asks_txn (op.Add t k i up by) (Add t k i up by) here (on_key (op.Add t k i up by) here f refl)
+          (λ attempt. omega arith)
           (λ attempt a. does_op (op.Add t k i up by) here attempt (with_call attempt (Add t k i up by)) a)
-      asks_op (op.Del t k) here f = asks_txn (op.Del t k) (Del t k) here (f, refl) (λ attempt. omega arith)
+      asks_op (op.Del t k) here f =
+          asks_txn (op.Del t k) (Del t k) here (on_key (op.Del t k) here f refl) (λ attempt. omega arith)
           (λ attempt a. does_op (op.Del t k) here attempt (with_call attempt (Del t k)) a)
       asks_op (op.Need t k i least) here f =
-          asks_txn (op.Need t k i least) (Need t k i least) here (f, refl) (λ attempt. omega arith)
+          asks_txn (op.Need t k i least) (Need t k i least) here (on_key (op.Need t k i least) here f refl)
+          (λ attempt. omega arith)
           (λ attempt a. does_op (op.Need t k i least) here attempt (with_call attempt (Need t k i least)) a)
-      asks_op (op.Guard t k) here f = asks_txn (op.Guard t k) (Guard t k) here (f, refl) (λ attempt. omega arith)
+      asks_op (op.Guard t k) here f =
+          asks_txn (op.Guard t k) (Guard t k) here (on_key (op.Guard t k) here f refl) (λ attempt. omega arith)
           (λ attempt a. does_op (op.Guard t k) here attempt (with_call attempt (Guard t k)) a)
       asks_op (op.Scan t low high) here f =
           let e = length-map shape.tables (λ (t : Table). t.width) in
-          let l = f.0 in
+          let l = (op_is (op.Scan t low high) here f).0 in
           asks_scan t low high here (omega arith)
 
-      asks_next : (o : Option Op) → slice_get ops nth ≡ o → AllByRecursion (OpFits (widths_of shape.tables)) ops
+      asks_next : (o : Option Op) → slice_get ops nth ≡ o → OpsFit shape ops
           → Asked (ToAsk nth) calls (client_ask shape client (op_call o))
       asks_next None here fit = asks_commit here
-      asks_next (Some o) here fit =
-          asks_op o here (nth_holds (OpFits (widths_of shape.tables)) ops nth o fit here)
+      asks_next (Some o) here fit = asks_op o here fit
 
     pub asks : (txn try tries : ℕ) (place : DriverPoint) (calls : ℕ) → DriverPointFits shape tries try place
         → AsksFrom shape place ops client.txn
-        → AllByRecursion (OpFits (widths_of shape.tables)) ops
+        → OpsFit shape ops
         → calls_from shape ops place ≤ suc calls
         → Asked place calls (client_ask shape client (place_call record { txn = txn; ops = ops } try place))
     asks txn try tries ToBegin calls d a fit few =
@@ -248,7 +282,7 @@ module _ (shape : Shape) where
     asks txn try tries (ToTidy keys nth again retry) calls d a fit few =
         let key = key_number keys nth in
         let b = client_begins shape limits client (Tidy key.table key.key) fits
-        (all_at (λ k. IsTableOf shape k.table) (key_at 0 0) keys nth d.0 d.1) in
+        (all_at (IsKeyOf shape) (key_at 0 0) keys nth d.0 d.1) in
         record { stands = b.0; within = b.1; does = tt; few = tt }
     asks txn try tries (ToCollect bucket keys nth retry) calls d a fit few =
         let b = client_begins shape limits client (Collect bucket) fits d.0 in
@@ -407,11 +441,12 @@ module _ (shape : Shape) where
     -- 6. A new session
 
     pub new_ready : (worker start : ℕ) (jobs : List Job) (policy : Policy) → IsOf shape.workers worker
+        → start ≤ greatest_number shape.form
         → AllByRecursion (JobFits shape) jobs
         → 1 ≤ policy.tries
         → IsReady (record { client = new_client worker start; driver = new_driver policy; jobs = jobs })
-    new_ready worker start jobs policy is fit least = record {
-      client = (is, tt, tt);
+    new_ready worker start jobs policy is number fit least = record {
+      client = (is, tt, tt, number);
       jobs = fit;
       driver = (omega arith, least, tt);
       asks = tt;
@@ -419,15 +454,16 @@ module _ (shape : Shape) where
     }
 
     pub new_session_ends : (worker start : ℕ) (jobs : List Job) (policy : Policy) → IsOf shape.workers worker
+        → start ≤ greatest_number shape.form
         → AllByRecursion (JobFits shape) jobs
         → 1 ≤ policy.tries
         → FitsWithin shape (jobs_bound shape policy jobs) (new_session shape (new_client worker start) jobs policy)
-    new_session_ends worker start jobs policy is fit least =
+    new_session_ends worker start jobs policy is number fit least =
         let session : SessionState =
         record { client = new_client worker start; driver = new_driver policy; jobs = jobs } in
         let c = calls_least jobs in
         let s = settle_ends (calls_at_most jobs) session
-        (new_ready worker start jobs policy is fit least) (omega arith) in
+        (new_ready worker start jobs policy is number fit least) (omega arith) in
         let b = begins_pending shape (new_driver policy) jobs least in
         (s.0, let l = s.1 in omega arith)
 

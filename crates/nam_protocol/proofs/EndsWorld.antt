@@ -6,13 +6,11 @@ use Rattle.std.specs.List.{AllByRecursion, list_any}
 use Rattle.std.proofs.lemmas.Bool.{false≢true}
 use Rattle.std.proofs.lemmas.List.{length-set, length-map}
 use Rattle.si_model.specs.declared.op.Policy.{Policy}
-use Rattle.si_model.specs.Evaluation.{OpFits}
 use Rattle.nam_verbs.specs.Verb.{found_by, after_verb}
 use Rattle.nam_verbs.specs.VerbAt.{VerbAt}
 use Rattle.nam_line.specs.Plan.{Line, refuses_next}
 use Rattle.nam_catalog.specs.declared.shape.Shape.{Shape}
 use Rattle.nam_catalog.specs.Fits.{FitsLimits}
-use Rattle.nam_catalog.specs.Tables.{widths_of}
 use Rattle.nam_layout.specs.declared.field.Field.{Field}
 use Rattle.nam_calls.specs.Memory.{verb_there}
 use Rattle.nam_calls.proofs.FallsTests.{either}
@@ -25,7 +23,7 @@ use Rattle.nam_protocol.specs.Schedule.{Run, Owned, Simulated, numbers_from, tur
 use Rattle.nam_protocol.specs.Schedule.{after_workers, after_round, after_rounds, scheduled, jobs_of, all_jobs, opened}
 use Rattle.nam_protocol.specs.Schedule.{is_live, until_ended, run_to_end}
 use Rattle.nam_protocol.specs.Left.{session_left}
-use Rattle.nam_protocol.specs.SessionFits.{JobFits, SessionFits}
+use Rattle.nam_protocol.specs.SessionFits.{OpsFit, JobFits, SessionFits}
 use Rattle.nam_protocol.specs.EndsLaw.{sessions_left, world_left, WorldFits, worker_in, TurnLaw}
 use Rattle.nam_protocol.specs.EndsLaw.{lists_bound, EndsLaw}
 use Rattle.nam_protocol.proofs.Rounds.{rounds_rest, simulated_once}
@@ -303,7 +301,8 @@ module _ (shape : Shape) (limits : FitsLimits shape) where
       → Opens policy lists (new_sessions shape policy worker lists)
   sessions_open policy worker [] least first few fit = record { fits = tt; many = refl; within = omega arith }
   sessions_open policy worker (jobs ∷ lists) least first few fit =
-      let s = new_session_ends shape limits worker shape.start jobs policy (first, omega arith) fit.0 least in
+      let s = new_session_ends shape limits worker shape.start jobs policy (first, omega arith) limits.start fit.0
+      least in
       let more = sessions_open policy (worker + 1) lists least (omega arith) (omega arith) fit.1 in
       record {
         fits = (s.0, more.fits);
@@ -312,7 +311,7 @@ module _ (shape : Shape) (limits : FitsLimits shape) where
       }
 
   jobs_fit : (worker txn : ℕ) (txns : List Owned)
-      → AllByRecursion (λ (t : Owned). AllByRecursion (OpFits (widths_of shape.tables)) t.ops) txns
+      → AllByRecursion (λ (t : Owned). OpsFit shape t.ops) txns
       → AllByRecursion (JobFits shape) (jobs_of worker txn txns)
   jobs_fit worker txn [] fit = tt
   jobs_fit worker txn (t ∷ txns) fit =
@@ -322,7 +321,7 @@ module _ (shape : Shape) (limits : FitsLimits shape) where
       (jobs_of worker (txn + 1) txns) (fit.0, more) more
 
   all_fit : (txns : List Owned) (workers : List ℕ)
-      → AllByRecursion (λ (t : Owned). AllByRecursion (OpFits (widths_of shape.tables)) t.ops) txns
+      → AllByRecursion (λ (t : Owned). OpsFit shape t.ops) txns
       → AllByRecursion (λ jobs. AllByRecursion (JobFits shape) jobs) (map (λ worker. jobs_of worker 1 txns) workers)
   all_fit txns [] fit = tt
   all_fit txns (worker ∷ workers) fit = (jobs_fit worker 1 txns fit, all_fit txns workers fit)

@@ -14,6 +14,7 @@ use Rattle.nam_verbs.specs.declared.now.Now.TheVariants.{At, Over}
 use Rattle.nam_verbs.specs.VerbAt.{VerbAt}
 use Rattle.nam_catalog.specs.declared.shape.Shape.{Shape}
 use Rattle.nam_catalog.specs.Fits.{FitsLimits}
+use Rattle.nam_catalog.specs.Greatest.{greatest_number}
 use Rattle.nam_layout.specs.declared.field.Field.{Field}
 use Rattle.nam_calls.specs.Fits.{IsOf}
 use Rattle.nam_calls.proofs.FallsTests.{either}
@@ -343,7 +344,8 @@ module _ (shape : Shape) (limits : FitsLimits shape) (whole : ℕ) where
       omega arith
 
 module _ (shape : Shape) (limits : FitsLimits shape) (worker start : ℕ) (jobs : List Job) (policy : Policy)
-    (is : IsOf shape.workers worker) (fit : AllByRecursion (JobFits shape) jobs) (least : 1 ≤ policy.tries) where
+    (is : IsOf shape.workers worker) (number : start ≤ greatest_number shape.form)
+    (fit : AllByRecursion (JobFits shape) jobs) (least : 1 ≤ policy.tries) where
   abbrev whole_room : ℕ
   whole_room = (room_for shape policy jobs).attempts + (room_for shape policy jobs).tidies
 
@@ -353,10 +355,10 @@ module _ (shape : Shape) (limits : FitsLimits shape) (worker start : ℕ) (jobs 
   reached_stays : (session : SessionState) → IsReached shape worker start jobs policy session → Stays session
   reached_stays session is_new =
       let room = (room_suffices shape).0 policy jobs least in (
-        (new_session_ends shape limits worker start jobs policy is fit least).0,
+        (new_session_ends shape limits worker start jobs policy is number fit least).0,
         settle_holds shape limits whole_room (calls_at_most jobs)
             (record { client = new_client worker start; driver = new_driver policy; jobs = jobs })
-            (new_ready shape limits worker start jobs policy is fit least) record {
+            (new_ready shape limits worker start jobs policy is number fit least) record {
               counts = room.0;
               opened = refl;
               within = let a = room.1.attempts in let t = room.1.tidies in omega arith;
@@ -372,6 +374,6 @@ module _ (shape : Shape) (limits : FitsLimits shape) (worker start : ℕ) (jobs 
       ((session_cut_ends shape before s.0).0, cut_holds shape limits whole_room before s.1)
 
 pub events_within : EventsLaw
-events_within shape limits worker start jobs policy is fit least session reached =
-    let s = reached_stays shape limits worker start jobs policy is fit least session reached in
+events_within shape limits worker start jobs policy is number fit least session reached =
+    let s = reached_stays shape limits worker start jobs policy is number fit least session reached in
     log_within shape limits _ session s.0 s.1

@@ -1,5 +1,6 @@
 -- How many verbs a commit begins with, and what each call of a transaction begins with.
-use Rattle.std.proofs.Common.{◌≡◌, ◌+◌, ◌*◌, ◌≤◌, List, [], ◌∷◌, ◌++◌, length, take, refl, ◌∙◌, ap, arith, true, None}
+use Rattle.std.proofs.Common.{◌≡◌, ◌+◌, ◌*◌, ◌<◌, ◌≤◌, List, [], ◌∷◌, ◌++◌, length, take, refl, ◌∙◌, ap, arith, true}
+use Rattle.std.proofs.Common.{None}
 use Rattle.std.specs.Prelude.{◌==◌, if◌then◌else◌, map}
 use Rattle.std.specs.List.{AllByRecursion}
 use Rattle.std.proofs.lemmas.Bool.{false≢true}
@@ -43,7 +44,7 @@ record_key (c ∷ cs) key e =
     (λ f. record_key cs key (rw f at e))
 
 module _ (shape : Shape) (limits : FitsLimits shape) where
-  record_width : (cs : List Record) (key : Key) → AllByRecursion (IsPlaced shape) cs → is_claimed cs key ≡ true
+  pub record_width : (cs : List Record) (key : Key) → AllByRecursion (IsPlaced shape) cs → is_claimed cs key ≡ true
       → (record_in cs key).place.width ≡ width_of shape key.table
   record_width cs key placed e =
       let p = record_placed shape cs key placed e in
@@ -91,10 +92,12 @@ module _ (shape : Shape) (limits : FitsLimits shape) where
       (λ f. (fits, tt))
       (λ f. let some : 1 ≤ length state.writes = grind (arith, nat_tests) in
       let r = records_length shape state fits in
-      (fits, ((refl, some, (omega arith, refl)), commit_figure state fits))))
+      let l = fits.last_is in
+      let room : state.last < greatest_number shape.form = grind (arith, nat_tests) in
+      (fits, ((refl, some, (omega arith, refl, omega arith), room), commit_figure state fits))))
 
   -- a call is asked
-  pub txn_begins : (state : TxnState) (call : TxnCall) → StateFits shape state → TxnCallFits shape call
+  pub txn_begins : (state : TxnState) (call : TxnCall) → StateFits shape state → TxnCallFits shape state call
       → TxnBegins shape (txn_call_bound shape state call) (txn_ask shape state call)
   txn_begins state (Get t k) fits stands = op_begins shape limits state (op.Get t k) fits stands
   txn_begins state (Put t k v) fits stands = op_begins shape limits state (op.Put t k v) fits stands

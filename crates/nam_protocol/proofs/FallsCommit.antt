@@ -10,6 +10,7 @@ use Rattle.nam_verbs.specs.declared.now.Now.TheVariants.{At, Over}
 use Rattle.nam_verbs.proofs.TestLemmas.{by_test}
 use Rattle.nam_catalog.specs.declared.shape.Shape.{Shape}
 use Rattle.nam_catalog.specs.Fits.{FitsLimits}
+use Rattle.nam_catalog.specs.Greatest.{greatest_number}
 use Rattle.nam_layout.specs.declared.field.Place.{Place}
 use Rattle.nam_layout.specs.PlaceFits.{FitsPlace}
 use Rattle.nam_calls.specs.declared.record.InstallPoint.{InstallPoint}
@@ -38,7 +39,7 @@ use Rattle.nam_protocol.specs.Txn.{over}
 use Rattle.nam_protocol.specs.Commit.{records_of, lock_at, places, record_place, value_at, go, on_lock, next_check}
 use Rattle.nam_protocol.specs.Commit.{on_slot, on_return, on_words, on_copy, on_install, next_free, commit_after}
 use Rattle.nam_protocol.specs.Bound.{installs_most, publish_most, rest_from, commit_left}
-use Rattle.nam_protocol.specs.TxnFits.{StateFits, CommitPointFits, CommitFits, TxnFalls}
+use Rattle.nam_protocol.specs.TxnFits.{AnswerFits, StateFits, CommitPointFits, CommitFits, TxnFalls}
 use Rattle.nam_protocol.proofs.FallsKeys.{places_length, writes_within, nth_fits}
 
 -- 1. What copies and installs take
@@ -63,17 +64,18 @@ installs_least (x ∷ xs) = let r = installs_least xs in omega arith
 
 goes : (shape : Shape) (state : TxnState) (n : ℕ) (place : CommitPoint) → StateFits shape state
     → state.records ≡ records_of state
-    → 1 ≤ length state.writes
+    → 1 ≤ length state.writes → state.last < greatest_number shape.form
     → CommitPointFits shape state place → commit_left state place < n → TxnFalls shape n (go state place)
-goes shape state n place fits are some at l = (fits, ((are, some, at), l))
+goes shape state n place fits are some room at l = (fits, ((are, some, at, room), l))
 
-ends : (shape : Shape) (state : TxnState) (n : ℕ) (answer : TxnAnswer) → StateFits shape state → 0 < n
+ends : (shape : Shape) (state : TxnState) (n : ℕ) (answer : TxnAnswer) → StateFits shape state
+    → AnswerFits shape.form answer → 0 < n
     → TxnFalls shape n (over state answer)
-ends shape state n answer fits l = (fits, (tt, l))
+ends shape state n answer fits is l = (fits, (is, l))
 
 module _ (shape : Shape) (limits : FitsLimits shape) (state : TxnState) (fits : StateFits shape state)
     (are : state.records ≡ records_of state)
-    (some : 1 ≤ length state.writes) where
+    (some : 1 ≤ length state.writes) (room : state.last < greatest_number shape.form) where
   abbrev writes : ℕ
   writes = length state.writes
 
@@ -119,15 +121,16 @@ module _ (shape : Shape) (limits : FitsLimits shape) (state : TxnState) (fits : 
       → LockFalls (places state) after_locks enough n now
       → TxnFalls shape n (on_lock state now)
   on_lock_falls n (At locks) none h =
-      goes shape (record state { held = locks.held }) n (Locking locks.at) fits are some
+      goes shape (record state { held = locks.held }) n (Locking locks.at) fits are some room
       (subst (λ m. LockFits m locks.held locks.at) as_many h.0, none) h.1
   on_lock_falls n (Over (lock_end.Held headers)) none h =
-      goes shape (record state { held = headers }) n (Checking slot_begin) fits are some (h.0 ∙ as_many, omega arith)
+      goes shape (record state { held = headers }) n (Checking slot_begin) fits are some room
+      (h.0 ∙ as_many, omega arith)
       (let m = h.1 in omega arith)
   on_lock_falls n (Over (lock_end.Locked nth found)) none h =
-      ends shape state n (Locked (lock_at state nth found)) fits h.1
+      ends shape state n (Locked (lock_at state nth found)) fits tt h.1
   on_lock_falls n (Over (lock_end.Newer nth found)) none h =
-      ends shape state n (Newer (lock_at state nth found)) fits h.1
+      ends shape state n (Newer (lock_at state nth found)) fits tt h.1
 
   -- the words of a written record are to be read
   saving : (nth n : ℕ) → length state.held ≡ records → length state.counts ≡ writes → nth < writes
@@ -136,7 +139,7 @@ module _ (shape : Shape) (limits : FitsLimits shape) (state : TxnState) (fits : 
   saving nth n held counts l m =
       let w = (nth_is nth l).least_width in
       let r = rest_is nth l in
-      goes shape state n (Saving nth words_begin) fits are some (held, counts, l, omega arith) (omega arith)
+      goes shape state n (Saving nth words_begin) fits are some room (held, counts, l, omega arith) (omega arith)
 
   on_words_falls : (nth n : ℕ) (now : Now (List ℕ) (List ℕ)) → length state.held ≡ records
       → length state.counts ≡ writes → (l : nth < writes)
@@ -144,9 +147,9 @@ module _ (shape : Shape) (limits : FitsLimits shape) (state : TxnState) (fits : 
       → TxnFalls shape (n + (2 * (record_place state nth).width + 5) + rest_from state (nth + 1))
       (on_words state nth now)
   on_words_falls nth n (At got) held counts l h =
-      goes shape state _ (Saving nth got) fits are some (held, counts, l, h.0) (let m = h.1 in omega arith)
+      goes shape state _ (Saving nth got) fits are some room (held, counts, l, h.0) (let m = h.1 in omega arith)
   on_words_falls nth n (Over old) held counts l h =
-      goes shape state _ (Copying nth old copy_begin) fits are some (held, counts, l, h.0, tt)
+      goes shape state _ (Copying nth old copy_begin) fits are some room (held, counts, l, h.0, tt)
       (let m = h.1 in omega arith)
 
   install_begins : (nth n : ℕ) (value : Option (List ℕ)) → length state.held ≡ records → length state.counts ≡ writes
@@ -154,10 +157,11 @@ module _ (shape : Shape) (limits : FitsLimits shape) (state : TxnState) (fits : 
       → (record_place state nth).width + 2 + rest_from state (nth + 1) < n
       → TxnFalls shape n (go state (Installing nth (install_begin value)))
   install_begins nth n None held counts l m =
-      goes shape state n (Installing nth InstallCount) fits are some (held, counts, l, tt) (omega arith)
+      goes shape state n (Installing nth InstallCount) fits are some room (held, counts, l, tt) (omega arith)
   install_begins nth n (Some value) held counts l m =
       let w = (nth_is nth l).least_width in
-      goes shape state n (Installing nth (InstallWord 0)) fits are some (held, counts, l, omega arith) (omega arith)
+      goes shape state n (Installing nth (InstallWord 0)) fits are some room (held, counts, l, omega arith)
+      (omega arith)
 
   on_copy_falls : (nth n : ℕ) (old : List ℕ) (now : Now CopyPoint (Unit {0})) → length state.held ≡ records
       → length state.counts ≡ writes
@@ -166,20 +170,21 @@ module _ (shape : Shape) (limits : FitsLimits shape) (state : TxnState) (fits : 
       → TxnFalls shape (n + ((record_place state nth).width + 2) + rest_from state (nth + 1))
       (on_copy state nth old now)
   on_copy_falls nth n old (At place) held counts l wide h =
-      goes shape state _ (Copying nth old place) fits are some (held, counts, l, wide, h.0) (let m = h.1 in omega arith)
+      goes shape state _ (Copying nth old place) fits are some room (held, counts, l, wide, h.0)
+      (let m = h.1 in omega arith)
   on_copy_falls nth n old (Over done) held counts l wide h =
       install_begins nth _ (value_at state nth) held counts l (let m = h.1 in omega arith)
 
   publishing : (n : ℕ) → length state.held ≡ records → length state.counts ≡ writes → publish_most state < n
       → TxnFalls shape n (go state Publishing)
-  publishing n held counts m = goes shape state n Publishing fits are some (held, counts) m
+  publishing n held counts m = goes shape state n Publishing fits are some room (held, counts) m
 
   on_install_falls : (nth n : ℕ) (now : Now InstallPoint (Unit {0})) → length state.held ≡ records
       → length state.counts ≡ writes → (l : nth < writes)
       → InstallFalls (record_place state nth) (nth_is nth l) n now
       → TxnFalls shape (n + rest_from state (nth + 1)) (on_install state nth now)
   on_install_falls nth n (At place) held counts l h =
-      goes shape state _ (Installing nth place) fits are some (held, counts, l, h.0) (let m = h.1 in omega arith)
+      goes shape state _ (Installing nth place) fits are some room (held, counts, l, h.0) (let m = h.1 in omega arith)
   on_install_falls nth n (Over done) held counts l h =
       by_test (TxnFalls shape (n + rest_from state (nth + 1))) (nth + 1 == writes) (go state Publishing)
       (go state (Saving (nth + 1) words_begin))
@@ -192,23 +197,24 @@ module _ (shape : Shape) (limits : FitsLimits shape) (state : TxnState) (fits : 
       → TxnFalls shape n (next_free state nth)
   next_free_falls nth n held counts l m r =
       by_test (TxnFalls shape n) (nth == records) (over state (Committed (state.last + 1))) (go state (Freeing nth))
-      (λ e. ends shape state n (Committed (state.last + 1)) fits (omega arith))
+      (λ e. ends shape state n (Committed (state.last + 1)) fits (omega arith) (omega arith))
       (λ e. let k : nth < records = grind (arith, nat_tests) in let a = as_many in
-      goes shape state n (Freeing nth) fits are some
+      goes shape state n (Freeing nth) fits are some room
       (held, counts, l, k) (omega arith))
 
   on_return_falls : (full : Lock) (n : ℕ) (now : Now ℕ (Unit {0})) → length state.held ≡ records
-      → UnlockFalls (places state) n now
+      → length state.counts < writes → UnlockFalls (places state) n now
       → TxnFalls shape n (on_return state full now)
-  on_return_falls full n (At given) held h =
-      goes shape state n (Returning given full) fits are some (held, let e = as_many in let l = h.0 in omega arith) h.1
-  on_return_falls full n (Over done) held h = ends shape state n (Full full) fits h.1
+  on_return_falls full n (At given) held counts h =
+      goes shape state n (Returning given full) fits are some room
+      (held, let e = as_many in let l = h.0 in omega arith, counts) h.1
+  on_return_falls full n (Over done) held counts h = ends shape state n (Full full) fits tt h.1
 
 -- 4. The slots: each that is free brings a count
 
 module _ (shape : Shape) (limits : FitsLimits shape) (state : TxnState) (fits : StateFits shape state)
     (are : state.records ≡ records_of state)
-    (some : 1 ≤ length state.writes) where
+    (some : 1 ≤ length state.writes) (room : state.last < greatest_number shape.form) where
   checked_falls : (n count : ℕ) → length state.held ≡ length state.records → length state.counts < length state.writes
       → 0 < n
       → TxnFalls shape (n + (2 * (length state.writes - length state.counts - 1) + rest_from state 0))
@@ -221,10 +227,10 @@ module _ (shape : Shape) (limits : FitsLimits shape) (state : TxnState) (fits : 
       by_test (TxnFalls shape most) (length all == length state.writes) (go state' (Saving 0 words_begin))
       (go state' (Checking slot_begin))
       (λ e. let f : length all ≡ length state.writes = grind (arith, nat_tests) in
-      saving shape limits state' fits are some 0 most held f some
+      saving shape limits state' fits are some room 0 most held f some
       (omega arith))
       (λ e. let f : length all < length state.writes = grind (arith, nat_tests) in
-      goes shape state' most (Checking slot_begin) fits are some
+      goes shape state' most (Checking slot_begin) fits are some room
       (held, f) (omega arith))
 
   on_slot_falls : (place : Place) (is : FitsPlace place) (n : ℕ) (now : Now SlotPoint SlotEnd)
@@ -233,15 +239,15 @@ module _ (shape : Shape) (limits : FitsLimits shape) (state : TxnState) (fits : 
       → TxnFalls shape (n + (2 * (length state.writes - length state.counts - 1) + rest_from state 0))
       (on_slot state now)
   on_slot_falls place is n (At at) held l h =
-      goes shape state _ (Checking at) fits are some (held, l) (let m = h.1 in omega arith)
+      goes shape state _ (Checking at) fits are some room (held, l) (let m = h.1 in omega arith)
   on_slot_falls place is n (Over (Free count)) held l h = checked_falls n count held l h.1
   on_slot_falls place is n (Over (NotMoved slot found)) held l h =
-      let w = within shape limits state fits are some in
-      let e = as_many shape limits state fits are some in
-      let r = rest_least shape limits state fits are some in
+      let w = within shape limits state fits are some room in
+      let e = as_many shape limits state fits are some room in
+      let r = rest_least shape limits state fits are some room in
       let m = h.1 in
-      goes shape state _ (Returning 0 (lock_at state (length state.counts) found)) fits are some (held, omega arith)
-      (omega arith)
+      goes shape state _ (Returning 0 (lock_at state (length state.counts) found)) fits are some room
+      (held, omega arith, l) (omega arith)
 
 -- 5. A commit
 
@@ -249,32 +255,33 @@ module _ (shape : Shape) (limits : FitsLimits shape) (state : TxnState) (fits : 
   pub commit_falls : (at : CommitPoint) (found : ℕ) → CommitFits shape state at
       → TxnFalls shape (commit_left state at) (commit_after state at found)
   commit_falls (Locking at) found c =
-      let e = as_many shape limits state fits c.0 c.1 in
-      on_lock_falls shape limits state fits c.0 c.1 _ _ c.2.1
-      (lock_falls (places state) _ (enough shape limits state fits c.0 c.1) state.seen state.held at found
+      let e = as_many shape limits state fits c.0 c.1 c.3 in
+      on_lock_falls shape limits state fits c.0 c.1 c.3 _ _ c.2.1
+      (lock_falls (places state) _ (enough shape limits state fits c.0 c.1 c.3) state.seen state.held at found
       (subst (λ m. LockFits m state.held at) (sym e) c.2.0))
   commit_falls (Checking at) found c =
-      let is = nth_is shape limits state fits c.0 c.1 (length state.counts) c.2.1 in
-      on_slot_falls shape limits state fits c.0 c.1 _ is _ _ c.2.0 c.2.1
+      let is = nth_is shape limits state fits c.0 c.1 c.3 (length state.counts) c.2.1 in
+      on_slot_falls shape limits state fits c.0 c.1 c.3 _ is _ _ c.2.0 c.2.1
       (slot_falls (record_place state (length state.counts)) is at found)
   commit_falls (Returning given full) found c =
-      let e = as_many shape limits state fits c.0 c.1 in
-      on_return_falls shape limits state fits c.0 c.1 full _ _ c.2.0
+      let e = as_many shape limits state fits c.0 c.1 c.3 in
+      on_return_falls shape limits state fits c.0 c.1 c.3 full _ _ c.2.0 c.2.2
       (unlock_falls (places state) given (let l = c.2.1 in omega arith))
   commit_falls (Saving nth got) found c =
-      on_words_falls shape limits state fits c.0 c.1 nth _ _ c.2.0 c.2.1 c.2.2
-      (words_fall (record_place state nth) (nth_is shape limits state fits c.0 c.1 nth c.2.2) got found c.2.3)
+      on_words_falls shape limits state fits c.0 c.1 c.3 nth _ _ c.2.0 c.2.1 c.2.2
+      (words_fall (record_place state nth) (nth_is shape limits state fits c.0 c.1 c.3 nth c.2.2) got found c.2.3)
   commit_falls (Copying nth old at) found c =
-      on_copy_falls shape limits state fits c.0 c.1 nth _ old _ c.2.0 c.2.1 c.2.2 c.2.3
-      (copy_falls (record_place state nth) (nth_is shape limits state fits c.0 c.1 nth c.2.2) at c.2.4)
+      on_copy_falls shape limits state fits c.0 c.1 c.3 nth _ old _ c.2.0 c.2.1 c.2.2 c.2.3
+      (copy_falls (record_place state nth) (nth_is shape limits state fits c.0 c.1 c.3 nth c.2.2) at c.2.4)
   commit_falls (Installing nth at) found c =
-      on_install_falls shape limits state fits c.0 c.1 nth _ _ c.2.0 c.2.1 c.2.2
-      (install_falls (record_place state nth) (nth_is shape limits state fits c.0 c.1 nth c.2.2) at c.2.3)
+      on_install_falls shape limits state fits c.0 c.1 c.3 nth _ _ c.2.0 c.2.1 c.2.2
+      (install_falls (record_place state nth) (nth_is shape limits state fits c.0 c.1 c.3 nth c.2.2) at c.2.3)
   commit_falls Publishing found c =
-      let w = within shape limits state fits c.0 c.1 in
-      next_free_falls shape limits state fits c.0 c.1 (length state.writes) _ c.2.0 c.2.1 (omega arith) w (omega arith)
+      let w = within shape limits state fits c.0 c.1 c.3 in
+      next_free_falls shape limits state fits c.0 c.1 c.3 (length state.writes) _ c.2.0 c.2.1 (omega arith) w
+      (omega arith)
   commit_falls (Freeing nth) found c =
-      let e = as_many shape limits state fits c.0 c.1 in
+      let e = as_many shape limits state fits c.0 c.1 c.3 in
       let l = c.2.3 in
-      next_free_falls shape limits state fits c.0 c.1 (nth + 1) _ c.2.0 c.2.1 (let m = c.2.2 in omega arith)
+      next_free_falls shape limits state fits c.0 c.1 c.3 (nth + 1) _ c.2.0 c.2.1 (let m = c.2.2 in omega arith)
       (omega arith) (omega arith)

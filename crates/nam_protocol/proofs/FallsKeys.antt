@@ -1,7 +1,7 @@
 -- The tables of operations, the keys that a transaction claims, and the records of its commit.
 use Rattle.std.proofs.Common.{◌≡◌, ℕ, zero, suc, ◌+◌, ◌-◌, ◌<◌, ◌≤◌, List, [], ◌∷◌, length, refl, sym, ◌∙◌, ap, subst}
 use Rattle.std.proofs.Common.{arith, inl, inr, Bool, true, false, not, Option, Some, None}
-use Rattle.std.specs.Prelude.{if◌then◌else◌, map, filter, replicate, slice_index_or}
+use Rattle.std.specs.Prelude.{if◌then◌else◌, map, replicate, slice_index_or}
 use Rattle.std.specs.List.{AllByRecursion}
 use Rattle.std.proofs.lemmas.Bool.{cases_Bool, false≢true}
 use Rattle.std.proofs.lemmas.List.{length-set, length-replicate, length-map, length-append}
@@ -12,11 +12,13 @@ use Rattle.si_model.specs.declared.op.Op.TheVariants.{Get, Put, Add, Del, Need, 
 use Rattle.si_model.specs.Rows.{key_at, same_key, item_key, item_at, writes_key}
 use Rattle.si_model.specs.Evaluation.{field_of, with_field, new_number, with_write, with_guard, writes_after}
 use Rattle.si_model.specs.Evaluation.{guards_after, op_key}
-use Rattle.si_model.specs.Evaluation.{unwritten}
+use Rattle.si_model.specs.Evaluation.{unwritten, OpFits}
+use Rattle.si_model.specs.Operations.{op_claims}
 use Rattle.si_model.specs.EvaluationLaws.{IsWide}
 use Rattle.si_model.proofs.EvaluationLemmas.{same_key-refl, same_key_says}
 use Rattle.si_model.proofs.ListLemmas.{All-append, All-map}
 use Rattle.nam_verbs.proofs.TestLemmas.{by_test}
+use Rattle.nam_catalog.specs.declared.bounds.TheConstants.{MOST_KEYS}
 use Rattle.nam_catalog.specs.declared.shape.Table.{Table}
 use Rattle.nam_catalog.specs.declared.shape.Shape.{Shape}
 use Rattle.nam_catalog.specs.Fits.{FitsLimits}
@@ -32,7 +34,9 @@ use Rattle.nam_protocol.specs.declared.txn.TxnState.{TxnState}
 use Rattle.nam_protocol.specs.Operations.{holding, own_value}
 use Rattle.nam_protocol.specs.Txn.{with_claim}
 use Rattle.nam_protocol.specs.Commit.{record_in, commit_keys, records_of, places, record_place, no_record, record_at}
-use Rattle.nam_protocol.specs.TxnFits.{is_claimed, IsPlaced, KeysFit, StateFits, OpStands}
+use Rattle.nam_protocol.specs.TxnFits.{is_claimed, is_used, IsPlaced, KeysFit, StateFits, OpStands}
+use Rattle.nam_protocol.proofs.KeyLemmas.{AreOnce, guarded_once, map_wrote, claimed_keys, map_claimed, claims_within}
+use Rattle.nam_protocol.proofs.KeyLemmas.{used_after, used_kept, used_now, all_filter}
 
 -- 1. Lists
 
@@ -41,12 +45,6 @@ module _ {A : Type 0} (P : A → Type 0) where
   all_at d [] nth all l = absurd (omega arith)
   all_at d (x ∷ xs) zero all l = all.0
   all_at d (x ∷ xs) (suc nth) all l = all_at d xs nth all.1 (omega arith)
-
-  pub all_filter : (f : A → Bool) (xs : List A) → AllByRecursion P xs → AllByRecursion P (filter f xs)
-  all_filter f [] all = tt
-  all_filter f (x ∷ xs) all =
-      by_test (AllByRecursion P) (f x) (x ∷ filter f xs) (filter f xs) (λ e. (all.0, all_filter f xs all.1))
-      (λ e. all_filter f xs all.1)
 
 pub place_of_nth : (rs : List Record) (nth : ℕ)
     → slice_index_or (map (λ (r : Record). r.place) rs) nth no_place ≡ (slice_index_or rs nth no_record).place
@@ -57,16 +55,18 @@ place_of_nth (r ∷ rs) (suc nth) = place_of_nth rs nth
 -- 2. Tables of operations
 
 module _ (shape : Shape) (limits : FitsLimits shape) where
-  pub op_table : (op : Op) → OpStands shape op → IsTableOf shape (op_key op).table
-  op_table (Get t k) s = let e = length-map shape.tables (λ (t : Table). t.width) in let l = s.0.0 in omega arith
-  op_table (Put t k v) s = let e = length-map shape.tables (λ (t : Table). t.width) in let l = s.0.0.0 in omega arith
-  op_table (Add t k f up by) s =
+  pub op_table : (claims : List Record) (op : Op) → OpStands shape claims op → IsTableOf shape (op_key op).table
+  op_table claims (Get t k) s = let e = length-map shape.tables (λ (t : Table). t.width) in let l = s.0.0 in omega arith
+  op_table claims (Put t k v) s =
       let e = length-map shape.tables (λ (t : Table). t.width) in let l = s.0.0.0 in omega arith
-  op_table (Del t k) s = let e = length-map shape.tables (λ (t : Table). t.width) in let l = s.0.0 in omega arith
-  op_table (Need t k f least) s =
+  op_table claims (Add t k f up by) s =
       let e = length-map shape.tables (λ (t : Table). t.width) in let l = s.0.0.0 in omega arith
-  op_table (Guard t k) s = let e = length-map shape.tables (λ (t : Table). t.width) in let l = s.0.0 in omega arith
-  op_table (Scan t low high) s =
+  op_table claims (Del t k) s = let e = length-map shape.tables (λ (t : Table). t.width) in let l = s.0.0 in omega arith
+  op_table claims (Need t k f least) s =
+      let e = length-map shape.tables (λ (t : Table). t.width) in let l = s.0.0.0 in omega arith
+  op_table claims (Guard t k) s =
+      let e = length-map shape.tables (λ (t : Table). t.width) in let l = s.0.0 in omega arith
+  op_table claims (Scan t low high) s =
       let e = length-map shape.tables (λ (t : Table). t.width) in let l = s.0.0 in omega arith
 
 -- 3. Claimed keys
@@ -133,64 +133,156 @@ field_width : (width f n : ℕ) (value : Option (List ℕ)) → HasWidth width v
 field_width width f n None wide = length-set (replicate width 0) (f - 1) n ∙ length-replicate width 0
 field_width width f n (Some v) wide = length-set v (f - 1) n ∙ wide
 
+-- what holds of each claimed key and of one more
+pub all_claims : (P : Record → Type 0) (cs : List Record) (r : Record) → AllByRecursion P cs → P r
+    → AllByRecursion P (with_claim cs r)
+all_claims P [] r all new = (new, tt)
+all_claims P (c ∷ cs) r all new =
+    either (AllByRecursion P) (same_key c.key r.key) (c ∷ cs) (c ∷ with_claim cs r) all
+    (all.0, all_claims P cs r all.1 new)
+
+pub claims_each : (P Q : Record → Type 0) → ((r : Record) → P r → Q r) → (cs : List Record) → AllByRecursion P cs
+    → AllByRecursion Q cs
+claims_each P Q each [] all = tt
+claims_each P Q each (c ∷ cs) all = (each c all.0, claims_each P Q each cs all.1)
+
 module _ (shape : Shape) where
-  placed_more : (cs : List Record) (r : Record) → AllByRecursion (IsPlaced shape) cs → IsPlaced shape r
-      → AllByRecursion (IsPlaced shape) (with_claim cs r)
-  placed_more [] r all new = (new, tt)
-  placed_more (c ∷ cs) r all new =
-      either (AllByRecursion (IsPlaced shape)) (same_key c.key r.key) (c ∷ cs) (c ∷ with_claim cs r) all
-      (all.0, placed_more cs r all.1 new)
+  -- these keys are claimed, and among them all that are written or guarded so far
+  pub record AreClaimed (claims : List Record) (writes : List Item) (guards : List Key) : Type 0 where
+    pub few : length claims ≤ MOST_KEYS
+    pub placed : AllByRecursion (IsPlaced shape) claims
+    pub once : AreOnce (claimed_keys claims)
+    pub written : AllByRecursion (λ item. is_claimed claims (item_key item) ≡ true) writes
+    pub guarded : AllByRecursion (λ key. is_claimed claims key ≡ true) guards
 
-  -- one more key is claimed
-  pub claim_fits : (worker : ℕ) (cs : List Record) (ws : List Item) (gs : List Key) (r : Record)
-      → KeysFit shape worker cs ws gs → IsPlaced shape r
-      → KeysFit shape worker (with_claim cs r) ws gs × (is_claimed (with_claim cs r) r.key ≡ true)
-  claim_fits worker cs ws gs r fits new = (
-    record {
-      worker_is = fits.worker_is;
-      placed = placed_more cs r fits.placed new;
-      written = all_claimed item_key cs r ws fits.written;
-      guarded = all_claimed (λ (k : Key). k) cs r gs fits.guarded;
-      wide = fits.wide;
-    },
-    claimed_now cs r,
-  )
-
-  module _ (worker : ℕ) (cs : List Record) (ws : List Item) (gs : List Key) (fits : KeysFit shape worker cs ws gs) where
-    write_fits : (key : Key) (value : Option (List ℕ)) → is_claimed cs key ≡ true
-        → HasWidth (width_of shape key.table) value
-        → KeysFit shape worker cs (with_write ws (item_at key value)) gs
-    write_fits key value claimed wide = record {
-      worker_is = fits.worker_is;
+  module _ (worker last : ℕ) (seen : List ℕ) (cs : List Record) (ws : List Item) (gs : List Key)
+      (fits : KeysFit shape worker last seen cs ws gs) where
+    pub are_claimed : AreClaimed cs ws gs
+    are_claimed = record {
+      few = fits.few;
       placed = fits.placed;
-      written = all_wrote (λ item. is_claimed cs (item_key item) ≡ true) ws (item_at key value) fits.written claimed;
-      guarded = fits.guarded;
-      wide = all_wrote (IsWide (widths_of shape.tables)) ws (item_at key value) fits.wide wide;
-    }
-
-    guard_fits : (key : Key) → is_claimed cs key ≡ true → KeysFit shape worker cs ws (with_guard gs key)
-    guard_fits key claimed = record {
-      worker_is = fits.worker_is;
-      placed = fits.placed;
+      once = fits.claimed_once;
       written = fits.written;
-      guarded = all_guarded (λ k. is_claimed cs k ≡ true) gs key fits.guarded claimed;
-      wide = fits.wide;
+      guarded = fits.guarded;
     }
 
-    -- an operation's write and guard, of a claimed key
-    pub op_fits : (op : Op) (value : Option (List ℕ)) → OpStands shape op → is_claimed cs (op_key op) ≡ true
-        → HasWidth (width_of shape (op_key op).table) value
-        → KeysFit shape worker cs (writes_after (widths_of shape.tables) op (holding value) ws) (guards_after op gs)
-    op_fits (Get t k) value stands claimed wide = fits
-    op_fits (Put t k v) value stands claimed wide = write_fits (key_at t k) (Some v) claimed stands.0.1
-    op_fits (Add t k f up by) value stands claimed wide =
-        write_fits (key_at t k)
-        (Some (with_field (width_of shape t) value f (new_number up (field_of value f) by))) claimed
-        (field_width (width_of shape t) f (new_number up (field_of value f) by) value wide)
-    op_fits (Del t k) value stands claimed wide = write_fits (key_at t k) None claimed tt
-    op_fits (Need t k f least) value stands claimed wide = fits
-    op_fits (Guard t k) value stands claimed wide = guard_fits (key_at t k) claimed
-    op_fits (Scan t low high) value stands claimed wide = fits
+    -- one more key is claimed
+    pub claim_fits : (r : Record) → IsPlaced shape r → (is_claimed cs r.key ≡ false → length cs < MOST_KEYS)
+        → AreClaimed (with_claim cs r) ws gs × (is_claimed (with_claim cs r) r.key ≡ true)
+    claim_fits r new room = (
+      record {
+        few = claims_within cs r MOST_KEYS fits.few room;
+        placed = all_claims (IsPlaced shape) cs r fits.placed new;
+        once = subst AreOnce (sym (map_claimed cs r)) (guarded_once (claimed_keys cs) r.key fits.claimed_once);
+        written = all_claimed item_key cs r ws fits.written;
+        guarded = all_claimed (λ (k : Key). k) cs r gs fits.guarded;
+      },
+      claimed_now cs r,
+    )
+
+    module _ (claims : List Record) (are : AreClaimed claims ws gs) where
+      same_fits : AllByRecursion (λ (r : Record). is_used ws gs r.key ≡ true) claims
+          → KeysFit shape worker last seen claims ws gs
+      same_fits used = record {
+        worker_is = fits.worker_is;
+        last_is = fits.last_is;
+        seen_is = fits.seen_is;
+        few = are.few;
+        placed = are.placed;
+        claimed_once = are.once;
+        written_once = fits.written_once;
+        guarded_once = fits.guarded_once;
+        written = are.written;
+        guarded = are.guarded;
+        used = used;
+        wide = fits.wide;
+      }
+
+      write_fits : (key : Key) (value : Option (List ℕ)) → is_claimed claims key ≡ true
+          → HasWidth (width_of shape key.table) value
+          → AllByRecursion (λ (r : Record). is_used (with_write ws (item_at key value)) gs r.key ≡ true) claims
+          → KeysFit shape worker last seen claims (with_write ws (item_at key value)) gs
+      write_fits key value claimed wide used = record {
+        worker_is = fits.worker_is;
+        last_is = fits.last_is;
+        seen_is = fits.seen_is;
+        few = are.few;
+        placed = are.placed;
+        claimed_once = are.once;
+        written_once = subst AreOnce (sym (map_wrote ws (item_at key value)))
+            (guarded_once (map item_key ws) key fits.written_once);
+        guarded_once = fits.guarded_once;
+        written =
+            all_wrote (λ item. is_claimed claims (item_key item) ≡ true) ws (item_at key value) are.written claimed;
+        guarded = are.guarded;
+        used = used;
+        wide = all_wrote (IsWide (widths_of shape.tables)) ws (item_at key value) fits.wide wide;
+      }
+
+      guard_fits : (key : Key) → is_claimed claims key ≡ true
+          → AllByRecursion (λ (r : Record). is_used ws (with_guard gs key) r.key ≡ true) claims
+          → KeysFit shape worker last seen claims ws (with_guard gs key)
+      guard_fits key claimed used = record {
+        worker_is = fits.worker_is;
+        last_is = fits.last_is;
+        seen_is = fits.seen_is;
+        few = are.few;
+        placed = are.placed;
+        claimed_once = are.once;
+        written_once = fits.written_once;
+        guarded_once = guarded_once gs key fits.guarded_once;
+        written = are.written;
+        guarded = all_guarded (λ k. is_claimed claims k ≡ true) gs key are.guarded claimed;
+        used = used;
+        wide = fits.wide;
+      }
+
+      -- an operation's write and guard, of a claimed key; after it all that is claimed is used
+      pub op_fits : (op : Op) (value : Option (List ℕ)) → OpFits (widths_of shape.tables) op
+          → is_claimed claims (op_key op) ≡ true → HasWidth (width_of shape (op_key op).table) value
+          → AllByRecursion
+          (λ (r : Record). used_after (widths_of shape.tables) (holding value) ws gs op r.key ≡ true) claims
+          → KeysFit shape worker last seen claims (writes_after (widths_of shape.tables) op (holding value) ws)
+          (guards_after op gs)
+      op_fits (Get t k) value f claimed wide used = same_fits used
+      op_fits (Put t k v) value f claimed wide used = write_fits (key_at t k) (Some v) claimed f.1 used
+      op_fits (Add t k i up by) value f claimed wide used =
+          write_fits (key_at t k)
+          (Some (with_field (width_of shape t) value i (new_number up (field_of value i) by))) claimed
+          (field_width (width_of shape t) i (new_number up (field_of value i) by) value wide) used
+      op_fits (Del t k) value f claimed wide used = write_fits (key_at t k) None claimed tt used
+      op_fits (Need t k i least) value f claimed wide used = same_fits used
+      op_fits (Guard t k) value f claimed wide used = guard_fits (key_at t k) claimed used
+      op_fits (Scan t low high) value f claimed wide used = same_fits used
+
+    -- of a key that is claimed already
+    pub own_fits : (op : Op) (value : Option (List ℕ)) → OpFits (widths_of shape.tables) op
+        → is_claimed cs (op_key op) ≡ true → HasWidth (width_of shape (op_key op).table) value
+        → KeysFit shape worker last seen cs (writes_after (widths_of shape.tables) op (holding value) ws)
+        (guards_after op gs)
+    own_fits op value f claimed wide =
+        op_fits cs are_claimed op value f claimed wide
+        (claims_each (λ r. is_used ws gs r.key ≡ true)
+        (λ r. used_after (widths_of shape.tables) (holding value) ws gs op r.key ≡ true)
+        (λ r. used_kept (widths_of shape.tables) (holding value) ws gs op r.key) cs fits.used)
+
+    -- of a key that was claimed just now
+    pub new_fits : (op : Op) (r : Record) (value : Option (List ℕ)) → OpFits (widths_of shape.tables) op
+        → op_claims op ≡ true → r.key ≡ op_key op → IsPlaced shape r
+        → (is_claimed cs r.key ≡ false → length cs < MOST_KEYS) → HasWidth (width_of shape (op_key op).table) value
+        → KeysFit shape worker last seen (with_claim cs r)
+        (writes_after (widths_of shape.tables) op (holding value) ws) (guards_after op gs)
+    new_fits op r value f claims same new room wide =
+        let c = claim_fits r new room in
+        let Used : Record → Type 0 =
+        λ (r : Record). used_after (widths_of shape.tables) (holding value) ws gs op r.key ≡ true in
+        op_fits (with_claim cs r) c.0 op value f
+        (subst (λ key. is_claimed (with_claim cs r) key ≡ true) same c.1) wide
+        (all_claims Used cs r
+        (claims_each (λ r. is_used ws gs r.key ≡ true) Used
+        (λ r. used_kept (widths_of shape.tables) (holding value) ws gs op r.key) cs fits.used)
+        (subst (λ key. used_after (widths_of shape.tables) (holding value) ws gs op key ≡ true) (sym same)
+        (used_now (widths_of shape.tables) (holding value) ws gs op claims)))
 
     pub own_claimed : (key : Key) → writes_key ws key ≡ true → is_claimed cs key ≡ true
     own_claimed key e = written_claimed cs ws key fits.written e
@@ -220,6 +312,7 @@ module _ (shape : Shape) where
   each_placed cs placed (k ∷ ks) all = (record_placed cs k placed all.0, each_placed cs placed ks all.1)
 
   module _ (state : TxnState) (fits : StateFits shape state) where
+    -- each of the commit's keys is claimed
     pub keys_claimed : AllByRecursion (λ key. is_claimed state.claims key ≡ true) (commit_keys state)
     keys_claimed =
         let P : Key → Type 0 = λ key. is_claimed state.claims key ≡ true in

@@ -11,6 +11,7 @@ use Rattle.si_model.specs.Operations.{op_reads, op_claims}
 use Rattle.nam_verbs.specs.declared.now.Now.{Now}
 use Rattle.nam_verbs.specs.declared.now.Now.TheVariants.{At, Over}
 use Rattle.nam_verbs.proofs.TestLemmas.{by_test}
+use Rattle.nam_catalog.specs.declared.form.Form.{Form}
 use Rattle.nam_catalog.specs.declared.shape.Shape.{Shape}
 use Rattle.nam_catalog.specs.Fits.{FitsLimits}
 use Rattle.nam_calls.specs.declared.index.FindEnd.{FindEnd}
@@ -29,31 +30,42 @@ use Rattle.nam_calls.proofs.FallsTables.{has_capacity, width_is, sight_fits, rea
 use Rattle.nam_calls.specs.declared.index.FindEnd.TheVariants as found_key
 use Rattle.nam_calls.specs.declared.index.ClaimKeyEnd.TheVariants as claimed_key
 use Rattle.nam_calls.specs.declared.reading.ReadingEnd.TheVariants as read_end
+use Rattle.nam_protocol.specs.declared.txn.Record.{Record}
 use Rattle.nam_protocol.specs.declared.txn.TxnState.{TxnState}
 use Rattle.nam_protocol.specs.declared.txn.TxnPoint.{TxnPoint}
 use Rattle.nam_protocol.specs.declared.txn.TxnPoint.TheVariants.{Finding, Reading, Claiming, Committing}
 use Rattle.nam_protocol.specs.declared.txn.TxnAnswer.TheVariants.{Declined}
 use Rattle.nam_protocol.specs.Operations.{holding, own_value, read_of, value_in, answer_of}
 use Rattle.nam_protocol.specs.Operations.{op_path}
-use Rattle.nam_protocol.specs.Txn.{at, over, with_claim, with_op, with_own, ask_op, on_value, on_find, on_read}
+use Rattle.nam_protocol.specs.Txn.{at, over, with_op, with_own, ask_op, on_value, on_find, on_read}
 use Rattle.nam_protocol.specs.Txn.{record_of, on_claim}
 use Rattle.nam_protocol.specs.TxnCalls.{txn_after}
 use Rattle.nam_protocol.specs.Bound.{claim_most, txn_left, op_bound}
-use Rattle.nam_protocol.specs.TxnFits.{StateFits, OpStands, TxnPointFits, TxnFalls, TxnBegins}
-use Rattle.nam_protocol.proofs.FallsKeys.{op_table, claim_fits, op_fits, own_claimed, own_wide}
+use Rattle.nam_protocol.specs.TxnFits.{AnswerFits, StateFits, OpStands, TxnPointFits, TxnFalls, TxnBegins}
+use Rattle.nam_protocol.proofs.FallsKeys.{op_table, own_fits, new_fits, own_claimed, own_wide}
 use Rattle.nam_protocol.proofs.FallsCommit.{commit_falls}
 
+-- an operation's answer is no commit
+pub answer_fits : (form : Form) (op : Op) (value : Option (List ℕ)) → AnswerFits form (answer_of op value)
+answer_fits form (op.Get t k) value = tt
+answer_fits form (op.Put t k v) value = tt
+answer_fits form (op.Add t k f up by) value = tt
+answer_fits form (op.Del t k) value = tt
+answer_fits form (op.Need t k f least) value = tt
+answer_fits form (op.Guard t k) value = tt
+answer_fits form (op.Scan t low high) value = tt
+
 -- what an operation reads has its table's width
-read_wide : (shape : Shape) (op : Op) (value : Option (List ℕ)) → OpStands shape op
+read_wide : (shape : Shape) (claims : List Record) (op : Op) (value : Option (List ℕ)) → OpStands shape claims op
     → HasWidth (width_of shape (op_key op).table) value
     → HasWidth (width_of shape (op_key op).table) (value_in (read_of op value))
-read_wide shape (op.Get t k) value stands wide = wide
-read_wide shape (op.Put t k v) value stands wide = tt
-read_wide shape (op.Add t k f up by) value stands wide = wide
-read_wide shape (op.Del t k) value stands wide = tt
-read_wide shape (op.Need t k f least) value stands wide = wide
-read_wide shape (op.Guard t k) value stands wide = wide
-read_wide shape (op.Scan t low high) value stands wide = absurd (false≢true (sym stands.1))
+read_wide shape claims (op.Get t k) value stands wide = wide
+read_wide shape claims (op.Put t k v) value stands wide = tt
+read_wide shape claims (op.Add t k f up by) value stands wide = wide
+read_wide shape claims (op.Del t k) value stands wide = tt
+read_wide shape claims (op.Need t k f least) value stands wide = wide
+read_wide shape claims (op.Guard t k) value stands wide = wide
+read_wide shape claims (op.Scan t low high) value stands wide = absurd (false≢true (sym stands.1))
 
 claims_take : (shape : Shape) (op : Op) (b : Bool) → b ≡ true
     → (if b then 2 * capacity_of shape (op_key op).table else 0) ≡ 2 * capacity_of shape (op_key op).table
@@ -61,12 +73,13 @@ claims_take shape op true e = refl
 claims_take shape op false e = absurd (false≢true e)
 
 module _ (shape : Shape) (limits : FitsLimits shape) where
-  module _ (state : TxnState) (fits : StateFits shape state) (op : Op) (stands : OpStands shape op) where
+  module _ (state : TxnState) (fits : StateFits shape state) (op : Op)
+      (stands : OpStands shape state.claims op) where
     abbrev table : ℕ
     table = (op_key op).table
 
     is_table : IsTableOf shape table
-    is_table = op_table shape limits op stands
+    is_table = op_table shape limits state.claims op stands
 
     least : 1 ≤ capacity_of shape table
     least = has_capacity shape limits table is_table
@@ -81,8 +94,8 @@ module _ (shape : Shape) (limits : FitsLimits shape) where
         (by_test (TxnFalls shape n) (op_claims op) (at state' (Claiming op claim_key_begin))
         (over state' (answer_of op value))
         (λ e. let m = claims_take shape op (op_claims op) e in let c = least in
-        (fits, ((stands, c, read_wide shape op value stands wide), omega arith)))
-        (λ e. (fits, (tt, omega arith))))
+        (fits, ((stands, c, read_wide shape state.claims op value stands wide, e), omega arith)))
+        (λ e. (fits, (answer_fits shape.form op value, omega arith))))
 
     on_find_falls : (n : ℕ) (now : Now ℕ FindEnd) → FindFalls (op_path shape op) n now
         → TxnFalls shape (n + (read_most shape table + claim_most shape op)) (on_find shape state op now)
@@ -104,18 +117,16 @@ module _ (shape : Shape) (limits : FitsLimits shape) where
     on_read_falls position n (Over read_end.Astray) l h = (fits, (tt, let m = h.1 in omega arith))
 
     on_claim_falls : (n : ℕ) (now : Now ClaimKeyPoint ClaimKeyEnd)
-        → HasWidth (width_of shape table) (value_in state.read)
+        → HasWidth (width_of shape table) (value_in state.read) → op_claims op ≡ true
         → ClaimKeyFalls (op_path shape op) n now → TxnFalls shape n (on_claim shape state op now)
-    on_claim_falls n (At place) wide h = (fits, ((stands, h.0, wide), h.1))
-    on_claim_falls n (Over claimed_key.NoSpace) wide h = (fits, (tt, h.1))
-    on_claim_falls n (Over (claimed_key.At position)) wide h =
-        let r = record_of shape op position in
-        let c = claim_fits shape state.worker state.claims state.writes state.guards r fits
-        (position, (is_table, h.0), refl) in (
-          op_fits shape state.worker (with_claim state.claims r) state.writes state.guards c.0 op
-              (value_in state.read) stands c.1 wide,
-          (tt, h.1),
-        )
+    on_claim_falls n (At place) wide claims h = (fits, ((stands, h.0, wide, claims), h.1))
+    on_claim_falls n (Over claimed_key.NoSpace) wide claims h = (fits, (tt, h.1))
+    on_claim_falls n (Over (claimed_key.At position)) wide claims h = (
+      new_fits shape state.worker state.last state.seen state.claims state.writes state.guards fits op
+          (record_of shape op position) (value_in state.read) stands.0 claims refl
+          (position, (is_table, h.0), refl, stands.2) (stands.3 claims) wide,
+      (answer_fits shape.form op (value_in state.read), h.1),
+    )
 
   -- a word is taken
   pub txn_falls : (state : TxnState) (place : TxnPoint) (found : ℕ) → StateFits shape state
@@ -128,11 +139,12 @@ module _ (shape : Shape) (limits : FitsLimits shape) where
       (read_falls (sight_of shape (op_key op).table position)
       (sight_fits shape limits (op_key op).table position (is_table state fits op p.0) p.1) state.seen at found p.2)
   txn_falls state (Claiming op at) found fits p =
-      on_claim_falls state fits op p.0 _ _ p.2 (claim_key_falls (op_path shape op) at found p.1)
+      on_claim_falls state fits op p.0 _ _ p.2 p.3 (claim_key_falls (op_path shape op) at found p.1)
   txn_falls state (Committing at) found fits p = commit_falls shape limits state fits at found p
 
   -- an operation is asked
-  op_begins_at : (state : TxnState) (op : Op) → StateFits shape state → OpStands shape op → (e : op_reads op ≡ true)
+  op_begins_at : (state : TxnState) (op : Op) → StateFits shape state → OpStands shape state.claims op
+      → (e : op_reads op ≡ true)
       → TxnBegins shape (op_bound shape op) (at state (Finding op find_begin))
   op_begins_at state (op.Get t k) fits stands e =
       let c = least state fits (op.Get t k) stands in (fits, ((stands, c), omega arith))
@@ -146,32 +158,34 @@ module _ (shape : Shape) (limits : FitsLimits shape) where
       let c = least state fits (op.Guard t k) stands in (fits, ((stands, c), omega arith))
   op_begins_at state (op.Scan t low high) fits stands e = absurd (false≢true e)
 
-  op_claims_at : (state : TxnState) (op : Op) → StateFits shape state → OpStands shape op → op_reads op ≡ false
+  op_claims_at : (state : TxnState) (op : Op) → StateFits shape state → OpStands shape state.claims op
+      → op_reads op ≡ false
       → TxnBegins shape (op_bound shape op) (at (record state { read = None }) (Claiming op claim_key_begin))
   op_claims_at state (op.Get t k) fits stands e = absurd (false≢true (sym e))
   op_claims_at state (op.Put t k v) fits stands e =
-      let c = least state fits (op.Put t k v) stands in (fits, ((stands, c, tt), omega arith))
+      let c = least state fits (op.Put t k v) stands in (fits, ((stands, c, tt, refl), omega arith))
   op_claims_at state (op.Add t k f up by) fits stands e = absurd (false≢true (sym e))
   op_claims_at state (op.Del t k) fits stands e =
-      let c = least state fits (op.Del t k) stands in (fits, ((stands, c, tt), omega arith))
+      let c = least state fits (op.Del t k) stands in (fits, ((stands, c, tt, refl), omega arith))
   op_claims_at state (op.Need t k f m) fits stands e = absurd (false≢true (sym e))
   op_claims_at state (op.Guard t k) fits stands e = absurd (false≢true (sym e))
   op_claims_at state (op.Scan t low high) fits stands e = absurd (false≢true (sym stands.1))
 
   own_begins : (n : ℕ) (state : TxnState) (op : Op) (value : Option (List ℕ)) → StateFits shape state
-      → OpStands shape op
+      → OpStands shape state.claims op
       → writes_key state.writes (op_key op) ≡ true
       → HasWidth (width_of shape (op_key op).table) value → TxnBegins shape n (with_own shape state op value)
   own_begins n state op value fits stands e wide =
       either (TxnBegins shape n) (not (passes op (holding value))) (over state Declined)
       (over (with_op shape state op value) (answer_of op value))
       (fits, tt) (
-        op_fits shape state.worker state.claims state.writes state.guards fits op value stands
-            (own_claimed shape state.worker state.claims state.writes state.guards fits (op_key op) e) wide,
-        tt,
+        own_fits shape state.worker state.last state.seen state.claims state.writes state.guards fits op value stands.0
+            (own_claimed shape state.worker state.last state.seen state.claims state.writes state.guards fits (op_key op) e)
+            wide,
+        answer_fits shape.form op value,
       )
 
-  pub op_begins : (state : TxnState) (op : Op) → StateFits shape state → OpStands shape op
+  pub op_begins : (state : TxnState) (op : Op) → StateFits shape state → OpStands shape state.claims op
       → TxnBegins shape (op_bound shape op) (ask_op shape state op)
   op_begins state op fits stands =
       let own = own_value state.writes (op_key op) in

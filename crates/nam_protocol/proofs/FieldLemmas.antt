@@ -163,11 +163,11 @@ module _ (shape : Shape) (limits : FitsLimits shape) where
 
     pub txn_at : (place : TxnPoint) → TxnPointFits shape state place → IsAtField shape (txn_verb shape state place)
     txn_at (Finding op passed) p =
-        key_at_field (op_key op).table (op_table shape limits op p.0) (op_key op).key passed p.1
+        key_at_field (op_key op).table (op_table shape limits state.claims op p.0) (op_key op).key passed p.1
     txn_at (Reading op position at) p =
-        read_at (op_key op).table (op_table shape limits op p.0) position at p.1 p.2
+        read_at (op_key op).table (op_table shape limits state.claims op p.0) position at p.1 p.2
     txn_at (Claiming op at) p =
-        claim_key_at (op_key op).table (op_table shape limits op p.0) (op_key op).key at p.1
+        claim_key_at (op_key op).table (op_table shape limits state.claims op p.0) (op_key op).key at p.1
     txn_at (Committing at) p = commit_at at p
 
   -- 5. A client

@@ -29,9 +29,10 @@ use Rattle.nam_protocol.specs.Client.{abandon_open, after_call, ask_scan, ask_tx
 use Rattle.nam_protocol.specs.Client.{with_call, take_scan, take_txn, on_begin, on_move, on_snap, on_seek, on_collect}
 use Rattle.nam_protocol.specs.CutClient.{client_cut}
 use Rattle.nam_protocol.specs.HoldsWords.{CallHolds, CallPlaceHolds, OpenHolds, OpenPlaceHolds, RunHolds, StateHolds}
-use Rattle.nam_protocol.specs.HoldsWords.{HoldsWords, StepHolds, TxnCallHolds, TxnEndHolds, TxnPlaceHolds}
+use Rattle.nam_protocol.specs.HoldsWords.{HoldsWords, StepHolds, TxnCallHolds, TxnPlaceHolds}
 use Rattle.nam_protocol.specs.Telling.{with_answer, stepped, on_answer}
 use Rattle.nam_protocol.specs.Txn.{Stepped}
+use Rattle.nam_protocol.specs.TxnFits.{AnswerFits}
 use Rattle.nam_protocol.specs.WordsLaw.{ClientKeepsWords}
 use Rattle.nam_protocol.proofs.GoesClient.{begin_goes, seek_goes, move_goes, snap_goes, collect_goes, scan_goes}
 use Rattle.nam_protocol.proofs.GoesClient.{on_answer_goes, step_lists, step_opens, stepped_goes}
@@ -47,7 +48,7 @@ module _ (shape : Shape) where
 
   answered_holds : (client : ClientState) (attempt : Open) (answer : TxnAnswer)
       → client.last ≤ greatest_number shape.form → StateHolds shape.form attempt.state
-      → TxnEndHolds shape.form answer
+      → AnswerFits shape.form answer
       → Holds (with_answer (on_answer client attempt answer) (client_answer.Txn answer))
   answered_holds client attempt answer last state ends =
       on_answer_goes (λ c. Holds (with_answer c (client_answer.Txn answer))) client attempt answer
@@ -58,7 +59,7 @@ module _ (shape : Shape) where
       })
       (λ outcome e. record { last_is = last; opened = tt; running = tt })
       (λ outcome e. record { last_is = last; opened = tt; running = tt })
-      (λ number e. record { last_is = subst (TxnEndHolds shape.form) e ends; opened = tt; running = tt })
+      (λ number e. record { last_is = subst (AnswerFits shape.form) e ends; opened = tt; running = tt })
 
   pub stepped_holds : (client : ClientState) (attempt : Open) (before : ℕ) (step : Stepped)
       → client.last ≤ greatest_number shape.form → StepHolds shape.form step
@@ -68,10 +69,10 @@ module _ (shape : Shape) where
       (λ place e. record {
         last_is = last;
         opened = h.0;
-        running = subst (HoldsNow (TxnPlaceHolds shape.form step.state) (TxnEndHolds shape.form)) e h.1;
+        running = subst (HoldsNow (TxnPlaceHolds shape.form step.state) (AnswerFits shape.form)) e h.1;
       })
       (λ answer e. answered_holds (step_lists client before step) (step_opens attempt before step) answer last h.0
-      (subst (HoldsNow (TxnPlaceHolds shape.form step.state) (TxnEndHolds shape.form)) e h.1))
+      (subst (HoldsNow (TxnPlaceHolds shape.form step.state) (AnswerFits shape.form)) e h.1))
 
   -- 2. A word is taken
 

@@ -44,11 +44,12 @@ use Rattle.nam_protocol.specs.declared.txn.TxnPoint.TheVariants.{Finding, Readin
 use Rattle.nam_protocol.specs.declared.txn.TxnState.{TxnState}
 use Rattle.nam_protocol.specs.Commit.{ask_commit, commit_after, next_free, on_lock, on_words, places, record_place}
 use Rattle.nam_protocol.specs.HoldsWords.{CommitPlaceHolds, ItemHolds, OpHolds, ResultHolds, StateHolds, StepHolds}
-use Rattle.nam_protocol.specs.HoldsWords.{TxnCallHolds, TxnEndHolds, TxnPlaceHolds}
-use Rattle.nam_protocol.specs.Operations.{answer_of, holding, own_value, read_of, value_in}
+use Rattle.nam_protocol.specs.HoldsWords.{TxnCallHolds, TxnPlaceHolds}
+use Rattle.nam_protocol.specs.Operations.{holding, own_value, read_of, value_in}
 use Rattle.nam_protocol.specs.Txn.{Stepped, ask_op, on_find, on_read, on_value, with_op, on_claim}
 use Rattle.nam_protocol.specs.TxnCalls.{txn_after, txn_ask}
 use Rattle.nam_protocol.proofs.FallsKeys.{all_wrote}
+use Rattle.nam_protocol.proofs.FallsTxn.{answer_fits}
 use Rattle.nam_protocol.proofs.GoesCommit.{ask_commit_goes, next_free_goes, on_copy_goes, on_install_goes}
 use Rattle.nam_protocol.proofs.GoesCommit.{on_return_goes, on_slot_goes}
 use Rattle.nam_protocol.proofs.GoesTxn.{ask_goes, decided_goes, knowing}
@@ -131,15 +132,6 @@ own_holds [] key all = tt
 own_holds (w ∷ ws) key all =
     either HasWords (same_key (item_key w) key) w.value (own_value ws key) all.0 (own_holds ws key all.1)
 
-answer_holds : (form : Form) (op : Op) (value : Option (List ℕ)) → TxnEndHolds form (answer_of op value)
-answer_holds form (Get t k) value = tt
-answer_holds form (Put t k v) value = tt
-answer_holds form (Add t k f up by) value = tt
-answer_holds form (Del t k) value = tt
-answer_holds form (Need t k f least) value = tt
-answer_holds form (Guard t k) value = tt
-answer_holds form (Scan t low high) value = tt
-
 -- 2. An operation goes on
 
 module _ (shape : Shape) (state : TxnState) (h : StateHolds shape.form state) (op : Op) (o : OpHolds op) where
@@ -162,7 +154,7 @@ module _ (shape : Shape) (state : TxnState) (h : StateHolds shape.form state) (o
       let known = knows value has in
       decided_goes shape Holds op (knowing state op value) value (λ e. (known, tt))
       (λ e f. (known, (o, found_result op value (passed_result op value has e))))
-      (λ e f. (known, answer_holds shape.form op value))
+      (λ e f. (known, answer_fits shape.form op value))
 
   on_find_holds : (now : Now ℕ FindEnd) → Holds (on_find shape state op now)
   on_find_holds (At passed) = (h, o)
@@ -187,7 +179,7 @@ module _ (shape : Shape) (state : TxnState) (h : StateHolds shape.form state) (o
       found = h.found;
       headers = h.headers;
     },
-    answer_holds shape.form op (value_in state.read),
+    answer_fits shape.form op (value_in state.read),
   )
 
   own_written : (value : Option (List ℕ)) → HasWords value → passes op (holding value) ≡ true
@@ -206,7 +198,7 @@ module _ (shape : Shape) (state : TxnState) (h : StateHolds shape.form state) (o
       let own = own_value state.writes (op_key op) in
       let has : HasWords own = own_holds state.writes (op_key op) h.written in
       ask_goes shape Holds op state (λ e f. (knows own has, tt))
-      (λ e f. (own_written own has f, answer_holds shape.form op own)) (λ e f. (unread, o))
+      (λ e f. (own_written own has f, answer_fits shape.form op own)) (λ e f. (unread, o))
       (λ e f. (unread, (o, unread_result op f)))
 
 -- 3. A commit goes on

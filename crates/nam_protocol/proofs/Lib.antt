@@ -12,12 +12,15 @@ mod PolicyExample
 mod ClientExample
 mod BoundsExample
 mod WorldExample
+mod FitsExample
+pub mod KeyLemmas
 pub mod FallsKeys
 pub mod FallsCommit
 pub mod FallsTxn
 pub mod FallsBegins
 pub mod FallsScan
 pub mod FallsClient
+pub mod GivesCommit
 pub mod FieldLemmas
 pub mod BlankLemmas
 pub mod OpeningLemmas
@@ -27,6 +30,8 @@ pub mod Grows
 pub mod GrowsSession
 pub mod RunsTxn
 pub mod RunsClient
+pub mod JobKeys
+pub mod FewLemmas
 pub mod EndsDriver
 pub mod EndsSession
 pub mod EndsWorld

@@ -18,6 +18,7 @@ use Rattle.nam_protocol.specs.Client.{after_call, ask_scan, ask_txn, call_after,
 use Rattle.nam_protocol.specs.Client.{client_after, client_ask, with_call, take_scan, take_txn}
 use Rattle.nam_protocol.specs.CutClient.{client_cut}
 use Rattle.nam_protocol.specs.ClientFits.{CallFits}
+use Rattle.nam_protocol.proofs.FallsClient.{some_open}
 use Rattle.nam_protocol.specs.Own.{IsOpenAt, IsOpenNow, MayAsk, OpenClient, Rests}
 use Rattle.nam_protocol.specs.Telling.{go, stepped, new_client}
 use Rattle.nam_protocol.specs.Txn.{Stepped}
@@ -87,7 +88,7 @@ module _ (shape : Shape) where
   ask_open : (client : ClientState) (asked : Call) → CallFits shape client.txn asked
       → OpenClient (client_ask shape client asked)
   ask_open client (call.Begin txn nth) fits = fits
-  ask_open client (call.Txn asked) fits = ask_txn_open client asked client.txn fits.0
+  ask_open client (call.Txn asked) fits = ask_txn_open client asked client.txn (some_open shape client.txn asked fits)
   ask_open client (call.Scan table low high) fits = ask_scan_open client table low high client.txn fits.0
   ask_open client (call.Tidy table key) fits = fits.0
   ask_open client (call.Collect bucket) fits = fits.0

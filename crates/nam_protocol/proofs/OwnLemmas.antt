@@ -231,4 +231,5 @@ module _ (shape : Shape) where
         tt,
         rested_view (λ call opened. NowFits shape opened call) (λ opened. tt) (λ answer opened. tt) client.call None
             rests,
+        fits.3,
       )

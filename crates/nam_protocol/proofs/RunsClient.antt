@@ -238,8 +238,8 @@ module _ (shape : Shape) where
     -- a scan
     module _ (limits : FitsLimits shape) (table low high : ℕ) (here : slice_get ops nth ≡ Some (Scan table low high))
         (attempt : Open) (asked : HasAsked attempt.state (take nth ops)) where
-      abbrev Asked : ℕ → Option Open → Type 0
-      Asked worker txn = OpenAsked txn (take nth ops)
+      abbrev Asked : ℕ → ℕ → Option Open → Type 0
+      Asked worker last txn = OpenAsked txn (take nth ops)
 
       all_scanned : HasPassed ops nth (Some attempt)
       all_scanned =

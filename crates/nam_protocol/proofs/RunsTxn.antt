@@ -36,7 +36,6 @@ use Rattle.nam_calls.specs.Reading.{sight_of, read_after}
 use Rattle.nam_calls.specs.Record.{words_begin, words_after, install_after}
 use Rattle.nam_calls.specs.Ring.{slot_begin, slot_after, copy_after}
 use Rattle.nam_calls.specs.Lock.{lock_begin, lock_after, unlock_after}
-use Rattle.nam_calls.specs.Fits.{IsTableOf}
 use Rattle.nam_calls.proofs.FallsTests.{either}
 use Rattle.nam_calls.specs.declared.index.FindEnd.TheVariants as found_key
 use Rattle.nam_calls.specs.declared.index.ClaimKeyEnd.TheVariants as claimed_key
@@ -59,7 +58,7 @@ use Rattle.nam_protocol.specs.Commit.{ask_commit, go, on_lock, next_check, on_sl
 use Rattle.nam_protocol.specs.Commit.{on_install, next_free, commit_after}
 use Rattle.nam_protocol.specs.AttemptLaw.{HasAsked, has_passed, IsOfOp}
 use Rattle.nam_protocol.specs.Left.{key_bound, keys_bound}
-use Rattle.nam_protocol.specs.TxnFits.{is_claimed, StateFits, CommitFits}
+use Rattle.nam_protocol.specs.TxnFits.{is_claimed, IsKeyOf, StateFits, CommitFits}
 use Rattle.nam_protocol.specs.SessionFits.{FullIsWritten}
 use Rattle.nam_protocol.proofs.FallsKeys.{own_claimed, record_placed}
 use Rattle.nam_protocol.proofs.FallsBegins.{record_key}
@@ -173,18 +172,19 @@ module _ (shape : Shape) where
       (λ same t. let f = ap (key_bound shape) (same_key_says (item_key w) key same) in omega arith)
       (λ other t. let l = later t in omega arith) e
 
-  written_table : (state : TxnState) (key : Key) → StateFits shape state → writes_key state.writes key ≡ true
-      → IsTableOf shape key.table
-  written_table state key fits e =
-      let is = own_claimed shape state.worker state.claims state.writes state.guards fits key e in
+  written_is_key : (state : TxnState) (key : Key) → StateFits shape state → writes_key state.writes key ≡ true
+      → IsKeyOf shape key
+  written_is_key state key fits e =
+      let is = own_claimed shape state.worker state.last state.seen state.claims state.writes state.guards fits key e in
       let p = record_placed shape state.claims key fits.placed is in
-      subst (λ (k : Key). IsTableOf shape k.table) (record_key state.claims key is) p.1.0
+      subst (IsKeyOf shape) (record_key state.claims key is) (p.1.0, p.3)
 
   -- 3. A commit
 
   -- a record that was full is one of these keys, which is to be tidied
   abbrev pub FullFits : List Key → TxnAnswer → Type 0
-  FullFits keys (Full lock) = IsTableOf shape lock.table × (key_bound shape (lock_key lock) ≤ keys_bound shape keys)
+  FullFits keys (Full lock) =
+      IsKeyOf shape (lock_key lock) × (key_bound shape (lock_key lock) ≤ keys_bound shape keys)
   FullFits keys _ = Unit {0}
 
   abbrev pub CommitRuns : List Op → TxnState → Now TxnPoint TxnAnswer → Type 0
@@ -231,7 +231,7 @@ module _ (shape : Shape) where
       (
         refl,
         (
-          written_table state (lock_key full) fits e,
+          written_is_key state (lock_key full) fits e,
           subst (λ keys. key_bound shape (lock_key full) ≤ keys_bound shape keys) asked.written
               (written_bound state.writes (lock_key full) e),
         ),

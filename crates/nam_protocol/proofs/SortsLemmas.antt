@@ -32,6 +32,7 @@ use Rattle.nam_protocol.specs.Sorts.{AskOf, StepOf, word_taken, AsksPlain, AsksB
 use Rattle.nam_protocol.specs.Sorts.{Reads, Moves, Collects, Begins, Snaps, Commits}
 use Rattle.nam_protocol.specs.Telling.{go, stepped}
 use Rattle.nam_protocol.specs.Txn.{ask_op}
+use Rattle.nam_protocol.proofs.FallsClient.{some_open}
 use Rattle.nam_protocol.proofs.GoesClient.{seek_goes}
 use Rattle.nam_protocol.proofs.PlainLemmas.{ask_op_plain, ask_scan_plain, collect_plain, move_plain, operation_plain}
 use Rattle.nam_protocol.proofs.PlainLemmas.{scan_plain, seek_plain, tidy_plain}
@@ -199,7 +200,7 @@ module _ (shape : Shape) where
   pub ask_sort : (client : ClientState) (asked : Call) → CallFits shape client.txn asked
       → AskOf shape client (client_ask shape client asked)
   ask_sort client (call.Begin txn nth) fits = AsksBegin client txn nth
-  ask_sort client (call.Txn asked) fits = ask_txn_sort client asked client.txn fits.0
+  ask_sort client (call.Txn asked) fits = ask_txn_sort client asked client.txn (some_open shape client.txn asked fits)
   ask_sort client (call.Scan table low high) fits = ask_scan_sort client table low high client.txn fits.0
   ask_sort client (call.Tidy table key) fits =
       AsksPlain client (call.Tidy table key) (tidy_plain shape client table key) (tidy_reads client.txn table key)

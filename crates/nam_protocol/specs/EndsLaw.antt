@@ -2,12 +2,11 @@
 use Rattle.std.specs.Prelude.{◌≡◌, ℕ, ◌+◌, ◌<◌, ◌≤◌, IsSome, List, [], ◌∷◌, Some, None}
 use Rattle.std.specs.List.{AllByRecursion}
 use Rattle.si_model.specs.declared.op.Policy.{Policy}
-use Rattle.si_model.specs.Evaluation.{OpFits}
 use Rattle.nam_verbs.specs.VerbAt.{VerbAt}
 use Rattle.nam_line.specs.Plan.{Line}
 use Rattle.nam_catalog.specs.declared.shape.Shape.{Shape}
 use Rattle.nam_catalog.specs.Fits.{FitsLimits}
-use Rattle.nam_catalog.specs.Tables.{widths_of}
+use Rattle.nam_catalog.specs.Greatest.{greatest_number}
 use Rattle.nam_layout.specs.declared.field.Field.{Field}
 use Rattle.nam_calls.specs.Fits.{IsOf}
 use Rattle.nam_protocol.specs.declared.session.Job.{Job}
@@ -17,7 +16,7 @@ use Rattle.nam_protocol.specs.Session.{new_session, session_verb, session_after,
 use Rattle.nam_protocol.specs.World.{World, Turn, Step, Cut, session_of, verb_in, after_turn}
 use Rattle.nam_protocol.specs.Schedule.{Run, Owned, Scenario, Simulated, all_jobs, run_to_end}
 use Rattle.nam_protocol.specs.Left.{jobs_bound, session_left}
-use Rattle.nam_protocol.specs.SessionFits.{JobFits, SessionFits, IsSettled}
+use Rattle.nam_protocol.specs.SessionFits.{OpsFit, JobFits, SessionFits, IsSettled}
 
 -- 1. A session
 
@@ -31,7 +30,8 @@ SettlesLaw = (shape : Shape) (session : SessionState) → SessionFits shape sess
 abbrev pub NewSessionLaw : Type 0
 NewSessionLaw =
     (shape : Shape) → FitsLimits shape → (worker start : ℕ) (jobs : List Job) (policy : Policy)
-    → IsOf shape.workers worker → AllByRecursion (JobFits shape) jobs → 1 ≤ policy.tries
+    → IsOf shape.workers worker → start ≤ greatest_number shape.form → AllByRecursion (JobFits shape) jobs
+    → 1 ≤ policy.tries
     → FitsWithin shape (jobs_bound shape policy jobs) (new_session shape (new_client worker start) jobs policy)
 
 abbrev pub SessionWordLaw : Type 0
@@ -76,11 +76,11 @@ TurnLaw = (shape : Shape) → FitsLimits shape → (world : World) (turn : Turn)
 
 -- 3. A simulated run
 
--- its shape keeps the limits, each transaction is tried once at least, and each operation fits the tables
+-- its shape keeps the limits, each transaction is tried once at least, and its operations are as those of a job
 pub record ScenarioFits (c : Scenario) : Type 0 where
   pub limits : FitsLimits c.shape
   pub tries : 1 ≤ c.policy.tries
-  pub txns : AllByRecursion (λ (txn : Owned). AllByRecursion (OpFits (widths_of c.shape.tables)) txn.ops) c.txns
+  pub txns : AllByRecursion (λ (txn : Owned). OpsFit c.shape txn.ops) c.txns
 
 abbrev pub lists_bound : Shape → Policy → List (List Job) → ℕ
 lists_bound shape policy [] = 0

@@ -5,6 +5,7 @@ use Rattle.si_model.specs.declared.op.Policy.{Policy}
 use Rattle.nam_verbs.specs.VerbAt.{VerbAt}
 use Rattle.nam_catalog.specs.declared.shape.Shape.{Shape}
 use Rattle.nam_catalog.specs.Fits.{FitsLimits}
+use Rattle.nam_catalog.specs.Greatest.{greatest_number}
 use Rattle.nam_layout.specs.declared.field.Field.{Field}
 use Rattle.nam_calls.specs.Fits.{IsOf}
 use Rattle.nam_protocol.specs.declared.session.Job.{Job}
@@ -29,6 +30,7 @@ EventsWithin shape room session = length (session_log shape session).events ≤ 
 abbrev pub EventsLaw : Type 0
 EventsLaw =
     (shape : Shape) → FitsLimits shape → (worker start : ℕ) (jobs : List Job) (policy : Policy)
-    → IsOf shape.workers worker → AllByRecursion (JobFits shape) jobs → 1 ≤ policy.tries → (session : SessionState)
+    → IsOf shape.workers worker → start ≤ greatest_number shape.form → AllByRecursion (JobFits shape) jobs
+    → 1 ≤ policy.tries → (session : SessionState)
     → IsReached shape worker start jobs policy session
     → EventsWithin shape (room_for shape policy jobs) session

@@ -36,7 +36,7 @@ TxnLaw =
 
 abbrev pub TxnBeginsLaw : Type 0
 TxnBeginsLaw = (shape : Shape) → FitsLimits shape → (state : TxnState) (call : TxnCall) → StateFits shape state
-    → TxnCallFits shape call
+    → TxnCallFits shape state call
     → TxnBegins shape (txn_call_bound shape state call) (txn_ask shape state call)
 
 -- 2. A scan: it begins, takes a word, and goes on by its caller's choice after a key or a row

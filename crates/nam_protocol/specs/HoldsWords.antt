@@ -24,8 +24,6 @@ use Rattle.nam_protocol.specs.declared.session.Job.{Job}
 use Rattle.nam_protocol.specs.declared.session.SessionState.{SessionState}
 use Rattle.nam_protocol.specs.declared.txn.CommitPoint.{CommitPoint}
 use Rattle.nam_protocol.specs.declared.txn.CommitPoint.TheVariants.{Copying, Locking, Saving}
-use Rattle.nam_protocol.specs.declared.txn.TxnAnswer.{TxnAnswer}
-use Rattle.nam_protocol.specs.declared.txn.TxnAnswer.TheVariants.{Committed}
 use Rattle.nam_protocol.specs.declared.txn.TxnCall.{TxnCall}
 use Rattle.nam_protocol.specs.declared.txn.TxnPoint.{TxnPoint}
 use Rattle.nam_protocol.specs.declared.txn.TxnPoint.TheVariants.{Finding, Reading, Claiming, Committing}
@@ -33,6 +31,7 @@ use Rattle.nam_protocol.specs.declared.txn.TxnState.{TxnState}
 use Rattle.nam_protocol.specs.Driver.{call_of}
 use Rattle.nam_protocol.specs.Operations.{value_in}
 use Rattle.nam_protocol.specs.Txn.{Stepped}
+use Rattle.nam_protocol.specs.TxnFits.{AnswerFits}
 use Rattle.nam_protocol.specs.World.{World}
 use Rattle.nam_protocol.specs.declared.client.Call.TheVariants as call
 use Rattle.nam_protocol.specs.declared.txn.TxnCall.TheVariants as txn_call
@@ -101,13 +100,9 @@ module _ (form : Form) where
   TxnPlaceHolds state (Claiming op at) = OpHolds op × ResultHolds op (value_in state.read)
   TxnPlaceHolds state (Committing at) = (state.last < greatest_number form) × CommitPlaceHolds at
 
-  abbrev pub TxnEndHolds : TxnAnswer → Type 0
-  TxnEndHolds (Committed number) = number ≤ greatest_number form
-  TxnEndHolds _ = Unit {0}
-
   abbrev pub StepHolds : Stepped → Type 0
   StepHolds step =
-      StateHolds step.state × HoldsNow (TxnPlaceHolds step.state) TxnEndHolds step.call
+      StateHolds step.state × HoldsNow (TxnPlaceHolds step.state) (AnswerFits form) step.call
 
   -- 3. A client
 

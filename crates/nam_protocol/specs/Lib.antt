@@ -18,6 +18,7 @@ pub mod Bound
 pub mod Left
 pub mod TxnFits
 pub mod ClientFits
+pub mod CommitGives
 pub mod FallsLaw
 pub mod AttemptLaw
 pub mod FieldLaw
@@ -26,6 +27,7 @@ pub mod StepLaw
 pub mod UnreadLaw
 pub mod Grows
 pub mod SessionFits
+pub mod FewLaw
 pub mod EndsLaw
 pub mod RoomLaw
 pub mod ClientEvents

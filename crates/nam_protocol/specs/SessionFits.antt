@@ -7,13 +7,15 @@ use Rattle.si_model.specs.declared.row.Key.{Key}
 use Rattle.si_model.specs.declared.op.Op.{Op}
 use Rattle.si_model.specs.declared.op.Op.TheVariants.{Scan}
 use Rattle.si_model.specs.Rows.{writes_key}
-use Rattle.si_model.specs.Evaluation.{OpFits}
+use Rattle.si_model.specs.Evaluation.{OpFits, op_key, key_claimed, keys_from}
 use Rattle.si_model.specs.Answers.{lock_key}
 use Rattle.nam_verbs.specs.declared.now.Now.{Now}
 use Rattle.nam_verbs.specs.declared.now.Now.TheVariants.{At}
+use Rattle.nam_catalog.specs.declared.bounds.TheConstants.{MOST_KEYS}
 use Rattle.nam_catalog.specs.declared.shape.Shape.{Shape}
 use Rattle.nam_catalog.specs.Tables.{widths_of}
-use Rattle.nam_calls.specs.Fits.{IsTableOf}
+use Rattle.nam_calls.specs.Holds.{IsWord}
+use Rattle.nam_calls.specs.Words.{key_word}
 use Rattle.nam_protocol.specs.declared.txn.TxnState.{TxnState}
 use Rattle.nam_protocol.specs.declared.txn.TxnPoint.{TxnPoint}
 use Rattle.nam_protocol.specs.declared.txn.TxnPoint.TheVariants.{Committing}
@@ -30,6 +32,7 @@ use Rattle.nam_protocol.specs.declared.session.DriverPoint.TheVariants.{ToBegin,
 use Rattle.nam_protocol.specs.declared.session.DriverState.{DriverState}
 use Rattle.nam_protocol.specs.declared.session.SessionState.{SessionState}
 use Rattle.nam_protocol.specs.AttemptLaw.{HasAsked, IsOfOp}
+use Rattle.nam_protocol.specs.TxnFits.{IsKeyOf}
 use Rattle.nam_protocol.specs.ClientFits.{ClientFits}
 use Rattle.nam_protocol.specs.Session.{session_verb, has_ended}
 
@@ -88,15 +91,22 @@ ops_of (Some job) = job.ops
 module _ (shape : Shape) where
   -- 2. Jobs, and the driver's point in them
 
+  -- the operations fit the tables, their keys' words are below 2^64, and at most 16 keys are written or guarded
+  pub record OpsFit (ops : List Op) : Type 0 where
+    pub fit : AllByRecursion (OpFits (widths_of shape.tables)) ops
+    pub keys : AllByRecursion (λ op. IsWord (key_word (op_key op).key)) ops
+    pub few : length (keys_from key_claimed [] ops) ≤ MOST_KEYS
+
   abbrev pub JobFits : Job → Type 0
-  JobFits job = AllByRecursion (OpFits (widths_of shape.tables)) job.ops
+  JobFits job = OpsFit job.ops
 
-  abbrev pub AreOfTables : List Key → Type 0
-  AreOfTables keys = AllByRecursion (λ key. IsTableOf shape key.table) keys
+  abbrev pub AreKeysOf : List Key → Type 0
+  AreKeysOf keys = AllByRecursion (IsKeyOf shape) keys
 
-  -- the nth of the keys is to be tidied; another try follows only where one is left
+  -- the nth of at most 16 keys is to be tidied; another try follows only where one is left
   abbrev pub TidiesFit : ℕ → ℕ → List Key → ℕ → Bool → Type 0
-  TidiesFit tries try keys nth retry = AreOfTables keys × (nth < length keys) × (retry ≡ true → try < tries)
+  TidiesFit tries try keys nth retry =
+      AreKeysOf keys × (nth < length keys) × (retry ≡ true → try < tries) × (length keys ≤ MOST_KEYS)
 
   abbrev pub DriverPointFits : ℕ → ℕ → DriverPoint → Type 0
   DriverPointFits tries try ToBegin = Unit {0}

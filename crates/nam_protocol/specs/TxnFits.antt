@@ -1,25 +1,30 @@
--- What holds of a transaction and of the points of its calls, of a scan, and of a client.
-use Rattle.std.specs.Prelude.{◌≡◌, ℕ, ◌+◌, ◌-◌, ◌*◌, ◌<◌, ◌≤◌, Bool, true, false, if◌then◌else◌, List, [], ◌∷◌}
+-- What holds of a transaction and of the points of its calls, and of a scan.
+use Rattle.std.specs.Prelude.{◌≡◌, ℕ, ◌+◌, ◌-◌, ◌*◌, ◌<◌, ◌≤◌, ◌||◌, Bool, true, false, if◌then◌else◌, List, [], ◌∷◌}
 use Rattle.std.specs.Prelude.{length, map}
-use Rattle.std.specs.List.{AllByRecursion}
+use Rattle.std.specs.List.{AllByRecursion, IsDistinct}
 use Rattle.si_model.specs.declared.row.Key.{Key}
 use Rattle.si_model.specs.declared.row.Item.{Item}
 use Rattle.si_model.specs.declared.op.Op.{Op}
-use Rattle.si_model.specs.Rows.{same_key, item_key}
+use Rattle.si_model.specs.Rows.{same_key, has_key, item_key, writes_key}
 use Rattle.si_model.specs.Evaluation.{OpFits, unwritten, op_key}
 use Rattle.si_model.specs.EvaluationLaws.{IsWide, is_scan}
+use Rattle.si_model.specs.Operations.{op_claims}
 use Rattle.si_model.specs.declared.op.Op.TheVariants as op
 use Rattle.nam_verbs.specs.declared.now.Now.{Now}
 use Rattle.nam_verbs.specs.declared.now.Now.TheVariants.{At, Over}
-use Rattle.nam_verbs.specs.Falls.{Falls, Any}
+use Rattle.nam_verbs.specs.Falls.{Falls}
+use Rattle.nam_catalog.specs.declared.bounds.TheConstants.{MOST_KEYS}
+use Rattle.nam_catalog.specs.declared.form.Form.{Form}
 use Rattle.nam_catalog.specs.declared.shape.Shape.{Shape}
+use Rattle.nam_catalog.specs.Greatest.{greatest_number}
 use Rattle.nam_catalog.specs.Tables.{widths_of}
 use Rattle.nam_layout.specs.RowLaw.{IsPosition}
 use Rattle.nam_layout.specs.Place.{place_of}
-use Rattle.nam_calls.specs.Words.{width_of, capacity_of}
+use Rattle.nam_calls.specs.Holds.{IsWord}
+use Rattle.nam_calls.specs.Words.{width_of, capacity_of, key_word}
 use Rattle.nam_calls.specs.Reading.{sight_of, read_begin}
-use Rattle.nam_calls.specs.Fits.{HasWidth, IsOf, FindFits, ClaimKeyFits, ReadFits, WordsFit, WordsEnd, CopyFits}
-use Rattle.nam_calls.specs.Fits.{InstallFits, LockFits}
+use Rattle.nam_calls.specs.Fits.{HasWidth, IsOf, IsTableOf, FindFits, ClaimKeyFits, ReadFits, WordsFit, WordsEnd}
+use Rattle.nam_calls.specs.Fits.{CopyFits, InstallFits, LockFits}
 use Rattle.nam_protocol.specs.declared.scan.ScanPoint.{ScanPoint}
 use Rattle.nam_protocol.specs.declared.scan.ScanPoint.TheVariants.{ScanKey, ScanRead}
 use Rattle.nam_protocol.specs.declared.scan.ScanAnswer.{ScanAnswer}
@@ -27,6 +32,8 @@ use Rattle.nam_protocol.specs.declared.txn.Record.{Record}
 use Rattle.nam_protocol.specs.declared.txn.TxnState.{TxnState}
 use Rattle.nam_protocol.specs.declared.txn.TxnCall.{TxnCall}
 use Rattle.nam_protocol.specs.declared.txn.TxnCall.TheVariants.{Get, Put, Add, Del, Need, Guard, Commit}
+use Rattle.nam_protocol.specs.declared.txn.TxnAnswer.{TxnAnswer}
+use Rattle.nam_protocol.specs.declared.txn.TxnAnswer.TheVariants.{Committed}
 use Rattle.nam_protocol.specs.declared.txn.TxnPoint.{TxnPoint}
 use Rattle.nam_protocol.specs.declared.txn.TxnPoint.TheVariants.{Finding, Reading, Claiming, Committing}
 use Rattle.nam_protocol.specs.declared.txn.CommitPoint.{CommitPoint}
@@ -49,24 +56,53 @@ abbrev pub is_claimed : List Record → Key → Bool
 is_claimed [] key = false
 is_claimed (c ∷ cs) key = if same_key c.key key then true else is_claimed cs key
 
+-- is the key one of those that are written or guarded
+abbrev pub is_used : List Item → List Key → Key → Bool
+is_used writes guards key = writes_key writes key || has_key guards key
+
+-- A key that the operation writes or guards is claimed already, or fewer than 16 keys are claimed. What counts towards
+-- the 16 are the keys that the transaction writes or guards, each once: just these are claimed. A get and a need claim
+-- nothing.
+abbrev pub HasRoom : List Record → Op → Type 0
+HasRoom claims op = op_claims op ≡ true → is_claimed claims (op_key op) ≡ false → length claims < MOST_KEYS
+
+-- a commit's number is one of the form
+abbrev pub AnswerFits : Form → TxnAnswer → Type 0
+AnswerFits form (Committed number) = number ≤ greatest_number form
+AnswerFits form _ = Unit {0}
+
 module _ (shape : Shape) where
-  -- the record's place is a position of its key's table
+  -- a key of one of the tables, whose word is below 2^64: it is at most 2^64 - 2
+  abbrev pub IsKeyOf : Key → Type 0
+  IsKeyOf key = IsTableOf shape key.table × IsWord (key_word key.key)
+
+  -- the record's place is a position of its key's table, and the key's word is below 2^64
   abbrev pub IsPlaced : Record → Type 0
   IsPlaced r =
       (position : ℕ) × IsPosition shape.tables r.key.table position × (r.place ≡ place_of shape r.key.table position)
+      × IsWord (key_word r.key.key)
 
-  -- 1. What a transaction has at hand: each key that it writes or guards is claimed, each claimed key has a position,
-  -- and each value its table's width
+  -- 1. What a transaction has at hand: the keys that it writes or guards are claimed, and no others, at most 16 in all;
+  -- each of them once, with a position; each value has its table's width; the worker's last number is one of the form;
+  -- and its snapshot has an entry for each worker
 
-  pub record KeysFit (worker : ℕ) (claims : List Record) (writes : List Item) (guards : List Key) : Type 0 where
+  pub record KeysFit (worker last : ℕ) (seen : List ℕ) (claims : List Record) (writes : List Item)
+      (guards : List Key) : Type 0 where
     pub worker_is : IsOf shape.workers worker
+    pub last_is : last ≤ greatest_number shape.form
+    pub seen_is : length seen ≡ shape.workers
+    pub few : length claims ≤ MOST_KEYS
     pub placed : AllByRecursion (IsPlaced) claims
+    pub claimed_once : IsDistinct same_key (map (λ (r : Record). r.key) claims)
+    pub written_once : IsDistinct same_key (map item_key writes)
+    pub guarded_once : IsDistinct same_key guards
     pub written : AllByRecursion (λ item. is_claimed claims (item_key item) ≡ true) writes
     pub guarded : AllByRecursion (λ key. is_claimed claims key ≡ true) guards
+    pub used : AllByRecursion (λ (r : Record). is_used writes guards r.key ≡ true) claims
     pub wide : AllByRecursion (IsWide (widths_of shape.tables)) writes
 
   abbrev pub StateFits : TxnState → Type 0
-  StateFits state = KeysFit state.worker state.claims state.writes state.guards
+  StateFits state = KeysFit state.worker state.last state.seen state.claims state.writes state.guards
 
   -- 2. Points of a commit
 
@@ -76,6 +112,7 @@ module _ (shape : Shape) where
       (length state.held ≡ length state.records) × (length state.counts < length state.writes)
   CommitPointFits state (Returning given full) =
       (length state.held ≡ length state.records) × (given < length state.records)
+      × (length state.counts < length state.writes)
   CommitPointFits state (Saving nth got) =
       (length state.held ≡ length state.records) × (length state.counts ≡ length state.writes)
       × (nth < length state.writes)
@@ -94,43 +131,54 @@ module _ (shape : Shape) where
       (length state.held ≡ length state.records) × (length state.counts ≡ length state.writes)
       × (length state.writes ≤ nth) × (nth < length state.records)
 
-  -- the records of the commit are those of its keys, of which at least one is written
+  -- the records of the commit are those of its keys, of which at least one is written, and a number of the form is left
+  -- for it
   abbrev pub CommitFits : TxnState → CommitPoint → Type 0
-  CommitFits state at = (state.records ≡ records_of state) × (1 ≤ length state.writes) × CommitPointFits state at
+  CommitFits state at =
+      (state.records ≡ records_of state) × (1 ≤ length state.writes) × CommitPointFits state at
+      × (state.last < greatest_number shape.form)
 
   -- 3. Points of a transaction
 
-  -- an operation on one key, of the tables' widths
-  abbrev pub OpStands : Op → Type 0
-  OpStands op = OpFits (widths_of shape.tables) op × (is_scan op ≡ false)
+  -- an operation on one key, of the tables' widths, where these keys are claimed
+  abbrev pub OpStands : List Record → Op → Type 0
+  OpStands claims op =
+      OpFits (widths_of shape.tables) op × (is_scan op ≡ false) × IsWord (key_word (op_key op).key)
+      × HasRoom claims op
 
+  -- only an operation that writes or guards its key claims a position
   abbrev pub TxnPointFits : TxnState → TxnPoint → Type 0
-  TxnPointFits state (Finding op passed) = OpStands op × FindFits (capacity_of shape (op_key op).table) passed
+  TxnPointFits state (Finding op passed) =
+      OpStands state.claims op × FindFits (capacity_of shape (op_key op).table) passed
   TxnPointFits state (Reading op position at) =
-      OpStands op × (position < capacity_of shape (op_key op).table)
+      OpStands state.claims op × (position < capacity_of shape (op_key op).table)
       × ReadFits (sight_of shape (op_key op).table position) at
   TxnPointFits state (Claiming op at) =
-      OpStands op × ClaimKeyFits (capacity_of shape (op_key op).table) at
-      × HasWidth (width_of shape (op_key op).table) (value_in state.read)
+      OpStands state.claims op × ClaimKeyFits (capacity_of shape (op_key op).table) at
+      × HasWidth (width_of shape (op_key op).table) (value_in state.read) × (op_claims op ≡ true)
   TxnPointFits state (Committing at) = CommitFits state at
 
   -- a transaction has stepped: what it has at hand fits, and its call goes on with fewer verbs to come or was answered
   abbrev pub TxnFalls : ℕ → Stepped → Type 0
-  TxnFalls n step = StateFits step.state × Falls (TxnPointFits step.state) Any (txn_left shape step.state) n step.call
+  TxnFalls n step =
+      StateFits step.state
+      × Falls (TxnPointFits step.state) (AnswerFits shape.form) (txn_left shape step.state) n step.call
 
   abbrev pub TxnBegins : ℕ → Stepped → Type 0
-  TxnBegins n step = StateFits step.state × Begins (TxnPointFits step.state) Any (txn_left shape step.state) n step.call
+  TxnBegins n step =
+      StateFits step.state
+      × Begins (TxnPointFits step.state) (AnswerFits shape.form) (txn_left shape step.state) n step.call
 
   -- 4. Calls of a transaction, and how many verbs they take at the most
 
-  abbrev pub TxnCallFits : TxnCall → Type 0
-  TxnCallFits (Get t k) = OpStands (op.Get t k)
-  TxnCallFits (Put t k v) = OpStands (op.Put t k v)
-  TxnCallFits (Add t k f up by) = OpStands (op.Add t k f up by)
-  TxnCallFits (Del t k) = OpStands (op.Del t k)
-  TxnCallFits (Need t k f least) = OpStands (op.Need t k f least)
-  TxnCallFits (Guard t k) = OpStands (op.Guard t k)
-  TxnCallFits Commit = Unit {0}
+  abbrev pub TxnCallFits : TxnState → TxnCall → Type 0
+  TxnCallFits state (Get t k) = OpStands state.claims (op.Get t k)
+  TxnCallFits state (Put t k v) = OpStands state.claims (op.Put t k v)
+  TxnCallFits state (Add t k f up by) = OpStands state.claims (op.Add t k f up by)
+  TxnCallFits state (Del t k) = OpStands state.claims (op.Del t k)
+  TxnCallFits state (Need t k f least) = OpStands state.claims (op.Need t k f least)
+  TxnCallFits state (Guard t k) = OpStands state.claims (op.Guard t k)
+  TxnCallFits state Commit = Unit {0}
 
   -- the written keys, the keys that are guarded only, and the worker's entry
   abbrev pub commit_bound : TxnState → ℕ

@@ -1,0 +1,2 @@
+pub mod ScenarioLemmas
+mod ScriptExample

@@ -52,3 +52,7 @@ pub mod SteppedLemmas
 pub mod OwnLemmas
 pub mod StageLemmas
 pub mod OpenLemmas
+pub mod AnswersOps
+pub mod AnswersCommit
+pub mod AnswersScan
+pub mod AnswersClient

@@ -37,3 +37,6 @@ pub mod Plain
 pub mod Reader
 pub mod Sorts
 pub mod Own
+pub mod Carries
+pub mod Told
+pub mod AnswersLaw

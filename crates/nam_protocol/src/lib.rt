@@ -11,6 +11,7 @@
 #![tactic(auto)]
 
 mod client;
+mod laws_answers;
 mod laws_ends;
 mod laws_growth;
 mod laws_left;
@@ -23,6 +24,7 @@ mod session;
 mod txn;
 
 pub use client::{Answer, Call, CallPoint, ClientState, Open, Scanned};
+pub use laws_answers::answers_tell;
 pub use laws_ends::{runs_end, sessions_settle, turns_fall};
 pub use laws_growth::{commit_program_law, logs_grow_law, session_logs_grow_law};
 pub use laws_left::{

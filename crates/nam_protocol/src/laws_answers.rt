@@ -1,0 +1,18 @@
+//! Answers and their causes.
+
+ghost use Rattle.nam_protocol.specs.AnswersLaw.{CarriesLaw, AnswersLaw};
+
+/// Each answer of a client follows from its call's read, lock or snapshot, as the log lists it.
+///
+/// An operation's answer is that on the value that was read, which is listed; it is declined exactly where it doesn't
+/// pass on that value. A commit is told its number and lists what it writes, or names the record whose word was in the
+/// way with the locks that were taken before it, or the written record whose slot was not moved. A scan's rows are all
+/// of its range. A snapshot taken is listed, and one to be taken again tells the two words. A tidying and a collection
+/// are listed as their answers say.
+///
+/// What this needs of a client, that it carries what its call has found, holds of each new client and is kept by each
+/// word, each call that may be asked, by giving up and by a stop.
+pub fn answers_tell()
+    ensures carries { CarriesLaw }
+    ensures answers { AnswersLaw }
+{}

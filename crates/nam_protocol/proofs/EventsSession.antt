@@ -46,6 +46,7 @@ use Rattle.nam_protocol.specs.AttemptLaw.{has_passed}
 use Rattle.nam_protocol.specs.SessionFits.{PlaceRuns, DriverFits}
 use Rattle.nam_protocol.specs.SessionFits.{NowRuns, ops_of, JobFits, SessionFits}
 use Rattle.nam_protocol.specs.RoomLaw.{call_room, DriverCounts, room_left}
+use Rattle.nam_protocol.specs.SessionKeeps.{is_asking}
 use Rattle.nam_protocol.specs.ClientEvents.{listed, is_open_after, NowLists, ClientLists, NeedsOpen, closing}
 use Rattle.nam_protocol.specs.EventsLaw.{IsReached, is_new, by_word, by_cut, EventsLaw}
 use Rattle.nam_protocol.proofs.RunsClient.{NowDoes}
@@ -59,10 +60,6 @@ use Rattle.nam_protocol.specs.declared.txn.TxnAnswer.TheVariants as txn_answer
 use Rattle.nam_protocol.specs.declared.client.Answer.TheVariants as answer
 
 -- 1. The driver asks for a call of an open transaction
-
-abbrev is_asking : DriverPoint → Bool
-is_asking (ToAsk nth) = true
-is_asking _ = false
 
 -- the event of the attempt that is open
 abbrev one : Bool → ℕ
@@ -144,7 +141,7 @@ module _ (shape : Shape) (jobs : List Job) (driver : DriverState) (ops : List Op
   collect_asks bucket keys nth retry (answer.Collected known) a = refl
   collect_asks bucket keys nth retry _ a = absurd a
 
-  asks_after : (place : DriverPoint) (end : Answer) → IsAnswered shape place ops txn end
+  pub asks_after : (place : DriverPoint) (end : Answer) → IsAnswered shape place ops txn end
       → AsksAs (is_open_after (is_asking place) end) (place_taken jobs driver place end)
   asks_after ToBegin end a = begin_asks end a
   asks_after (ToAsk nth) end a = ask_asks nth end a
@@ -191,7 +188,7 @@ op_needs client (Some (op.Need t k f least)) some = some
 op_needs client (Some (op.Guard t k)) some = some
 op_needs client (Some (op.Scan t low high)) some = some
 
-needs_open : (shape : Shape) (client : ClientState) (ops : List Op) (txn_number try : ℕ) (place : DriverPoint)
+pub needs_open : (shape : Shape) (client : ClientState) (ops : List Op) (txn_number try : ℕ) (place : DriverPoint)
     → AsksFrom shape place ops client.txn
     → NeedsOpen client (place_call record { txn = txn_number; ops = ops } try place)
 needs_open shape client ops t try ToBegin asked = tt

@@ -11,6 +11,7 @@ mod RareExample
 mod PolicyExample
 mod ClientExample
 mod BoundsExample
+mod AnswersExample
 mod WorldExample
 pub mod FallsKeys
 pub mod FallsCommit
@@ -56,3 +57,4 @@ pub mod AnswersOps
 pub mod AnswersCommit
 pub mod AnswersScan
 pub mod AnswersClient
+pub mod KeptSession

@@ -40,3 +40,4 @@ pub mod Own
 pub mod Carries
 pub mod Told
 pub mod AnswersLaw
+pub mod SessionKeeps

@@ -1,6 +1,7 @@
 //! Answers and their causes.
 
 ghost use Rattle.nam_protocol.specs.AnswersLaw.{CarriesLaw, AnswersLaw};
+ghost use Rattle.nam_protocol.specs.SessionKeeps.{SessionKeepsLaw};
 
 /// Each answer of a client follows from its call's read, lock or snapshot, as the log lists it.
 ///
@@ -15,4 +16,11 @@ ghost use Rattle.nam_protocol.specs.AnswersLaw.{CarriesLaw, AnswersLaw};
 pub fn answers_tell()
     ensures carries { CarriesLaw }
     ensures answers { AnswersLaw }
+{}
+
+/// What a client keeps its session keeps: of any test of a client that a worker's new client passes, and that is kept
+/// by each word that a client takes, by each call that it may be asked and by a stop, the client of each session that
+/// occurs passes it.
+pub fn session_keeps()
+    ensures { SessionKeepsLaw }
 {}

@@ -57,4 +57,5 @@ pub mod AnswersOps
 pub mod AnswersCommit
 pub mod AnswersScan
 pub mod AnswersClient
+pub mod GoesSession
 pub mod KeptSession

@@ -1,5 +1,5 @@
 -- What each answer tells: it follows from its call's read, lock or snapshot, as the log lists it.
-use Rattle.std.specs.Prelude.{◌≡◌, ◌≢◌, ℕ, ◌+◌, ◌-◌, ◌<◌, Bool, true, false, List, [], length, slice_index, Option}
+use Rattle.std.specs.Prelude.{◌≡◌, ◌≢◌, ℕ, ◌+◌, ◌-◌, ◌<◌, ◌≤◌, Bool, true, false, List, [], length, slice_index, Option}
 use Rattle.std.specs.Prelude.{Some, None}
 use Rattle.std.specs.List.{AllByRecursion}
 use Rattle.si_model.specs.declared.row.Item.{Item}
@@ -58,6 +58,13 @@ use Rattle.nam_protocol.specs.Commit.{locks_taken}
 use Rattle.nam_protocol.specs.ClientFits.{ClientFits}
 use Rattle.nam_protocol.specs.Own.{MayAsk}
 use Rattle.nam_protocol.specs.Session.{answer_now}
+use Rattle.nam_protocol.specs.declared.session.Job.{Job}
+use Rattle.nam_protocol.specs.declared.session.SessionState.{SessionState}
+use Rattle.nam_protocol.specs.EventsLaw.{IsReached}
+use Rattle.nam_protocol.specs.SessionFits.{JobFits}
+use Rattle.si_model.specs.declared.op.Policy.{Policy}
+use Rattle.nam_catalog.specs.Fits.{FitsLimits}
+use Rattle.nam_calls.specs.Fits.{IsOf}
 use Rattle.nam_protocol.specs.Carries.{Carries, IsFullAt}
 use Rattle.nam_protocol.specs.Told.{Ends, OpDeclined, OpNoSpace, IsTooOld, LockMissed, HasCommitted, HasScanned}
 use Rattle.nam_protocol.specs.Told.{HasCollected, FoundAgain, HasBegun, OpPassed, HasMoved}
@@ -236,3 +243,10 @@ CarriesLaw = (shape : Shape) → CarriesKept shape
 
 abbrev pub AnswersLaw : Type 0
 AnswersLaw = (shape : Shape) → AnswersTell shape
+
+-- the client of each session that occurs carries so
+abbrev pub SessionCarriesLaw : Type 0
+SessionCarriesLaw =
+    (shape : Shape) → FitsLimits shape → (worker start : ℕ) (jobs : List Job) (policy : Policy)
+    → IsOf shape.workers worker → AllByRecursion (JobFits shape) jobs → 1 ≤ policy.tries → (session : SessionState)
+    → IsReached shape worker start jobs policy session → Carries session.client

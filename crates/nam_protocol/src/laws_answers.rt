@@ -1,6 +1,6 @@
 //! Answers and their causes.
 
-ghost use Rattle.nam_protocol.specs.AnswersLaw.{CarriesLaw, AnswersLaw};
+ghost use Rattle.nam_protocol.specs.AnswersLaw.{CarriesLaw, AnswersLaw, SessionCarriesLaw};
 ghost use Rattle.nam_protocol.specs.SessionKeeps.{SessionKeepsLaw};
 
 /// Each answer of a client follows from its call's read, lock or snapshot, as the log lists it.
@@ -12,9 +12,10 @@ ghost use Rattle.nam_protocol.specs.SessionKeeps.{SessionKeepsLaw};
 /// are listed as their answers say.
 ///
 /// What this needs of a client, that it carries what its call has found, holds of each new client and is kept by each
-/// word, each call that may be asked, by giving up and by a stop.
+/// word, each call that may be asked, by giving up and by a stop; so it holds of the client of each session that occurs.
 pub fn answers_tell()
     ensures carries { CarriesLaw }
+    ensures sessions { SessionCarriesLaw }
     ensures answers { AnswersLaw }
 {}
 

@@ -65,26 +65,26 @@ use Rattle.nam_protocol.specs.declared.client.Answer.TheVariants as answer
 abbrev one : Bool → ℕ
 one b = if b then 1 else 0
 
-abbrev Rests : DriverState → Type 0
+abbrev pub Rests : DriverState → Type 0
 Rests driver = is_asking driver.place ≡ false
 
-retried_rests : (driver : DriverState) → Rests (retried driver)
+pub retried_rests : (driver : DriverState) → Rests (retried driver)
 retried_rests driver = either Rests (driver.nth == driver.policy.tries) (next_job driver) (next_try driver) refl refl
 
-tidying_rests : (driver : DriverState) (keys : List Key) (nth : ℕ) (retry : Bool)
+pub tidying_rests : (driver : DriverState) (keys : List Key) (nth : ℕ) (retry : Bool)
     → Rests (tidying driver keys nth retry)
 tidying_rests driver keys nth retry =
     either Rests (nth == length keys) (if retry then next_try driver else next_job driver)
     (record driver { place = ToTidy keys nth false retry })
     (either Rests retry (next_try driver) (next_job driver) refl refl) refl
 
-full_rests : (driver : DriverState) (lock : Lock) → Rests (on_full driver lock)
+pub full_rests : (driver : DriverState) (lock : Lock) → Rests (on_full driver lock)
 full_rests driver lock =
     let keys = key_at lock.table lock.key ∷ [] in
     either Rests ((driver.nth == driver.policy.tries) || not driver.policy.tidy) (retried driver)
     (tidying driver keys 0 true) (retried_rests driver) (tidying_rests driver keys 0 true)
 
-commit_rests : (jobs : List Job) (driver : DriverState) → Rests (on_commit jobs driver)
+pub commit_rests : (jobs : List Job) (driver : DriverState) → Rests (on_commit jobs driver)
 commit_rests jobs driver =
     let keys = keys_of_job (slice_get jobs driver.job) in
     either Rests driver.policy.tidy (tidying driver keys 0 false) (next_job driver) (tidying_rests driver keys 0 false)

@@ -59,3 +59,4 @@ pub mod AnswersScan
 pub mod AnswersClient
 pub mod GoesSession
 pub mod KeptSession
+pub mod AskedDriver

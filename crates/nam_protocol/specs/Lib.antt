@@ -41,3 +41,4 @@ pub mod Carries
 pub mod Told
 pub mod AnswersLaw
 pub mod SessionKeeps
+pub mod AskedLaw

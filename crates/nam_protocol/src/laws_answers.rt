@@ -2,6 +2,7 @@
 
 ghost use Rattle.nam_protocol.specs.AnswersLaw.{CarriesLaw, AnswersLaw, SessionCarriesLaw};
 ghost use Rattle.nam_protocol.specs.SessionKeeps.{SessionKeepsLaw};
+ghost use Rattle.nam_protocol.specs.AskedLaw.{DriverAsksLaw, SessionAsksLaw};
 
 /// Each answer of a client follows from its call's read, lock or snapshot, as the log lists it.
 ///
@@ -24,4 +25,14 @@ pub fn answers_tell()
 /// occurs passes it.
 pub fn session_keeps()
     ensures { SessionKeepsLaw }
+{}
+
+/// Which calls are asked in an attempt: the begin of that try of the transaction, then its operations one after
+/// another, then the commit. Whatever the answers are, what a driver asks until its attempt is over is a front of these.
+///
+/// In each session that occurs the call that runs is the one that the driver asks. A transaction is open exactly for its
+/// operations and its commit, it is the driver's try of the job, and it counts the operations that were asked.
+pub fn attempts_asked()
+    ensures driver { DriverAsksLaw }
+    ensures session { SessionAsksLaw }
 {}

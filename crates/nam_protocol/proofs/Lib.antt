@@ -60,3 +60,4 @@ pub mod AnswersClient
 pub mod GoesSession
 pub mod KeptSession
 pub mod AskedDriver
+pub mod AskedSession

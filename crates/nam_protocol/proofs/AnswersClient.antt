@@ -1,6 +1,6 @@
 -- Each word that a client takes, and each call that it is asked, keeps what the client carries, and its answer tells.
 use Rattle.std.specs.Prelude.{IsSome, slice_index}
-use Rattle.std.proofs.Common.{◌≡◌, ◌≢◌, ℕ, ◌+◌, ◌≤◌, true, false, List, [], ◌∷◌, ◌++◌, length, Option, Some, None}
+use Rattle.std.proofs.Common.{◌≡◌, ◌≢◌, ℕ, ◌+◌, ◌<◌, ◌≤◌, true, false, List, [], ◌∷◌, ◌++◌, length, Option, Some, None}
 use Rattle.std.proofs.Common.{refl, sym, subst, ap, ◌∙◌, append-nil, arith}
 use Rattle.si_model.specs.declared.log.Lock.{Lock}
 use Rattle.si_model.specs.declared.log.Event.{Event}
@@ -25,6 +25,7 @@ use Rattle.nam_calls.specs.declared.mover.MovePoint.{MovePoint}
 use Rattle.nam_calls.specs.declared.mover.MovePoint.TheVariants.{MoveAgain, MoveBack, MoveClaim, MoveCount, MoveEnding}
 use Rattle.nam_calls.specs.declared.mover.MovePoint.TheVariants.{MoveFill, MoveFlag, MoveFull, MoveHead, MoveWords}
 use Rattle.nam_calls.specs.Index.{find_begin}
+use Rattle.nam_calls.specs.Words.{capacity_of}
 use Rattle.nam_calls.specs.Mover.{move_after, move_begin, move_claimed}
 use Rattle.nam_calls.specs.declared.mover.MoveAnswer.TheVariants as move_end
 use Rattle.nam_protocol.specs.declared.client.Answer.{Answer}
@@ -35,6 +36,7 @@ use Rattle.nam_protocol.specs.declared.client.CallPoint.TheVariants.{Seeking, Sn
 use Rattle.nam_protocol.specs.declared.client.ClientState.{ClientState}
 use Rattle.nam_protocol.specs.declared.client.Open.{Open}
 use Rattle.nam_protocol.specs.declared.scan.ScanPoint.{ScanPoint}
+use Rattle.nam_protocol.specs.declared.scan.ScanPoint.TheVariants.{ScanKey, ScanRead}
 use Rattle.nam_protocol.specs.declared.txn.TxnCall.{TxnCall}
 use Rattle.nam_protocol.specs.declared.txn.TxnCall.TheVariants.{Add, Commit, Del, Get, Guard, Need, Put}
 use Rattle.nam_protocol.specs.declared.txn.TxnPoint.{TxnPoint}
@@ -53,7 +55,7 @@ use Rattle.nam_protocol.specs.Own.{MayAsk, Rests}
 use Rattle.nam_protocol.specs.Scan.{position_of}
 use Rattle.nam_protocol.specs.Session.{answer_now}
 use Rattle.nam_protocol.specs.Telling.{go, new_client}
-use Rattle.nam_protocol.specs.TxnFits.{TxnCallFits}
+use Rattle.nam_protocol.specs.TxnFits.{ScanFits, TxnCallFits}
 use Rattle.nam_protocol.proofs.AnswersCommit.{commit_asked, commit_good}
 use Rattle.nam_protocol.proofs.AnswersOps.{Good, TakesNone, TellsNow, asked_good, claiming_good, finding_good}
 use Rattle.nam_protocol.proofs.AnswersOps.{reading_good}
@@ -293,17 +295,22 @@ module _ (shape : Shape) (word : ℕ) where
         tells = λ after end told. told;
       }
 
+  scan_within : (table : ℕ) (at : ScanPoint) → ScanFits shape table at → position_of at < capacity_of shape table
+  scan_within table (ScanKey position) fits = fits
+  scan_within table (ScanRead position key at) fits = fits.0
+
   scan_word_good : (client : ClientState) (table low high : ℕ) (at : ScanPoint) (opened : Option Open)
       → let c = record client { call = Some (At (Scanning table low high at)); txn = opened } in
-      Carries c → IsSome opened
+      Carries c → IsSome opened → ScanFits shape table at
       → Good (λ after end. ScanTells shape word c after opened table low high end)
       (take_scan shape c table low high at opened word)
-  scan_word_good client table low high at None carries some = absurd (cc)
-  scan_word_good client table low high at (Some attempt) carries some =
+  scan_word_good client table low high at None carries some fits = absurd (cc)
+  scan_word_good client table low high at (Some attempt) carries some fits =
       let c = record client { call = Some (At (Scanning table low high at)); txn = Some attempt } in
       let o = carries.opened in
       scan_good shape attempt table low high word c c refl
-      record { last_is = o.last_is; locks = o.took.number; held = o.took.held } carries.scanned.0 (position_of at) _
+      record { last_is = o.last_is; locks = o.took.number; held = o.took.held } carries.scanned.0 (position_of at)
+      carries.scanned.2 (scan_within table at fits) _
       (after_says shape table low high attempt.state.seen word at carries.scanned.1)
 
   -- 5. Any word
@@ -314,7 +321,7 @@ module _ (shape : Shape) (word : ℕ) where
   word_good client (Beginning txn nth at) carries fits = begin_good client txn nth at carries
   word_good client (InTxn at) carries fits = txn_good client at client.txn carries fits
   word_good client (Scanning table low high at) carries fits =
-      scan_word_good client table low high at client.txn carries fits.0
+      scan_word_good client table low high at client.txn carries fits.0 fits.2
   word_good client (Seeking table key passed) carries fits = seek_good client table key passed carries
   word_good client (Moving table key position at) carries fits = move_good client table key position at carries
   word_good client (Snapping bucket at) carries fits = snap_good client bucket at carries
@@ -397,7 +404,7 @@ module _ (shape : Shape) where
           };
           point = tt;
         };
-        scanned = (tt, tt);
+        scanned = (tt, tt, omega arith);
         collected = tt;
       }, tt)
 

@@ -24,7 +24,7 @@ use Rattle.nam_vector.specs.Snap.{snap_after}
 use Rattle.nam_vector.specs.declared.snap.SnapEnd.TheVariants as snap_end
 use Rattle.nam_calls.specs.declared.lock.LockPoint.TheVariants.{GiveBack}
 use Rattle.nam_calls.specs.declared.mover.MovePoint.{MovePoint}
-use Rattle.nam_calls.specs.Words.{path_of}
+use Rattle.nam_calls.specs.Words.{capacity_of, path_of}
 use Rattle.nam_calls.specs.Index.{find_after}
 use Rattle.nam_calls.specs.Mover.{move_claimed}
 use Rattle.nam_calls.specs.Reading.{sight_of, read_after}
@@ -126,7 +126,7 @@ module _ (shape : Shape) (word : ℕ) (before after : ClientState) where
 
   abbrev pub ScanTells : Option Open → ℕ → ℕ → ℕ → Answer → Type 0
   ScanTells (Some attempt) table low high (answer.Scanned number) =
-      HasScanned before after attempt table low high number
+      HasScanned before after attempt table low high number × (number ≤ capacity_of shape table)
   ScanTells (Some attempt) table low high (answer.Txn (TooOld worker entry horizon)) =
       IsTooOld before after word attempt worker entry horizon
   ScanTells (Some attempt) table low high (answer.Txn Astray) = Ends before after attempt outcome.Left

@@ -23,6 +23,7 @@ use Rattle.nam_protocol.specs.declared.client.Scanned.{Scanned}
 use Rattle.nam_protocol.specs.declared.client.ClientState.{ClientState}
 use Rattle.nam_protocol.specs.Operations.{holding, value_in}
 use Rattle.nam_protocol.specs.Commit.{lock_at, record_place}
+use Rattle.nam_protocol.specs.Scan.{position_of}
 use Rattle.nam_protocol.specs.TxnCalls.{taken_at}
 use Rattle.nam_protocol.specs.Log.{prefix_of}
 use Rattle.nam_protocol.specs.Telling.{items_of, locks_from}
@@ -89,7 +90,7 @@ abbrev pub OpenCarries : ℕ → List Lock → Option (Now CallPoint Answer) →
 OpenCarries last locks call None = Unit {0}
 OpenCarries last locks call (Some attempt) = AttemptCarries last locks call attempt
 
--- 3. A scan and a collection
+-- 3. A scan, which has gathered no more rows than it has left positions, and a collection
 
 abbrev pub IsBetween : ℕ → ℕ → ℕ → Type 0
 IsBetween low high key = (low ≤ key) × (key ≤ high)
@@ -103,7 +104,8 @@ abbrev pub AreBetween : ℕ → ℕ → List Scanned → Type 0
 AreBetween low high rows = AllByRecursion (λ row. IsBetween low high row.key) rows
 
 abbrev pub ScanCarries : List Scanned → Option (Now CallPoint Answer) → Type 0
-ScanCarries rows (Some (At (Scanning table low high at))) = AreBetween low high rows × KeyBetween low high at
+ScanCarries rows (Some (At (Scanning table low high at))) =
+    AreBetween low high rows × KeyBetween low high at × (length rows ≤ position_of at)
 ScanCarries rows _ = Unit {0}
 
 -- the collection's snapshot is the last that was listed

@@ -61,3 +61,4 @@ pub mod GoesSession
 pub mod KeptSession
 pub mod AskedDriver
 pub mod AskedSession
+pub mod ListsClient

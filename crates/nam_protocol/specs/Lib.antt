@@ -42,3 +42,4 @@ pub mod Told
 pub mod AnswersLaw
 pub mod SessionKeeps
 pub mod AskedLaw
+pub mod ListsLaw

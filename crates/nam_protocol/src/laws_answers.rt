@@ -3,6 +3,7 @@
 ghost use Rattle.nam_protocol.specs.AnswersLaw.{CarriesLaw, AnswersLaw, SessionCarriesLaw};
 ghost use Rattle.nam_protocol.specs.SessionKeeps.{SessionKeepsLaw};
 ghost use Rattle.nam_protocol.specs.AskedLaw.{DriverAsksLaw, SessionAsksLaw};
+ghost use Rattle.nam_protocol.specs.ListsLaw.{ListsLaw};
 
 /// Each answer of a client follows from its call's read, lock or snapshot, as the log lists it.
 ///
@@ -35,4 +36,13 @@ pub fn session_keeps()
 pub fn attempts_asked()
     ensures driver { DriverAsksLaw }
     ensures session { SessionAsksLaw }
+{}
+
+/// Each list of a session's log is within the room for its jobs, at each moment and however the session is closed.
+///
+/// There is no more than a read for each operation, where a scan counts as many as its table has positions, a snapshot
+/// for each attempt and each tidying, and for each attempt as many locks and as many writes as a job writes and guards
+/// keys.
+pub fn lists_within()
+    ensures { ListsLaw }
 {}

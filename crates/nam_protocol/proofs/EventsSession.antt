@@ -47,6 +47,7 @@ use Rattle.nam_protocol.specs.AttemptLaw.{has_passed}
 use Rattle.nam_protocol.specs.SessionFits.{PlaceRuns, DriverFits}
 use Rattle.nam_protocol.specs.SessionFits.{NowRuns, ops_of, JobFits, SessionFits}
 use Rattle.nam_protocol.specs.RoomLaw.{call_room, DriverCounts, room_left}
+use Rattle.nam_protocol.specs.SessionKeeps.{is_asking}
 use Rattle.nam_protocol.specs.ClientEvents.{listed, is_open_after, NowLists, ClientLists, NeedsOpen, closing}
 use Rattle.nam_protocol.specs.EventsLaw.{IsReached, is_new, by_word, by_cut, EventsLaw}
 use Rattle.nam_protocol.proofs.RunsClient.{NowDoes}
@@ -61,34 +62,30 @@ use Rattle.nam_protocol.specs.declared.client.Answer.TheVariants as answer
 
 -- 1. The driver asks for a call of an open transaction
 
-abbrev is_asking : DriverPoint → Bool
-is_asking (ToAsk nth) = true
-is_asking _ = false
-
 -- the event of the attempt that is open
 abbrev one : Bool → ℕ
 one b = if b then 1 else 0
 
-abbrev Rests : DriverState → Type 0
+abbrev pub Rests : DriverState → Type 0
 Rests driver = is_asking driver.place ≡ false
 
-retried_rests : (driver : DriverState) → Rests (retried driver)
+pub retried_rests : (driver : DriverState) → Rests (retried driver)
 retried_rests driver = either Rests (driver.nth == driver.policy.tries) (next_job driver) (next_try driver) refl refl
 
-tidying_rests : (driver : DriverState) (keys : List Key) (nth : ℕ) (retry : Bool)
+pub tidying_rests : (driver : DriverState) (keys : List Key) (nth : ℕ) (retry : Bool)
     → Rests (tidying driver keys nth retry)
 tidying_rests driver keys nth retry =
     either Rests (nth == length keys) (if retry then next_try driver else next_job driver)
     (record driver { place = ToTidy keys nth false retry })
     (either Rests retry (next_try driver) (next_job driver) refl refl) refl
 
-full_rests : (driver : DriverState) (lock : Lock) → Rests (on_full driver lock)
+pub full_rests : (driver : DriverState) (lock : Lock) → Rests (on_full driver lock)
 full_rests driver lock =
     let keys = key_at lock.table lock.key ∷ [] in
     either Rests ((driver.nth == driver.policy.tries) || not driver.policy.tidy) (retried driver)
     (tidying driver keys 0 true) (retried_rests driver) (tidying_rests driver keys 0 true)
 
-commit_rests : (jobs : List Job) (driver : DriverState) → Rests (on_commit jobs driver)
+pub commit_rests : (jobs : List Job) (driver : DriverState) → Rests (on_commit jobs driver)
 commit_rests jobs driver =
     let keys = keys_of_job (slice_get jobs driver.job) in
     either Rests driver.policy.tidy (tidying driver keys 0 false) (next_job driver) (tidying_rests driver keys 0 false)
@@ -145,7 +142,7 @@ module _ (shape : Shape) (jobs : List Job) (driver : DriverState) (ops : List Op
   collect_asks bucket keys nth retry (answer.Collected known) a = refl
   collect_asks bucket keys nth retry _ a = absurd a
 
-  asks_after : (place : DriverPoint) (end : Answer) → IsAnswered shape place ops txn end
+  pub asks_after : (place : DriverPoint) (end : Answer) → IsAnswered shape place ops txn end
       → AsksAs (is_open_after (is_asking place) end) (place_taken jobs driver place end)
   asks_after ToBegin end a = begin_asks end a
   asks_after (ToAsk nth) end a = ask_asks nth end a
@@ -192,7 +189,7 @@ op_needs client (Some (op.Need t k f least)) some = some
 op_needs client (Some (op.Guard t k)) some = some
 op_needs client (Some (op.Scan t low high)) some = some
 
-needs_open : (shape : Shape) (client : ClientState) (ops : List Op) (txn_number try : ℕ) (place : DriverPoint)
+pub needs_open : (shape : Shape) (client : ClientState) (ops : List Op) (txn_number try : ℕ) (place : DriverPoint)
     → AsksFrom shape place ops client.txn
     → NeedsOpen client (place_call record { txn = txn_number; ops = ops } try place)
 needs_open shape client ops t try ToBegin asked = tt

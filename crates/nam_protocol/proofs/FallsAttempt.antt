@@ -85,15 +85,19 @@ filter_same f g same (x ∷ xs) = rw (same x) (ap (λ ys. if g x then x ∷ ys e
 
 -- 2. The bound
 
+-- the guards that aren't written are those of the operations
+pub guards_as_asked : (state : TxnState) (ops : List Op) → HasAsked state ops
+    → unwritten state.writes state.guards ≡ guard_keys ops
+guards_as_asked state ops asked =
+    filter_same (λ key. not (writes_key state.writes key)) (λ key. not (ops_write key ops))
+    (λ key. ap not (writes_as_asked state.writes ops key asked.written)) state.guards
+    ∙ ap (filter (λ key. not (ops_write key ops))) asked.guarded
+
 pub attempt_bound : (shape : Shape) (state : TxnState) (ops : List Op) → HasAsked state ops
     → 2 * shape.workers + ops_bound shape ops + commit_bound shape state ≡ verb_bound shape ops
 attempt_bound shape state ops asked =
     let keys = ap (writes_bound shape) asked.written in
-    let guards : unwritten state.writes state.guards ≡ guard_keys ops =
-    filter_same (λ key. not (writes_key state.writes key)) (λ key. not (ops_write key ops))
-    (λ key. ap not (writes_as_asked state.writes ops key asked.written)) state.guards
-    ∙ ap (filter (λ key. not (ops_write key ops))) asked.guarded in
-    let most = ap (λ (ks : List Key). length ks) guards in
+    let most = ap (λ (ks : List Key). length ks) (guards_as_asked state ops asked) in
     omega arith
 
 -- 3. Operations

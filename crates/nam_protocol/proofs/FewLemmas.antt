@@ -71,10 +71,15 @@ module _ (shape : Shape) (state : TxnState) (fits : StateFits shape state) where
         records = omega arith;
       }
 
+  held_within : {records : ℕ} {held : List ℕ} (at : LockPoint) → LockFits records held at → length held ≤ records
+  held_within Peek l = omega arith
+  held_within (Seize header) l = omega arith
+  held_within (GiveBack given found) l = let m = l.0 in omega arith
+
   -- the headers and the counts are no more than the records
   places_within : (at : CommitPoint) → length state.writes ≤ length state.records → CommitPointFits shape state at
       → (length state.held ≤ length state.records) × (length state.counts ≤ length state.records)
-  places_within (Locking at) w c = let n = c.1 in (c.2, omega arith)
+  places_within (Locking at) w c = let n = c.1 in (held_within at c.0, omega arith)
   places_within (Checking at) w c = let h = c.0 in let n = c.1 in (omega arith, omega arith)
   places_within (Returning given full) w c = let h = c.0 in let n = c.2 in (omega arith, omega arith)
   places_within (Saving nth got) w c = let h = c.0 in let n = c.1 in (omega arith, omega arith)

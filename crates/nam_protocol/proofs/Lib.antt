@@ -11,6 +11,7 @@ mod RareExample
 mod PolicyExample
 mod ClientExample
 mod BoundsExample
+mod AnswersExample
 mod WorldExample
 mod FitsExample
 pub mod KeyLemmas
@@ -59,3 +60,12 @@ pub mod StageLemmas
 pub mod OpenLemmas
 pub mod UnreadLemmas
 pub mod RecordLemmas
+pub mod AnswersOps
+pub mod AnswersCommit
+pub mod AnswersScan
+pub mod AnswersClient
+pub mod GoesSession
+pub mod KeptSession
+pub mod AskedDriver
+pub mod AskedSession
+pub mod ListsClient

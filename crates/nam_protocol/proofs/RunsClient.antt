@@ -77,7 +77,7 @@ use Rattle.nam_protocol.specs.declared.scan.ScanAnswer.TheVariants as scan_answe
 -- 1. Lists
 
 -- one more of the operations
-take_more : {A : Type 0} (xs : List A) (nth : ℕ) (x : A) → slice_get xs nth ≡ Some x
+pub take_more : {A : Type 0} (xs : List A) (nth : ℕ) (x : A) → slice_get xs nth ≡ Some x
     → take (nth + 1) xs ≡ take nth xs ++ x ∷ []
 take_more [] nth x e = absurd (cc)
 take_more (y ∷ ys) zero x e = ap (λ z. z ∷ []) (cc)

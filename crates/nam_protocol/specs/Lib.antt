@@ -40,3 +40,9 @@ pub mod Plain
 pub mod Reader
 pub mod Sorts
 pub mod Own
+pub mod Carries
+pub mod Told
+pub mod AnswersLaw
+pub mod SessionKeeps
+pub mod AskedLaw
+pub mod ListsLaw

@@ -11,6 +11,7 @@
 #![tactic(auto)]
 
 mod client;
+mod laws_answers;
 mod laws_ends;
 mod laws_few;
 mod laws_growth;
@@ -24,6 +25,7 @@ mod session;
 mod txn;
 
 pub use client::{Answer, Call, CallPoint, ClientState, Open, Scanned};
+pub use laws_answers::{answers_tell, attempts_asked, lists_within, session_keeps};
 pub use laws_ends::{runs_end, sessions_settle, turns_fall};
 pub use laws_few::{commit_gives, lists_few};
 pub use laws_growth::{commit_program_law, logs_grow_law, session_logs_grow_law};

@@ -4,6 +4,7 @@ ghost use Rattle.std.specs.Prelude.{◌≡◌, ◌==◌, ◌<◌, [], ◌∷◌,
 ghost use Rattle.std.specs.List.{position};
 ghost use Rattle.nam_text.specs.Fields.{fields_of, lines_of};
 
+use memchr::memchr;
 use std::marker::Model;
 
 /// Where a byte stands first.
@@ -13,6 +14,14 @@ pub fn find_byte(text: &[u8], byte: u8) -> Option<usize>
     text.iter().position(|b| *b == byte)
 }
 
+/// Where a newline stands first. Most lines are short, yet it reads many bytes at once.
+#[tactic(auto, using(crate::proofs::Splits::position_of_first))]
+fn find_newline(text: &[u8]) -> Option<usize>
+    ensures { result ≡ position (λ b. b == 10) text.now }
+{
+    memchr(b'\n', text)
+}
+
 /// The first line, without its newline, and what follows it. None where no newline stands in the text.
 #[tactic(auto, using(crate::proofs::Splits::split_at_position, crate::proofs::Splits::split_no_position))]
 pub fn first_line(text: &[u8]) -> Option<(&[u8], &[u8])>
@@ -20,7 +29,7 @@ pub fn first_line(text: &[u8]) -> Option<(&[u8], &[u8])>
         (λ x. lines_of text.now ≡ x.0.now ∷ lines_of x.1.now) }
     ensures shorter { IfSome result (λ x. length x.1.now < length text.now) }
 {
-    let at = find_byte(text, b'\n')?;
+    let at = find_newline(text)?;
     Some((&text[..at], &text[at + 1..]))
 }
 

@@ -1,6 +1,6 @@
 //! What a field spells.
 
-ghost use Rattle.std.specs.Prelude.{◌≡◌, true, false, MatchOption};
+ghost use Rattle.std.specs.Prelude.{◌≡◌, ◌<◌, true, false, length, MatchOption};
 ghost use Rattle.std.specs.List.{list_all};
 ghost use Rattle.std.specs.Char.{is_ascii_digit, digit_value};
 ghost use Rattle.nam_text.specs.Token.{is_led, with_digit, number_of, is_name, is_name_byte};
@@ -38,18 +38,43 @@ fn with_digit(number: Number, digit: u8) -> Number
     number?.checked_mul(10)?.checked_add(u64::from(digit))
 }
 
-/// The number that a field spells in decimal digits, without a leading zero. None where it spells no number.
-pub fn number(field: &[u8]) -> Option<Number>
+/// The number that fewer than 20 digits spell, which is below 2^64.
+fn short_number(field: &[u8]) -> Option<Number>
+    requires led { is_led field.now ≡ true }
+    requires short { length field.now < 20 }
     ensures { result ≡ number_of field.now }
 {
-    if !is_led(field) {
-        return None;
+    let mut value = 0;
+    for byte in field {
+        value = value * 10 + u64::from(digit_of(*byte)?);
     }
+    Some(Some(value))
+}
+
+/// The number that any digits spell.
+fn long_number(field: &[u8]) -> Option<Number>
+    requires { is_led field.now ≡ true }
+    ensures { result ≡ number_of field.now }
+{
     let mut value = Some(0);
     for byte in field {
         value = with_digit(value, digit_of(*byte)?);
     }
     Some(value)
+}
+
+/// The number that a field spells in decimal digits, without a leading zero. None where it spells no number.
+#[tactic(auto, using(crate::proofs::Digits::not_led))]
+pub fn number(field: &[u8]) -> Option<Number>
+    ensures { result ≡ number_of field.now }
+{
+    if !is_led(field) {
+        None
+    } else if field.len() < 20 {
+        short_number(field)
+    } else {
+        long_number(field)
+    }
 }
 
 fn all_name_bytes(field: &[u8]) -> bool

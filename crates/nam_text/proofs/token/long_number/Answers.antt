@@ -1,9 +1,6 @@
 use Rattle.std.proofs.Common.{◌∙◌, sym}
-use Rattle.nam_text.proofs.Digits.{at_start, one_more, not_led, no_digit, all_digits}
-use Rattle.nam_text.proofs.token.number.Goals as goal
-
-pub returns-then-not-is_led : goal.returns-then-not-is_led
-returns-then-not-is_led c = sym (not_led c.args.field.now (sym c.if-not-is_led.ensures))
+use Rattle.nam_text.proofs.Digits.{at_start, one_more, no_digit, all_digits}
+use Rattle.nam_text.proofs.token.long_number.Goals as goal
 
 pub loop-byte-init : goal.loop-byte-init
 loop-byte-init c = at_start c.args.field.now
@@ -23,4 +20,4 @@ returns-in_err-digit_of c =
 pub returns : goal.returns
 returns c =
     sym (all_digits c.args.field.now c.loop-byte.byte-index c.loop-byte.value c.loop-byte.invariant
-    c.loop-byte-test.false (sym c.if-not-is_led.ensures))
+    c.loop-byte-test.false c.requires)

@@ -19,7 +19,7 @@ pub record IsShortSoFar (field : List ℕ) (i value : ℕ) : Type 0 where
 pub short_start : (field : List ℕ) → IsShortSoFar field 0 0
 short_start field = record { digits = refl; number = refl; small = lit< tt }
 
-one_power : (i : ℕ) → 10 ^ (i + 1) ≡ 10 ^ i * 10
+pub one_power : (i : ℕ) → 10 ^ (i + 1) ≡ 10 ^ i * 10
 one_power i = ap (λ (n : ℕ). 10 ^ n) (add-one i) ∙ pow-suc 10 i
 
 -- one digit more keeps it below 2^64

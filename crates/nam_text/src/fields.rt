@@ -1,9 +1,14 @@
 //! The lines of a text, and the fields of a line.
 
-ghost use Rattle.std.specs.Prelude.{◌≡◌, ◌==◌, ◌<◌, [], ◌∷◌, length, MatchOption, IfSome};
+ghost use Rattle.std.specs.Prelude.{◌≡◌, ◌==◌, ◌<◌, ◌≤◌, [], ◌∷◌, length, take, Some, None, MatchOption, IfSome};
 ghost use Rattle.std.specs.List.{position};
-ghost use Rattle.nam_text.specs.Fields.{fields_of, lines_of};
+ghost use Rattle.std.specs.Option.{option_copied};
+ghost use Rattle.nam_text.specs.Token.{number_of};
+ghost use Rattle.nam_text.specs.Fields.{fields_of, fields_left, lines_of, IsLeading};
+ghost use Rattle.nam_text.specs.Read.{field_at};
+ghost use Rattle.nam_text.specs.Spelling.{IsPlain};
 
+use crate::token::{digit_of, is_led};
 use memchr::memchr;
 use std::marker::Model;
 
@@ -31,6 +36,38 @@ pub fn first_line(text: &[u8]) -> Option<(&[u8], &[u8])>
 {
     let at = find_newline(text)?;
     Some((&text[..at], &text[at + 1..]))
+}
+
+/// The number that the first digits spell, and how many these are, 19 at the most.
+fn leading_digits(line: &[u8]) -> (u64, usize)
+    ensures { IsLeading line.now result.0 result.1 }
+{
+    let mut number = 0;
+    let mut end = 0;
+    while end < 19 && end < line.len() {
+        let Some(digit) = digit_of(line[end]) else {
+            break;
+        };
+        number = number * 10 + u64::from(digit);
+        end += 1;
+    }
+    (number, end)
+}
+
+/// What follows a field that ends at a place: nothing where the line ends there too. None where the field goes on.
+#[tactic(auto, using(crate::proofs::Leading::field_ends, crate::proofs::Leading::field_stops))]
+fn rest_at(line: &[u8], end: usize) -> Option<Option<&[u8]>>
+    requires within { end ≤ length line.now }
+    requires plain { IsPlain (take end line.now) }
+    ensures { IfSome result (λ rest. fields_of line.now ≡ take end line.now ∷ fields_left (option_copied rest)) }
+{
+    if end == line.len() {
+        Some(None)
+    } else if line[end] == b' ' {
+        Some(Some(&line[end + 1..]))
+    } else {
+        None
+    }
 }
 
 /// The fields of a line that are still to be read. One space stands between two fields. Contracts see the list of them.
@@ -73,5 +110,22 @@ impl<'a> Fields<'a> {
                 Some(line)
             }
         }
+    }
+
+    /// The number in the next field, where that is one of fewer than 20 digits, read in one pass. Else None, and no
+    /// field is taken.
+    #[tactic(auto, unfolding(crate::specs::Read::field_at), using(
+        crate::proofs::Leading::leading_number, crate::proofs::Leading::leading_plain))]
+    pub(crate) fn next_short_number(&mut self) -> Option<u64>
+        ensures some { IfSome result (λ number. field_at number_of self.old ≡ Some (Some number, self.new)) }
+        ensures none { result ≡ None → self.new ≡ self.old }
+    {
+        let line = self.rest?;
+        let (number, end) = leading_digits(line);
+        if !is_led(&line[..end]) {
+            return None;
+        }
+        self.rest = rest_at(line, end)?;
+        Some(number)
     }
 }

@@ -37,7 +37,10 @@ pub fn word_at(fields: &mut Fields, word: &[u8]) -> Option<()>
 pub fn number_at(fields: &mut Fields) -> Option<Number>
     ensures { Reads result fields.new (field_at number.read fields.old) }
 {
-    number(fields.next()?)
+    match fields.next_short_number() {
+        Some(value) => Some(Some(value)),
+        None => number(fields.next()?),
+    }
 }
 
 /// Reads the name of a table.

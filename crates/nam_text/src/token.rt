@@ -9,7 +9,7 @@ ghost use Rattle.nam_text.specs.Token.{is_led, with_digit, number_of, is_name, i
 pub type Number = Option<u64>;
 
 /// Is it not empty, and without a leading zero, 0 alone excepted?
-fn is_led(field: &[u8]) -> bool
+pub(crate) fn is_led(field: &[u8]) -> bool
     ensures { result ≡ is_led field.now }
 {
     if field.is_empty() {
@@ -20,7 +20,7 @@ fn is_led(field: &[u8]) -> bool
 
 /// The value of a digit.
 #[tactic(auto, using(crate::proofs::Digits::digit_is))]
-fn digit_of(byte: u8) -> Option<u8>
+pub(crate) fn digit_of(byte: u8) -> Option<u8>
     ensures { MatchOption result (is_ascii_digit byte ≡ false) (λ digit.
         (is_ascii_digit byte ≡ true) × (digit ≡ digit_value byte)) }
 {

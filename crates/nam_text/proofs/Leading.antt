@@ -4,20 +4,28 @@ use Rattle.std.proofs.Common.{take, drop, get_or, Option, Some, None, refl, sym,
 use Rattle.std.specs.List.{list_all, slice_split}
 use Rattle.std.specs.Char.{is_ascii_digit, digit_value}
 use Rattle.std.specs.Str.Parse.{digits_value, digits_value_after}
-use Rattle.std.proofs.Math.Nat.{pow-le-pow_right}
+use Rattle.std.proofs.Math.Nat.{pow-le-pow_right, pow-suc}
 use Rattle.std.proofs.lemmas.Bool.{lt-ltb, and_from}
 use Rattle.std.proofs.lemmas.List.{take_all, take_more, take-append-drop, length-drop}
 use Rattle.std.proofs.lemmas.List.Folds.{list_all-append}
 use Rattle.std.proofs.lemmas.List.Splits.{slice_split_at, slice_split_none}
 use Rattle.std.proofs.lemmas.List.Elements.{All-from_recursion}
-use Rattle.nam_text.specs.Token.{is_led, number_value, number_of}
+use Rattle.nam_text.specs.Token.{is_led, number_value, number_of, is_name_byte}
 use Rattle.nam_text.specs.Fields.{fields_of, IsLeading}
 use Rattle.nam_text.specs.Spelling.{IsPlain}
 use Rattle.nam_text.proofs.Digits.{digit_small}
-use Rattle.nam_text.proofs.Short.{one_power, short_room}
-use Rattle.nam_text.proofs.Again.{all_weaker, digit_high, plain_avoids}
+use Rattle.nam_text.proofs.Again.{all_weaker, digit_high, name_high, plain_avoids}
 
 -- ---- the digits, read one after the other
+
+one_power : (i : ℕ) → 10 ^ (i + 1) ≡ 10 ^ i * 10
+one_power i = ap (λ (n : ℕ). 10 ^ n) (add-one i) ∙ pow-suc 10 i
+
+-- one digit more keeps it below 2^64
+room_for_digit : (i value d : ℕ) → value < 10 ^ i → d ≤ 9 → i < 19 → value * 10 + d < 2 ^ 64
+room_for_digit i value d small digit lt =
+    let most : 10 ^ i ≤ 10 ^ 18 = pow-le-pow_right (lit< tt) {i = i} {j = 18} (omega arith) in
+    omega (arith, most)
 
 -- the first bytes are digits, and spell this number
 pub record IsRun (line : List ℕ) (count number : ℕ) : Type 0 where
@@ -64,7 +72,7 @@ run_leads line count value run =
 
 pub run_room : (line : List ℕ) (count value d : ℕ) → IsRun line count value → count < 19 → d ≤ 9
     → value * 10 + d < 2 ^ 64
-run_room line count value d run few digit = short_room count value d run.small digit few
+run_room line count value d run few digit = room_for_digit count value d run.small digit few
 
 -- ---- the field that they are
 
@@ -73,8 +81,19 @@ pub leading_number : (line : List ℕ) (value count : ℕ) → IsLeading line va
 unfolding number_of
 leading_number line value count leads led = rw (leads.digits, led, leads.value, lt-ltb _ _ leads.small) refl
 
+pub whole_number : (text : List ℕ) (value count : ℕ) → IsLeading text value count → count ≡ length text
+    → is_led text ≡ true → number_of text ≡ Some (Some value)
+whole_number text value count leads e led =
+    let whole : take count text ≡ text = take_all count text (omega (arith, e)) in
+    let led : is_led (take count text) ≡ true = ap is_led whole ∙ led in
+    sym (ap number_of whole) ∙ leading_number text value count leads led
+
 pub leading_plain : (line : List ℕ) (value count : ℕ) → IsLeading line value count → IsPlain (take count line)
 leading_plain line value count leads = all_weaker is_ascii_digit (leb 42) (take count line) digit_high leads.digits
+
+pub leading_name_plain : (line : List ℕ) (count : ℕ) → list_all is_name_byte (take count line) ≡ true
+    → IsPlain (take count line)
+leading_name_plain line count all = all_weaker is_name_byte (leb 42) (take count line) name_high all
 
 pub field_ends : (line : List ℕ) (count : ℕ) → count ≡ length line → IsPlain (take count line)
     → fields_of line ≡ take count line ∷ []

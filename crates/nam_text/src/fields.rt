@@ -1,14 +1,14 @@
 //! The lines of a text, and the fields of a line.
 
-ghost use Rattle.std.specs.Prelude.{◌≡◌, ◌==◌, ◌<◌, ◌≤◌, [], ◌∷◌, length, take, Some, None, MatchOption, IfSome};
+ghost use Rattle.std.specs.Prelude.{◌≡◌, ◌==◌, ◌<◌, ◌≤◌, [], ◌∷◌, length, take, true, Some, None, MatchOption, IfSome};
 ghost use Rattle.std.specs.List.{position};
 ghost use Rattle.std.specs.Option.{option_copied};
-ghost use Rattle.nam_text.specs.Token.{number_of};
-ghost use Rattle.nam_text.specs.Fields.{fields_of, fields_left, lines_of, IsLeading};
+ghost use Rattle.nam_text.specs.Token.{number_of, is_name};
+ghost use Rattle.nam_text.specs.Fields.{fields_of, fields_left, lines_of};
 ghost use Rattle.nam_text.specs.Read.{field_at};
 ghost use Rattle.nam_text.specs.Spelling.{IsPlain};
 
-use crate::token::{digit_of, is_led};
+use crate::token::{is_led, leading_digits, leading_name};
 use memchr::memchr;
 use std::marker::Model;
 
@@ -36,22 +36,6 @@ pub fn first_line(text: &[u8]) -> Option<(&[u8], &[u8])>
 {
     let at = find_newline(text)?;
     Some((&text[..at], &text[at + 1..]))
-}
-
-/// The number that the first digits spell, and how many these are, 19 at the most.
-fn leading_digits(line: &[u8]) -> (u64, usize)
-    ensures { IsLeading line.now result.0 result.1 }
-{
-    let mut number = 0;
-    let mut end = 0;
-    while end < 19 && end < line.len() {
-        let Some(digit) = digit_of(line[end]) else {
-            break;
-        };
-        number = number * 10 + u64::from(digit);
-        end += 1;
-    }
-    (number, end)
 }
 
 /// What follows a field that ends at a place: nothing where the line ends there too. None where the field goes on.
@@ -127,5 +111,21 @@ impl<'a> Fields<'a> {
         }
         self.rest = rest_at(line, end)?;
         Some(number)
+    }
+
+    /// The next field, where that is a name, read in one pass. Else None, and no field is taken.
+    #[tactic(auto, unfolding(crate::specs::Read::field_at), using(crate::proofs::Leading::leading_name_plain))]
+    pub(crate) fn next_name(&mut self) -> Option<&'a [u8]>
+        ensures some { IfSome result (λ field. self.old ≡ field.now ∷ self.new) }
+        ensures name { IfSome result (λ field. is_name field.now ≡ true) }
+        ensures none { result ≡ None → self.new ≡ self.old }
+    {
+        let line = self.rest?;
+        let end = leading_name(line);
+        if end == 0 || end > 16 || !line[0].is_ascii_lowercase() {
+            return None;
+        }
+        self.rest = rest_at(line, end)?;
+        Some(&line[..end])
     }
 }

@@ -50,6 +50,9 @@ pub fn name_at<'a>(fields: &mut Fields<'a>) -> Option<&'a [u8]>
     ensures read { Reads (option_copied result) fields.new (field_at name.read fields.old) }
     ensures name { IfSome result (λ text. is_name text.now ≡ true) }
 {
+    if let Some(field) = fields.next_name() {
+        return Some(field);
+    }
     let field = fields.next()?;
     if is_name(field) { Some(field) } else { None }
 }

@@ -186,6 +186,7 @@ impl Draft {
     }
 
     /// Finds a table by its name.
+    #[inline]
     pub fn find(&self, name: &[u8]) -> Result<Found, Kind>
         ensures place { result ≡ place_of self.now.shape.tables name.now }
         ensures few { IfOk result (λ found. found.table < 8) }

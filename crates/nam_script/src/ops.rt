@@ -1,6 +1,6 @@
 //! The lines of transactions and of turns.
 
-ghost use Rattle.std.specs.Prelude.{◌≡◌, ◌≤◌, ◌++◌, length, OnOk};
+ghost use Rattle.std.specs.Prelude.{◌≡◌, ◌≤◌, [], ◌++◌, length, IfOk, OnOk};
 ghost use Rattle.nam_script.specs.Admit.{Takes, admit_txn, push_op, admit_get, admit_put, admit_add, admit_del};
 ghost use Rattle.nam_script.specs.Admit.{admit_need, admit_guard, admit_scan, admit_end, admit_turns, admit_seed};
 
@@ -18,6 +18,17 @@ use nam_text::Number;
 use si_model::Op;
 use std::alloc::{AllocError, Global};
 use std::mem;
+
+/// The operations in a list of exactly their number. The list that they came from keeps its room for those to come.
+fn take_ops(alloc: Global, ops: &mut List<Op>) -> Result<List<Op>, AllocError>
+    ensures { IfOk result (λ taken. (taken ≡ ops.old) × (ops.new ≡ [])) }
+{
+    let mut room = mem::replace(ops, List::new(alloc)).into_vec();
+    let mut taken = Vec::with_capacity(alloc, room.len())?;
+    taken.append(&mut room)?;
+    *ops = List::from_vec(room);
+    Ok(List::from_vec(taken))
+}
 
 fn push_stints(stints: &mut List<Stint>, more: &[Stint]) -> Result<(), AllocError>
     ensures { OnOk result (stints.new ≡ stints.old ++ more.now) }
@@ -201,7 +212,7 @@ impl Draft {
         if self.body.ops.len() == 0 {
             return Err(LineEnd::Bad(Kind::Word));
         }
-        let ops = mem::replace(&mut self.body.ops, List::new(alloc));
+        let ops = take_ops(alloc, &mut self.body.ops)?;
         self.body.keys.clear();
         self.body.txns.push(ScriptTxn {
             worker: self.body.worker,

@@ -68,6 +68,7 @@ pub fn change_at(fields: &mut Fields) -> Option<Change>
 }
 
 /// One to eight numbers, and nothing after them.
+#[inline]
 pub fn values_at(fields: &mut Fields) -> Option<Numbers>
     ensures { result ≡ some_read 8 number_of fields.old }
 {

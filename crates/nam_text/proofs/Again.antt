@@ -44,10 +44,10 @@ pub all_weaker : (p q : ℕ → Bool) (f : List ℕ) → ((b : ℕ) → p b ≡ 
 all_weaker p q [] w h = refl
 all_weaker p q (b ∷ f) w h = let r = and_parts _ _ h in and_from _ _ (w b r.0) (all_weaker p q f w r.1)
 
-digit_high : (b : ℕ) → is_ascii_digit b ≡ true → leb 42 b ≡ true
+pub digit_high : (b : ℕ) → is_ascii_digit b ≡ true → leb 42 b ≡ true
 digit_high b h = grind (arith, nat_tests)
 
-name_high : (b : ℕ) → is_name_byte b ≡ true → leb 42 b ≡ true
+pub name_high : (b : ℕ) → is_name_byte b ≡ true → leb 42 b ≡ true
 name_high b h = grind (arith, nat_tests)
 
 pub decimal_plain : (n : ℕ) → n < 2 ^ 64 → IsPlain (decimal n)

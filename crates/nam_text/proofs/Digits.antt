@@ -20,6 +20,9 @@ at_most b h = grind (arith, nat_tests)
 pub digit_is : (b : ℕ) → is_ascii_digit b ≡ true → digit_value b + 48 ≡ b
 digit_is b h = digit_value_digit b (at_least b h, at_most b h)
 
+pub digit_small : (b : ℕ) → is_ascii_digit b ≡ true → digit_value b ≤ 9
+digit_small b h = omega (arith, digit_is b h, at_most b h)
+
 -- ---- the digits from a place on, behind a number
 
 abbrev pub number_from : Option ℕ → List ℕ → Option ℕ
@@ -57,7 +60,7 @@ pub record IsSoFar (field : List ℕ) (i : ℕ) (value : Option ℕ) : Type 0 wh
   pub number : number_from value (drop i field) ≡ number_value field
   pub small : number_from value [] ≡ value
 
-at_place : (field : List ℕ) (i : ℕ) → i < length field → drop i field ≡ get_or field i 0 ∷ drop (i + 1) field
+pub at_place : (field : List ℕ) (i : ℕ) → i < length field → drop i field ≡ get_or field i 0 ∷ drop (i + 1) field
 at_place field i lt =
     drop-cons field i 0 lt ∙ ap (λ (n : ℕ). get_or field i 0 ∷ drop n field) (sym (add-one i))
 
@@ -77,7 +80,7 @@ one_more field i d value so_far lt is e =
 
 -- ---- what a field spells
 
-no_number : (b : Bool) (v : Option ℕ) → b ≡ false → cond b (Some v) None ≡ None
+pub no_number : (b : Bool) (v : Option ℕ) → b ≡ false → cond b (Some v) None ≡ None
 no_number b v e = rw e refl
 
 and_no : (b : Bool) → (b && false) ≡ false

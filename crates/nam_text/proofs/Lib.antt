@@ -5,3 +5,4 @@ pub mod Again
 pub mod Spellings
 pub mod KindLemmas
 pub mod Digits
+pub mod Leading

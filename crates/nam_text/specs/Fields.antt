@@ -1,6 +1,8 @@
 -- The lines of a text, and the fields of a line.
-use Rattle.std.specs.Prelude.{ℕ, List, [], ◌==◌, Option, Some, None}
-use Rattle.std.specs.List.{slice_split}
+use Rattle.std.specs.Prelude.{◌≡◌, ℕ, ◌^◌, ◌<◌, ◌≤◌, true, List, [], ◌==◌, length, take, Option, Some, None}
+use Rattle.std.specs.List.{slice_split, list_all}
+use Rattle.std.specs.Char.{is_ascii_digit}
+use Rattle.std.specs.Str.Parse.{digits_value}
 
 -- the texts that newlines end, and what follows the last of them
 abbrev pub lines_of : List ℕ → List (List ℕ)
@@ -14,3 +16,10 @@ fields_of line = slice_split (λ b. b == 32) line
 abbrev pub fields_left : Option (List ℕ) → List (List ℕ)
 fields_left None = []
 fields_left (Some line) = fields_of line
+
+-- a line begins with so many digits, which spell this number
+pub record IsLeading (line : List ℕ) (number count : ℕ) : Type 0 where
+  pub within : count ≤ length line
+  pub digits : list_all is_ascii_digit (take count line) ≡ true
+  pub value : digits_value 10 (take count line) ≡ number
+  pub small : number < 2 ^ 64

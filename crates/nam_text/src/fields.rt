@@ -1,9 +1,15 @@
 //! The lines of a text, and the fields of a line.
 
-ghost use Rattle.std.specs.Prelude.{◌≡◌, ◌==◌, ◌<◌, [], ◌∷◌, length, MatchOption, IfSome};
+ghost use Rattle.std.specs.Prelude.{◌≡◌, ◌==◌, ◌<◌, ◌≤◌, [], ◌∷◌, length, take, true, Some, None, MatchOption, IfSome};
 ghost use Rattle.std.specs.List.{position};
-ghost use Rattle.nam_text.specs.Fields.{fields_of, lines_of};
+ghost use Rattle.std.specs.Option.{option_copied};
+ghost use Rattle.nam_text.specs.Token.{number_of, is_name};
+ghost use Rattle.nam_text.specs.Fields.{fields_of, fields_left, lines_of};
+ghost use Rattle.nam_text.specs.Read.{field_at};
+ghost use Rattle.nam_text.specs.Spelling.{IsPlain};
 
+use crate::token::{is_led, leading_digits, leading_name};
+use memchr::memchr;
 use std::marker::Model;
 
 /// Where a byte stands first.
@@ -13,6 +19,14 @@ pub fn find_byte(text: &[u8], byte: u8) -> Option<usize>
     text.iter().position(|b| *b == byte)
 }
 
+/// Where a newline stands first. Most lines are short, yet it reads many bytes at once.
+#[tactic(auto, using(crate::proofs::Splits::position_of_first))]
+fn find_newline(text: &[u8]) -> Option<usize>
+    ensures { result ≡ position (λ b. b == 10) text.now }
+{
+    memchr(b'\n', text)
+}
+
 /// The first line, without its newline, and what follows it. None where no newline stands in the text.
 #[tactic(auto, using(crate::proofs::Splits::split_at_position, crate::proofs::Splits::split_no_position))]
 pub fn first_line(text: &[u8]) -> Option<(&[u8], &[u8])>
@@ -20,8 +34,24 @@ pub fn first_line(text: &[u8]) -> Option<(&[u8], &[u8])>
         (λ x. lines_of text.now ≡ x.0.now ∷ lines_of x.1.now) }
     ensures shorter { IfSome result (λ x. length x.1.now < length text.now) }
 {
-    let at = find_byte(text, b'\n')?;
+    let at = find_newline(text)?;
     Some((&text[..at], &text[at + 1..]))
+}
+
+/// What follows a field that ends at a place: nothing where the line ends there too. None where the field goes on.
+#[tactic(auto, using(crate::proofs::Leading::field_ends, crate::proofs::Leading::field_stops))]
+fn rest_at(line: &[u8], end: usize) -> Option<Option<&[u8]>>
+    requires within { end ≤ length line.now }
+    requires plain { IsPlain (take end line.now) }
+    ensures { IfSome result (λ rest. fields_of line.now ≡ take end line.now ∷ fields_left (option_copied rest)) }
+{
+    if end == line.len() {
+        Some(None)
+    } else if line[end] == b' ' {
+        Some(Some(&line[end + 1..]))
+    } else {
+        None
+    }
 }
 
 /// The fields of a line that are still to be read. One space stands between two fields. Contracts see the list of them.
@@ -64,5 +94,38 @@ impl<'a> Fields<'a> {
                 Some(line)
             }
         }
+    }
+
+    /// The number in the next field, where that is one of fewer than 20 digits, read in one pass. Else None, and no
+    /// field is taken.
+    #[tactic(auto, unfolding(crate::specs::Read::field_at), using(
+        crate::proofs::Leading::leading_number, crate::proofs::Leading::leading_plain))]
+    pub(crate) fn next_short_number(&mut self) -> Option<u64>
+        ensures some { IfSome result (λ number. field_at number_of self.old ≡ Some (Some number, self.new)) }
+        ensures none { result ≡ None → self.new ≡ self.old }
+    {
+        let line = self.rest?;
+        let (number, end) = leading_digits(line);
+        if !is_led(&line[..end]) {
+            return None;
+        }
+        self.rest = rest_at(line, end)?;
+        Some(number)
+    }
+
+    /// The next field, where that is a name, read in one pass. Else None, and no field is taken.
+    #[tactic(auto, unfolding(crate::specs::Read::field_at), using(crate::proofs::Leading::leading_name_plain))]
+    pub(crate) fn next_name(&mut self) -> Option<&'a [u8]>
+        ensures some { IfSome result (λ field. self.old ≡ field.now ∷ self.new) }
+        ensures name { IfSome result (λ field. is_name field.now ≡ true) }
+        ensures none { result ≡ None → self.new ≡ self.old }
+    {
+        let line = self.rest?;
+        let end = leading_name(line);
+        if end == 0 || end > 16 || !line[0].is_ascii_lowercase() {
+            return None;
+        }
+        self.rest = rest_at(line, end)?;
+        Some(&line[..end])
     }
 }

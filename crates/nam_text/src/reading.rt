@@ -20,6 +20,7 @@ pub fn is_word(field: &[u8], word: &[u8]) -> bool
 }
 
 /// Reads a word.
+#[inline(always)]
 pub fn word_at(fields: &mut Fields, word: &[u8]) -> Option<()>
     ensures { ReadsWord result fields.new (word_at word.now fields.old) }
 {
@@ -31,19 +32,27 @@ pub fn word_at(fields: &mut Fields, word: &[u8]) -> Option<()>
 }
 
 /// Reads a number.
+#[inline(always)]
 #[tactic(auto, unfolding(crate::specs::Read::field_at))]
 pub fn number_at(fields: &mut Fields) -> Option<Number>
     ensures { Reads result fields.new (field_at number.read fields.old) }
 {
-    number(fields.next()?)
+    match fields.next_short_number() {
+        Some(value) => Some(Some(value)),
+        None => number(fields.next()?),
+    }
 }
 
 /// Reads the name of a table.
+#[inline(always)]
 #[tactic(auto, unfolding(crate::specs::Read::field_at))]
 pub fn name_at<'a>(fields: &mut Fields<'a>) -> Option<&'a [u8]>
     ensures read { Reads (option_copied result) fields.new (field_at name.read fields.old) }
     ensures name { IfSome result (λ text. is_name text.now ≡ true) }
 {
+    if let Some(field) = fields.next_name() {
+        return Some(field);
+    }
     let field = fields.next()?;
     if is_name(field) { Some(field) } else { None }
 }

@@ -1,26 +1,8 @@
-use Rattle.std.proofs.Common.{◌∙◌, sym}
-use Rattle.nam_text.proofs.Digits.{at_start, one_more, not_led, no_digit, all_digits}
+use Rattle.std.proofs.Common.{sym}
+use Rattle.nam_text.proofs.Leading.{whole_number}
 use Rattle.nam_text.proofs.token.number.Goals as goal
 
-pub returns-then-not-is_led : goal.returns-then-not-is_led
-returns-then-not-is_led c = sym (not_led c.args.field.now (sym c.if-not-is_led.ensures))
-
-pub loop-byte-init : goal.loop-byte-init
-loop-byte-init c = at_start c.args.field.now
-
-pub loop-byte-preserved : goal.loop-byte-preserved
-loop-byte-preserved c =
-    rw c.with_digit-value.ensures
-    (one_more c.args.field.now c.loop-byte.byte-index c.in_ok-digit_of.field-0 c.loop-byte.value
-    c.loop-byte.invariant c.loop-byte-test.true c.in_ok-digit_of.ensures.0 c.in_ok-digit_of.ensures.1)
-
-pub returns-in_err-digit_of : goal.returns-in_err-digit_of
-returns-in_err-digit_of c =
-    c.from_residual.ensures
-    ∙ sym (no_digit c.args.field.now c.loop-byte.byte-index c.loop-byte.value c.loop-byte.invariant
-    c.loop-byte-test.true c.in_err-digit_of.ensures)
-
-pub returns : goal.returns
-returns c =
-    sym (all_digits c.args.field.now c.loop-byte.byte-index c.loop-byte.value c.loop-byte.invariant
-    c.loop-byte-test.false (sym c.if-not-is_led.ensures))
+pub returns-then-count-field : goal.returns-then-count-field
+returns-then-count-field c =
+    sym (whole_number c.args.field.now c.leading_digits-value.result.0 c.leading_digits-value.result.1
+    c.leading_digits-value.ensures c.if-count-field.true (sym c.if-not-is_led.ensures))

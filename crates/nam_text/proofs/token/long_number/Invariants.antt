@@ -1,5 +1,5 @@
 use Rattle.nam_text.proofs.Digits.{IsSoFar}
-use Rattle.nam_text.proofs.token.number.Given as goal
+use Rattle.nam_text.proofs.token.long_number.Given as goal
 
 -- what was read so far
 abbrev pub invariant-loop-byte : goal.invariant-loop-byte

@@ -125,9 +125,11 @@ module _ (jobs : List Job) (job : Job) where
       → driver.place ≡ ToAsk nth → nth + length answers ≤ length job.ops
       → IsFront (calls_until_over jobs driver answers) (drop nth op_calls)
   asks_on [] driver nth here at l =
-      let n = next_is job.ops nth (omega arith) in
-      (n.0, ap (λ o. listed_call o ++ n.0)
-      (ap (job_call driver) here ∙ ap (λ place. Some (place_call job driver.nth place)) at) ∙ sym n.1)
+      let n = next_is job.ops nth (omega arith) in (
+        n.0,
+        ap (λ o. listed_call o ++ n.0)
+            (ap (job_call driver) here ∙ ap (λ place. Some (place_call job driver.nth place)) at) ∙ sym n.1,
+      )
   asks_on (end ∷ ends) driver nth here at l =
       let n = next_is job.ops nth (omega arith) in
       let next = driver_take jobs driver end in
@@ -143,9 +145,11 @@ module _ (jobs : List Job) (job : Job) where
       (λ rests. absurd (false≢true (sym rests ∙ asking))) goes)
 
 pub driver_asks : DriverAsksLaw
-driver_asks jobs driver job [] here at l =
-    (op_calls jobs job, ap (λ o. listed_call o ++ op_calls jobs job)
-    (ap (job_call driver) here ∙ ap (λ place. Some (place_call job driver.nth place)) at))
+driver_asks jobs driver job [] here at l = (
+  op_calls jobs job,
+  ap (λ o. listed_call o ++ op_calls jobs job)
+      (ap (job_call driver) here ∙ ap (λ place. Some (place_call job driver.nth place)) at),
+)
 driver_asks jobs driver job (end ∷ ends) here at l =
     let next = driver_take jobs driver end in
     let goes = subst (λ place. GoesTo driver 0 (place_taken jobs driver place end)) (sym at)

@@ -33,7 +33,7 @@ use Rattle.nam_protocol.specs.Client.{ask_scan, ask_txn, call_after, client_afte
 use Rattle.nam_protocol.specs.Client.{after_call, with_call}
 use Rattle.nam_protocol.specs.ClientEvents.{NeedsOpen, NowLists, is_open_after}
 use Rattle.nam_protocol.specs.ClientFits.{CallPointFits, NowFits}
-use Rattle.nam_protocol.specs.Commit.{ask_commit, commit_after, locks_taken}
+use Rattle.nam_protocol.specs.Commit.{ask_commit, commit_after}
 use Rattle.nam_protocol.specs.CutClient.{client_cut}
 use Rattle.nam_protocol.specs.Driver.{call_of, driver_take, job_call, on_tidy, op_call, place_call, place_taken}
 use Rattle.nam_protocol.specs.Session.{taken}
@@ -78,7 +78,8 @@ module _ (shape : Shape) where
       (λ next e. refl) (λ e. tt) (λ position e end s f. tt)
   txn_word_of client (Committing at) attempt before found =
       commit_goes (λ step. IsOf (call.Txn Commit) (stepped client attempt before step)) attempt.state at found
-      (λ next to. refl) (λ place headers e. refl) (λ place count e. refl) (λ place count e. refl) (λ end ends. tt)
+      (λ next to. refl) (λ header next e to. refl) (λ place count e. refl) (λ place count e. refl)
+      (λ end ends. tt)
 
   take_txn_of : (client : ClientState) (place : TxnPoint) (opened : Option Open) (found : ℕ) → IsSome opened
       → IsOf (call_at (InTxn place)) (take_txn shape client place opened found)
@@ -446,8 +447,8 @@ job_is None e = absurd (false≢true e)
 job_is (Some job) e = (job, refl)
 
 pub session_runs_asked : SessionAsksLaw
-session_runs_asked shape limits worker start jobs policy is fit least session reached place e =
-    let s = reached_kept shape limits AsksSo (session_asks shape) worker start jobs policy is fit least
+session_runs_asked shape limits worker start jobs policy is number fit least session reached place e =
+    let s = reached_kept shape limits AsksSo (session_asks shape) worker start jobs policy is number fit least
     record { opened = refl; attempt = λ job h. tt; call = λ job h. tt } session reached in
     let driver = session.driver in
     let job = job_is (slice_get session.jobs driver.job) (sym s.0.stands ∙ ap is_running e) in

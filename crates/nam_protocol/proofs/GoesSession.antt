@@ -17,6 +17,7 @@ use Rattle.nam_verbs.specs.VerbAt.{VerbAt}
 use Rattle.nam_catalog.specs.declared.shape.Shape.{Shape}
 use Rattle.nam_catalog.specs.declared.shape.Table.{Table}
 use Rattle.nam_catalog.specs.Fits.{FitsLimits}
+use Rattle.nam_catalog.specs.Greatest.{greatest_number}
 use Rattle.nam_catalog.specs.Tables.{widths_of}
 use Rattle.nam_layout.specs.declared.field.Field.{Field}
 use Rattle.nam_calls.specs.Fits.{IsOf, IsTableOf}
@@ -237,18 +238,18 @@ module _ (shape : Shape) (limits : FitsLimits shape) (P : SessionState → Type 
   -- 4. The sessions that occur
 
   module _ (worker start : ℕ) (jobs : List Job) (policy : Policy) (is : IsOf shape.workers worker)
-      (fit : AllByRecursion (JobFits shape) jobs) (least : 1 ≤ policy.tries) where
+      (number : start ≤ greatest_number shape.form) (fit : AllByRecursion (JobFits shape) jobs) (least : 1 ≤ policy.tries) where
     abbrev unasked : SessionState
     unasked = record { client = new_client worker start; driver = new_driver policy; jobs = jobs }
 
     pub new_kept : P unasked → P (new_session shape (new_client worker start) jobs policy)
     new_kept p =
-        settle_kept (calls_at_most jobs) unasked (new_ready shape limits worker start jobs policy is fit least) refl p
+        settle_kept (calls_at_most jobs) unasked (new_ready shape limits worker start jobs policy is number fit least) refl p
 
     pub reached_kept : P unasked → (session : SessionState) → IsReached shape worker start jobs policy session
         → SessionFits shape session × P session
     reached_kept p session is_new =
-        ((new_session_ends shape limits worker start jobs policy is fit least).0, new_kept p)
+        ((new_session_ends shape limits worker start jobs policy is number fit least).0, new_kept p)
     reached_kept p session (by_word before verb found reached e) =
         let s = reached_kept p before reached in
         ((session_word shape limits before verb found s.0 e).0, word_kept before verb found s.0 e s.1)

@@ -16,6 +16,7 @@ use Rattle.nam_verbs.specs.VerbAt.{VerbAt}
 use Rattle.nam_catalog.specs.declared.shape.Shape.{Shape}
 use Rattle.nam_catalog.specs.declared.shape.Table.{Table}
 use Rattle.nam_catalog.specs.Fits.{FitsLimits}
+use Rattle.nam_catalog.specs.Greatest.{greatest_number}
 use Rattle.nam_catalog.specs.Tables.{widths_of}
 use Rattle.nam_layout.specs.declared.field.Field.{Field}
 use Rattle.nam_calls.specs.Fits.{IsOf, IsTableOf}
@@ -37,14 +38,16 @@ use Rattle.nam_protocol.specs.declared.txn.TxnPoint.{TxnPoint}
 use Rattle.nam_protocol.specs.Client.{after_call, ask_scan, ask_txn, call_after, client_after, client_ask, take_scan}
 use Rattle.nam_protocol.specs.Client.{take_txn, with_call}
 use Rattle.nam_protocol.specs.ClientEvents.{ClientLists, NowLists, is_open_after}
-use Rattle.nam_protocol.specs.ClientFits.{CallFits, ClientFits}
+use Rattle.nam_protocol.specs.ClientFits.{CallFits, ClientFits, OpenFits}
 use Rattle.nam_protocol.specs.CutClient.{client_cut}
 use Rattle.nam_protocol.specs.Driver.{job_call, new_driver, op_call, place_call}
 use Rattle.nam_protocol.specs.EventsLaw.{IsReached, by_cut, by_word, is_new}
 use Rattle.nam_protocol.specs.Own.{MayAsk, Rests}
 use Rattle.nam_protocol.specs.Session.{answer_now, calls_at_most, has_ended, new_session, session_after, session_cut}
 use Rattle.nam_protocol.specs.Session.{session_verb, settle, taken}
-use Rattle.nam_protocol.specs.SessionFits.{DriverFits, DriverPointFits, JobFits, SessionFits, is_running, ops_of}
+use Rattle.nam_protocol.specs.SessionFits.{DriverFits, DriverPointFits, JobFits, OpenAsked, OpsFit, SessionFits}
+use Rattle.nam_protocol.specs.SessionFits.{is_running, ops_of}
+use Rattle.nam_protocol.specs.TxnFits.{IsKeyOf}
 use Rattle.nam_protocol.specs.AnswersLaw.{SessionCarriesLaw}
 use Rattle.nam_protocol.specs.Carries.{Carries}
 use Rattle.nam_protocol.specs.Own.{OpenClient, OwnOk, StageClient}
@@ -57,7 +60,8 @@ use Rattle.nam_protocol.proofs.StageLemmas.{stage_asked, stage_cut, stage_word}
 use Rattle.nam_protocol.specs.Telling.{new_client, stepped}
 use Rattle.nam_protocol.specs.Txn.{Stepped}
 use Rattle.nam_protocol.proofs.EndsDriver.{AsksFrom, calls_from}
-use Rattle.nam_protocol.proofs.EndsSession.{IsReady, asks, is_open, new_ready, new_session_ends, nth_holds}
+use Rattle.nam_protocol.proofs.EndsSession.{IsReady, asks, is_open, new_ready, new_session_ends, nth_holds, on_key}
+use Rattle.nam_protocol.proofs.EndsSession.{on_table}
 use Rattle.nam_protocol.proofs.EndsSession.{session_cut_ends, session_word, taken_ready, takes_word}
 use Rattle.nam_protocol.proofs.EventsClient.{ask_lists, word_lists}
 use Rattle.nam_protocol.proofs.EventsSession.{asks_after, needs_open}
@@ -72,30 +76,36 @@ use Rattle.nam_protocol.specs.Telling as telling
 module _ (shape : Shape) where
   -- 1. The driver's calls may be asked
 
-  scan_table : (table : ℕ) → table < length (widths_of shape.tables) → IsTableOf shape table
-  scan_table table is = let e = length-map shape.tables (λ (t : Table). t.width) in omega arith
-
-  op_fits : (opened : Option Open) (o : Option Op) → IsSome opened
-      → ((op : Op) → o ≡ Some op → OpFits (widths_of shape.tables) op) → CallFits shape opened (op_call o)
-  op_fits opened None some fits = (some, tt)
-  op_fits opened (Some (op.Get t k)) some fits = (some, (fits (op.Get t k) refl, refl))
-  op_fits opened (Some (op.Put t k v)) some fits = (some, (fits (op.Put t k v) refl, refl))
-  op_fits opened (Some (op.Add t k f up by)) some fits = (some, (fits (op.Add t k f up by) refl, refl))
-  op_fits opened (Some (op.Del t k)) some fits = (some, (fits (op.Del t k) refl, refl))
-  op_fits opened (Some (op.Need t k f least)) some fits = (some, (fits (op.Need t k f least) refl, refl))
-  op_fits opened (Some (op.Guard t k)) some fits = (some, (fits (op.Guard t k) refl, refl))
-  op_fits opened (Some (op.Scan t low high)) some fits = (some, scan_table t (fits (op.Scan t low high) refl).0)
+  op_fits : (opened : Option Open) (ops : List Op) (nth : ℕ) (o : Option Op) → slice_get ops nth ≡ o
+      → OpenFits shape opened → OpenAsked opened (take nth ops) → OpsFit shape ops → IsSome opened
+      → CallFits shape opened (op_call o)
+  op_fits None ops nth o here f a fit some = absurd a
+  op_fits (Some attempt) ops nth None here f a fit some = tt
+  op_fits (Some attempt) ops nth (Some (op.Get t k)) here f a fit some =
+      on_key shape ops nth (op.Get t k) here fit refl attempt f a
+  op_fits (Some attempt) ops nth (Some (op.Put t k v)) here f a fit some =
+      on_key shape ops nth (op.Put t k v) here fit refl attempt f a
+  op_fits (Some attempt) ops nth (Some (op.Add t k i up by)) here f a fit some =
+      on_key shape ops nth (op.Add t k i up by) here fit refl attempt f a
+  op_fits (Some attempt) ops nth (Some (op.Del t k)) here f a fit some =
+      on_key shape ops nth (op.Del t k) here fit refl attempt f a
+  op_fits (Some attempt) ops nth (Some (op.Need t k i least)) here f a fit some =
+      on_key shape ops nth (op.Need t k i least) here fit refl attempt f a
+  op_fits (Some attempt) ops nth (Some (op.Guard t k)) here f a fit some =
+      on_key shape ops nth (op.Guard t k) here fit refl attempt f a
+  op_fits (Some attempt) ops nth (Some (op.Scan t low high)) here f a fit some =
+      (some, on_table shape ops nth (op.Scan t low high) here fit t low high refl)
 
   place_fits : (opened : Option Open) (ops : List Op) (txn try tries : ℕ) (place : DriverPoint)
-      → DriverPointFits shape tries try place → AllByRecursion (OpFits (widths_of shape.tables)) ops
-      → is_some opened ≡ is_asking place
+      → DriverPointFits shape tries try place → OpenFits shape opened → AsksFrom shape place ops opened
+      → OpsFit shape ops → is_some opened ≡ is_asking place
       → CallFits shape opened (place_call record { txn = txn; ops = ops } try place)
-  place_fits opened ops txn try tries ToBegin d fit is = is
-  place_fits opened ops txn try tries (ToAsk nth) d fit is =
-      op_fits opened (slice_get ops nth) is (λ op here. nth_holds (OpFits (widths_of shape.tables)) ops nth op fit here)
-  place_fits opened ops txn try tries (ToTidy keys nth again retry) d fit is =
-      (is, all_at (λ k. IsTableOf shape k.table) (key_at 0 0) keys nth d.0 d.1)
-  place_fits opened ops txn try tries (ToCollect bucket keys nth retry) d fit is = (is, d.0)
+  place_fits opened ops txn try tries ToBegin d f a fit is = is
+  place_fits opened ops txn try tries (ToAsk nth) d f a fit is =
+      op_fits opened ops nth (slice_get ops nth) refl f a fit is
+  place_fits opened ops txn try tries (ToTidy keys nth again retry) d f a fit is =
+      (is, all_at (IsKeyOf shape) (key_at 0 0) keys nth d.0 d.1)
+  place_fits opened ops txn try tries (ToCollect bucket keys nth retry) d f a fit is = (is, d.0)
 
   rests_now : (now : Option (Now CallPoint Answer)) → is_running now ≡ false → Rests now
   rests_now None e = tt
@@ -129,7 +139,8 @@ module _ (shape : Shape) (limits : FitsLimits shape) (P : ClientState → Type 0
     runs = uncut;
     rests = rests_now shape session.client.call ready.rests;
     fits = place_fits shape session.client.txn job.ops job.txn session.driver.nth session.driver.policy.tries
-        session.driver.place ready.driver.2
+        session.driver.place ready.driver.2 ready.client.1
+        (subst (λ j. AsksFrom shape session.driver.place (ops_of j) session.client.txn) here ready.asks)
         (nth_holds (JobFits shape) session.jobs session.driver.job job ready.jobs here) opened;
   }
 
@@ -157,23 +168,23 @@ module _ (shape : Shape) (limits : FitsLimits shape) (P : ClientState → Type 0
   cut_holds = cut_kept shape limits Holds session_holds
 
   module _ (worker start : ℕ) (jobs : List Job) (policy : Policy) (is : IsOf shape.workers worker)
-      (fit : AllByRecursion (JobFits shape) jobs) (least : 1 ≤ policy.tries) where
+      (number : start ≤ greatest_number shape.form) (fit : AllByRecursion (JobFits shape) jobs) (least : 1 ≤ policy.tries) where
     pub new_holds : P (new_client worker start) → Holds (new_session shape (new_client worker start) jobs policy)
     new_holds p =
-        new_kept shape limits Holds session_holds worker start jobs policy is fit least
+        new_kept shape limits Holds session_holds worker start jobs policy is number fit least
         record { opened = refl; client = p }
 
     pub reached_holds : P (new_client worker start) → (session : SessionState)
         → IsReached shape worker start jobs policy session → SessionFits shape session × Holds session
     reached_holds p =
-        reached_kept shape limits Holds session_holds worker start jobs policy is fit least
+        reached_kept shape limits Holds session_holds worker start jobs policy is number fit least
         record { opened = refl; client = p }
 
 -- 3. Tests, and what is known of clients
 
 pub session_keeps : SessionKeepsLaw
-session_keeps shape limits worker start jobs policy is fit least test keeps new session reached =
-    (reached_holds shape limits (λ client. test client ≡ true) keeps worker start jobs policy is fit least new session
+session_keeps shape limits worker start jobs policy is number fit least test keeps new session reached =
+    (reached_holds shape limits (λ client. test client ≡ true) keeps worker start jobs policy is number fit least new session
     reached).1.client
 
 pub carries_keeps : (shape : Shape) → ClientKeeps shape Carries
@@ -205,6 +216,6 @@ open_keeps shape = record {
 }
 
 pub session_carries : SessionCarriesLaw
-session_carries shape limits worker start jobs policy is fit least session reached =
-    (reached_holds shape limits Carries (carries_keeps shape) worker start jobs policy is fit least
+session_carries shape limits worker start jobs policy is number fit least session reached =
+    (reached_holds shape limits Carries (carries_keeps shape) worker start jobs policy is number fit least
     (new_carries worker start) session reached).1.client

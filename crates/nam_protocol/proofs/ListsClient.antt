@@ -54,6 +54,7 @@ use Rattle.nam_protocol.specs.TxnCalls.{taken_now}
 use Rattle.nam_protocol.specs.declared.client.Answer.TheVariants as answer
 use Rattle.nam_protocol.specs.declared.client.Call.TheVariants as call
 use Rattle.nam_protocol.specs.declared.txn.TxnAnswer.TheVariants as txn_answer
+use Rattle.nam_protocol.proofs.FallsClient.{some_open}
 use Rattle.nam_protocol.proofs.GoesClient.{begin_goes, collect_goes, move_goes, scan_goes, seek_goes, snap_goes}
 use Rattle.nam_protocol.proofs.GoesClient.{stepped_goes}
 
@@ -522,7 +523,7 @@ module _ (shape : Shape) where
       let none = rests_snap client.call rests in
       record { reads = refl; writes = refl; locks = refl; snaps = omega arith }
   ask_same client (call.Txn asked) rests fits =
-      ask_txn_same client asked client.txn (rests_snap client.call rests) fits.0
+      ask_txn_same client asked client.txn (rests_snap client.call rests) (some_open shape client.txn asked fits)
   ask_same client (call.Scan table low high) rests fits =
       ask_scan_same client table low high client.txn (rests_snap client.call rests) fits.0
   ask_same client (call.Tidy table key) rests fits =

@@ -54,7 +54,6 @@ use Rattle.nam_protocol.specs.Log.{with_event, with_reads, with_writes, with_sna
 use Rattle.nam_protocol.specs.Telling.{new_attempt, new_client, with_read}
 use Rattle.nam_protocol.specs.Client.{with_call, client_ask, client_after, client_abandon}
 use Rattle.nam_protocol.specs.CutClient.{client_cut}
-use Rattle.nam_protocol.specs.Commit.{locks_taken}
 use Rattle.nam_protocol.specs.ClientFits.{ClientFits}
 use Rattle.nam_protocol.specs.Own.{MayAsk}
 use Rattle.nam_protocol.specs.Session.{answer_now}
@@ -85,7 +84,7 @@ module _ (shape : Shape) (word : ℕ) where
 
 -- the word that was found in the way of a lock: while locks are given back, an earlier one
 abbrev pub word_in_way : ℕ → CommitPoint → ℕ
-word_in_way word (Locking (GiveBack held given earlier)) = earlier
+word_in_way word (Locking (GiveBack given earlier)) = earlier
 word_in_way word _ = word
 
 module _ (shape : Shape) (word : ℕ) (before after : ClientState) where
@@ -108,9 +107,9 @@ module _ (shape : Shape) (word : ℕ) (before after : ClientState) where
   abbrev pub CommitTells : Open → CommitPoint → TxnAnswer → Type 0
   CommitTells attempt at (Committed number) = HasCommitted before after attempt number
   CommitTells attempt at (Locked lock) =
-      LockMissed before after attempt (locks_taken attempt.state at) (word_in_way word at) lock true (outcome.Locked lock)
+      LockMissed before after attempt (word_in_way word at) lock true (outcome.Locked lock)
   CommitTells attempt at (Newer lock) =
-      LockMissed before after attempt (locks_taken attempt.state at) (word_in_way word at) lock false (outcome.Newer lock)
+      LockMissed before after attempt (word_in_way word at) lock false (outcome.Newer lock)
   CommitTells attempt at (Full lock) = IsFullAt attempt.state lock × Ends before after attempt (outcome.Full lock)
   CommitTells attempt at _ = ⊥
 
@@ -248,5 +247,6 @@ AnswersLaw = (shape : Shape) → AnswersTell shape
 abbrev pub SessionCarriesLaw : Type 0
 SessionCarriesLaw =
     (shape : Shape) → FitsLimits shape → (worker start : ℕ) (jobs : List Job) (policy : Policy)
-    → IsOf shape.workers worker → AllByRecursion (JobFits shape) jobs → 1 ≤ policy.tries → (session : SessionState)
+    → IsOf shape.workers worker → start ≤ greatest_number shape.form → AllByRecursion (JobFits shape) jobs
+    → 1 ≤ policy.tries → (session : SessionState)
     → IsReached shape worker start jobs policy session → Carries session.client

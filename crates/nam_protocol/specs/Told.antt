@@ -54,7 +54,6 @@ use Rattle.nam_protocol.specs.Operations.{op_path, holding, own_value, value_in,
 use Rattle.nam_protocol.specs.Commit.{lock_at, record_place}
 use Rattle.nam_protocol.specs.Log.{with_event, with_reads, with_writes, with_snap, prefix_of, unbegun, attempt_of}
 use Rattle.nam_protocol.specs.Telling.{new_attempt, new_client, with_read}
-use Rattle.nam_protocol.specs.Commit.{locks_taken}
 use Rattle.nam_protocol.specs.Carries.{IsBetween, IsInTheWay, Took}
 use Rattle.nam_protocol.specs.declared.client.Answer.TheVariants as answer
 use Rattle.nam_protocol.specs.declared.client.Call.TheVariants as call
@@ -91,13 +90,12 @@ module _ (before after : ClientState) where
   -- 2. A commit
 
   -- the word in the way of the next lock is locked or isn't; the locks listed before it are those that were taken
-  pub record LockMissed (attempt : Open) (held : List ℕ) (word : ℕ) (lock : Lock) (locked : Bool) (how : Outcome)
-      : Type 0 where
-    pub within : length held < length attempt.state.records
-    pub lock_is : lock ≡ lock_at attempt.state (length held) word
-    pub locked_is : is_locked (record_place attempt.state (length held)).form word ≡ locked
-    pub way : IsInTheWay attempt.state (length held) word
-    pub took : Took before.log.locks attempt held
+  pub record LockMissed (attempt : Open) (word : ℕ) (lock : Lock) (locked : Bool) (how : Outcome) : Type 0 where
+    pub within : length attempt.state.held < length attempt.state.records
+    pub lock_is : lock ≡ lock_at attempt.state (length attempt.state.held) word
+    pub locked_is : is_locked (record_place attempt.state (length attempt.state.held)).form word ≡ locked
+    pub way : IsInTheWay attempt.state word
+    pub took : Took before.log.locks attempt
     pub log : Ends attempt how
 
   -- the number is one more than the client's last and its last from now on; the write set is listed

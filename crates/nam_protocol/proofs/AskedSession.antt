@@ -424,7 +424,7 @@ module _ (shape : Shape) where
   place_try client job nth (ToTidy keys k again retry) opened try = try
   place_try client job nth (ToCollect bucket keys k retry) opened try = try
 
-  session_asks : SessionKeeps shape AsksSo
+  pub session_asks : SessionKeeps shape AsksSo
   session_asks = record {
     word = λ session place found job fits uncut e asks s. word_asks session place found job fits e asks s;
     asked = λ session job ready uncut asks s.

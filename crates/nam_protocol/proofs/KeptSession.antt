@@ -102,6 +102,18 @@ module _ (shape : Shape) where
   rests_now (Some (At place)) e = absurd (false≢true (sym e))
   rests_now (Some (Over end)) e = tt
 
+  -- the call that its driver asks may be asked
+  pub may_ask : (session : SessionState) (job : Job) → IsReady shape session → session.client.cut ≡ false
+      → OpensAsked session → slice_get session.jobs session.driver.job ≡ Some job
+      → MayAsk shape session.client (place_call job session.driver.nth session.driver.place)
+  may_ask session job ready uncut opened here = record {
+    runs = uncut;
+    rests = rests_now session.client.call ready.rests;
+    fits = place_fits session.client.txn job.ops job.txn session.driver.nth session.driver.policy.tries
+        session.driver.place ready.driver.2
+        (nth_holds (JobFits shape) session.jobs session.driver.job job ready.jobs here) opened;
+  }
+
 -- 2. A session
 
 module _ (shape : Shape) (limits : FitsLimits shape) (P : ClientState → Type 0) (keeps : ClientKeeps shape P) where
@@ -121,18 +133,6 @@ module _ (shape : Shape) (limits : FitsLimits shape) (P : ClientState → Type 0
       let asks = asks_after shape session.jobs session.driver job.ops client.txn session.driver.place end does in
       record { opened = lists.1 ∙ ap (λ was. is_open_after was end) holds.opened ∙ sym asks; client = p }
 
-  -- the call that its driver asks may be asked
-  pub may_ask : (session : SessionState) (job : Job) → IsReady shape session → session.client.cut ≡ false
-      → OpensAsked session → slice_get session.jobs session.driver.job ≡ Some job
-      → MayAsk shape session.client (place_call job session.driver.nth session.driver.place)
-  may_ask session job ready uncut opened here = record {
-    runs = uncut;
-    rests = rests_now shape session.client.call ready.rests;
-    fits = place_fits shape session.client.txn job.ops job.txn session.driver.nth session.driver.policy.tries
-        session.driver.place ready.driver.2
-        (nth_holds (JobFits shape) session.jobs session.driver.job job ready.jobs here) opened;
-  }
-
   pub session_holds : SessionKeeps shape Holds
   session_holds = record {
     word = λ session place found job fits uncut e holds s.
@@ -143,7 +143,7 @@ module _ (shape : Shape) (limits : FitsLimits shape) (P : ClientState → Type 0
         let c = place_call job session.driver.nth session.driver.place in
         let client = client_ask shape session.client c in
         next_holds session job client holds
-        (keeps.asked session.client c ready.client (may_ask session job ready uncut holds.opened s.here) holds.client)
+        (keeps.asked session.client c ready.client (may_ask shape session job ready uncut holds.opened s.here) holds.client)
         client.call s.does s.lists;
     cut = λ session holds. record { opened = holds.opened; client = keeps.cut session.client holds.client };
   }

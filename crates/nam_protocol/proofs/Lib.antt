@@ -62,3 +62,4 @@ pub mod KeptSession
 pub mod AskedDriver
 pub mod AskedSession
 pub mod ListsClient
+pub mod ListsSession

@@ -485,7 +485,7 @@ module _ (shape : Shape) (keys : ℕ) (before after : ClientState) where
       txn_asked_locks asked before.txn end told (subst (λ was. is_open_after was end ≡ true) some e)
   asked_locks _ end told some e = absurd told
 
-rests_snap : (now : Option (Now CallPoint Answer)) → Rests now → collects_snap now ≡ 0
+pub rests_snap : (now : Option (Now CallPoint Answer)) → Rests now → collects_snap now ≡ 0
 rests_snap None rests = refl
 rests_snap (Some (Over end)) rests = refl
 rests_snap (Some (At place)) rests = absurd rests

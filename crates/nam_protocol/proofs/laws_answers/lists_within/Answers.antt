@@ -1,4 +1,4 @@
-use Rattle.nam_protocol.proofs.ListsClient.{Listed}
+use Rattle.nam_protocol.proofs.ListsSession.{writes_paid}
 use Rattle.nam_protocol.proofs.laws_answers.lists_within.Goals as goal
 
 pub returns : goal.returns

@@ -57,11 +57,11 @@ use Rattle.nam_protocol.specs.declared.client.Call.TheVariants as call
 
 -- 1. A call stays itself while it runs
 
-abbrev NowOf : Call → Option (Now CallPoint Answer) → Type 0
+abbrev pub NowOf : Call → Option (Now CallPoint Answer) → Type 0
 NowOf asked (Some (At place)) = call_at place ≡ asked
 NowOf asked _ = Unit {0}
 
-abbrev IsOf : Call → ClientState → Type 0
+abbrev pub IsOf : Call → ClientState → Type 0
 IsOf asked client = NowOf asked client.call
 
 module _ (shape : Shape) where
@@ -149,7 +149,7 @@ module _ (shape : Shape) where
 
 -- 3. The try of a job
 
-abbrev OpenTry : Job → ℕ → ℕ → Option Open → Type 0
+abbrev pub OpenTry : Job → ℕ → ℕ → Option Open → Type 0
 OpenTry job nth asked None = Unit {0}
 OpenTry job nth asked (Some attempt) = IsTry job nth asked attempt
 
@@ -260,7 +260,7 @@ module _ (shape : Shape) (job : Job) (try : ℕ) (ops : List Op) (nth : ℕ) whe
 -- 4. A session
 
 -- so many operations were asked, with the one that runs, if one does
-abbrev asked_now : List Op → DriverPoint → Bool → ℕ
+abbrev pub asked_now : List Op → DriverPoint → Bool → ℕ
 asked_now ops place true = ops_asked ops place
 asked_now ops (ToAsk nth) false = length (take nth ops)
 asked_now ops _ false = 0
@@ -441,7 +441,7 @@ module _ (shape : Shape) where
 
 -- 8. The law
 
-job_is : (o : Option Job) → is_some o ≡ true → (job : Job) × (o ≡ Some job)
+pub job_is : (o : Option Job) → is_some o ≡ true → (job : Job) × (o ≡ Some job)
 job_is None e = absurd (false≢true e)
 job_is (Some job) e = (job, refl)
 

@@ -31,12 +31,13 @@ use Rattle.nam_protocol.specs.declared.txn.TxnState.{TxnState}
 use Rattle.nam_protocol.specs.declared.txn.TxnPoint.TheVariants.{Claiming, Committing, Finding, Reading}
 use Rattle.nam_protocol.specs.AttemptLaw.{HasAsked}
 use Rattle.nam_protocol.specs.Carries.{Carries, OpenCarries}
-use Rattle.nam_protocol.specs.ClientFits.{CallPointFits}
+use Rattle.nam_protocol.specs.ClientFits.{CallPointFits, NowFits}
 use Rattle.nam_protocol.specs.Commit.{locks_taken, record_in}
 use Rattle.nam_protocol.specs.Own.{Rests}
 use Rattle.si_model.specs.declared.log.Lock.{Lock}
-use Rattle.nam_protocol.specs.ListsLaw.{KeysWithin, ListsLaw}
-use Rattle.nam_protocol.specs.SessionFits.{OpenAsked, OpenRuns, PlaceRuns}
+use Rattle.nam_protocol.specs.ListsLaw.{KeysWithin, ListsLaw, ListsWithin}
+use Rattle.nam_protocol.specs.SessionFits.{NowRuns, OpenAsked, OpenRuns, PlaceRuns, SessionFits, is_running, ops_of}
+use Rattle.nam_protocol.specs.CutClient.{closed_call}
 use Rattle.nam_protocol.specs.TxnFits.{CommitFits, CommitPointFits}
 use Rattle.nam_calls.specs.declared.lock.LockPoint.{LockPoint}
 use Rattle.nam_calls.specs.declared.lock.LockPoint.TheVariants.{GiveBack, Peek, Seize}
@@ -48,9 +49,9 @@ use Rattle.nam_protocol.proofs.RunsClient.{IsAnswered, NowDoes, take_past}
 use Rattle.nam_protocol.proofs.ListsClient.{KeepsLocks, Listed, NowSame, Same, WritesNow, answer_lists, answer_locks}
 use Rattle.nam_protocol.proofs.ListsClient.{ask_same, asked_lists, asked_locks, begins_snap, closed_lists, collects_snap}
 use Rattle.nam_protocol.proofs.ListsClient.{closing_writes, rests_snap, word_same}
-use Rattle.nam_protocol.proofs.AskedSession.{AsksSo, session_asks}
+use Rattle.nam_protocol.proofs.AskedSession.{AsksSo, NowOf, job_is, session_asks}
 use Rattle.nam_protocol.proofs.AnswersClient.{answers_tell, asked_carries, cut_carries, new_carries, word_carries}
-use Rattle.nam_protocol.proofs.EndsSession.{nth_holds}
+use Rattle.nam_protocol.proofs.EndsSession.{IsReady, nth_holds}
 use Rattle.nam_protocol.proofs.EventsSession.{asks_after}
 use Rattle.nam_protocol.proofs.GoesSession.{NextHolds, SessionKeeps, Steps, reached_kept}
 use Rattle.nam_protocol.proofs.KeptSession.{may_ask}
@@ -342,3 +343,203 @@ module _ (shape : Shape) (whole : Room) (keys : ℕ) where
               (λ f g. kept end refl (p.asks.opened ∙ f) (ap (λ x. is_open_after x end) p.asks.opened ∙ g)) p.locks));
           snaps = (let h = p.snaps in let m = l.snaps in omega arith);
         }
+
+-- 4. A word and a call
+
+module _ (shape : Shape) (whole : Room) (keys : ℕ) where
+  -- what is known of the call that runs
+  pub record Runs (session : SessionState) (place : CallPoint) (job : Job) : Type 0 where
+    pub asked : call_at place ≡ place_call job session.driver.nth session.driver.place
+    pub stands : IsOpenAt session.client.txn place
+    pub fits : CallPointFits shape session.client.txn place
+    pub writes : WritesWithin keys session.client.txn place
+    pub mine : open_locks session.client.txn ≤ keys
+
+  runs_of : (session : SessionState) (place : CallPoint) (job : Job) → SessionFits shape session
+      → session.client.call ≡ Some (At place) → slice_get session.jobs session.driver.job ≡ Some job
+      → ListsSo shape whole keys session → Runs session place job
+  runs_of session place job fits e here p =
+      let driver = session.driver in
+      let client = session.client in
+      let runs = subst (λ o. NowRuns driver.place (ops_of o) client.txn (Some (At place))) here
+      (subst (NowRuns driver.place (ops_of (slice_get session.jobs driver.job)) client.txn) e fits.runs) in
+      let few = nth_holds (λ (j : Job). length (written_keys j.ops) + length (guard_keys j.ops) ≤ keys) session.jobs
+      driver.job job p.few here in
+      let stands = subst (NowFits shape client.txn) e fits.client.2 in
+      record {
+        asked = subst (NowOf (place_call job driver.nth driver.place)) e (p.asks.call job here);
+        stands = subst (IsOpenNow client.txn) e p.opens;
+        fits = stands;
+        writes = writes_within shape job.ops keys few driver.place client.txn place runs;
+        mine = locks_within shape job.ops keys few client.last client.log.locks driver.place client.txn place
+            (subst (λ now. OpenCarries client.last client.log.locks now client.txn) e p.carries.opened) runs stands;
+      }
+
+  word_lists : (session : SessionState) (place : CallPoint) (found : ℕ) (job : Job) → SessionFits shape session
+      → session.client.cut ≡ false → session.client.call ≡ Some (At place) → ListsSo shape whole keys session
+      → let after = client_after shape session.client found in Steps shape session job after
+      → NextHolds shape (ListsSo shape whole keys) session after after.call
+  word_lists session place found job fits uncut e p s =
+      let client = session.client in
+      let after = client_after shape client found in
+      let r = runs_of session place job fits e s.here p in
+      let asked = place_call job session.driver.nth session.driver.place in
+      let told = λ (end : Answer) (f : after.call ≡ Some (Over end)).
+      (answers_tell shape).word client place found end fits.client p.carries e (ap answer_now f) in
+      next_lists shape whole keys session job p after s (word_carries shape client found fits.client p.carries)
+      (open_word shape client found p.opens) r.mine (begins_snap place) after.call refl
+      ((session_asks shape).word session place found job fits uncut e p.asks s)
+      (subst (λ (now : Option (Now CallPoint Answer)).
+      Same (record client { call = now }) (after_call shape (record client { call = now }) now found)) (sym e)
+      (word_same shape found client place r.stands))
+      (λ end f. subst (λ c. Listed (call_room shape c).ops
+      (ended keys (is_some client.txn) (is_open_after (is_some client.txn) end)) (begins_snap place) client.log after.log)
+      r.asked (answer_lists shape found keys client after place end r.fits r.writes (told end f)))
+      (λ end f. answer_locks shape found client after place end r.stands (told end f))
+      (subst (λ c. begins_snap place + collects_snap client.call
+      ≤ (call_room shape c).attempts + (call_room shape c).tidies) r.asked
+      (subst (λ now. begins_snap place + collects_snap now
+      ≤ (call_room shape (call_at place)).attempts + (call_room shape (call_at place)).tidies) (sym e)
+      (snap_paid shape place)))
+      s.does
+
+  call_lists : (session : SessionState) (job : Job) → IsReady shape session → session.client.cut ≡ false
+      → ListsSo shape whole keys session
+      → let after = client_ask shape session.client (place_call job session.driver.nth session.driver.place) in
+      Steps shape session job after → NextHolds shape (ListsSo shape whole keys) session after after.call
+  call_lists session job ready uncut p s =
+      let client = session.client in
+      let asked = place_call job session.driver.nth session.driver.place in
+      let after = client_ask shape client asked in
+      let may = may_ask shape session job ready uncut p.asks.opened s.here in
+      let told = λ (end : Answer) (f : after.call ≡ Some (Over end)).
+      (answers_tell shape).asked client asked end may p.carries (ap answer_now f) in
+      let mine = rests_locks client.last client.log.locks client.call client.txn may.rests p.carries.opened in
+      let none = rests_snap client.call may.rests in
+      next_lists shape whole keys session job p after s (asked_carries shape client asked may p.carries)
+      (open_asked shape client asked may) (omega arith) 0 after.call refl
+      ((session_asks shape).asked session job ready uncut p.asks s)
+      (ask_same shape client asked may.rests may.fits)
+      (λ end f. asked_lists shape keys client after asked end (told end f))
+      (λ end f. asked_locks shape keys client after asked end (told end f))
+      (omega arith) s.does
+
+  session_lists : SessionKeeps shape (ListsSo shape whole keys)
+  session_lists = record {
+    word = word_lists;
+    asked = call_lists;
+    cut = λ session p. record {
+      asks = (session_asks shape).cut session p.asks;
+      carries = cut_carries session.client p.carries;
+      opens = p.opens;
+      counts = p.counts;
+      few = p.few;
+      reads = p.reads;
+      writes = p.writes;
+      locks = p.locks;
+      snaps = p.snaps;
+    };
+  }
+
+  -- 5. The log at the end
+
+  closing_paid : (left : ℕ) (b : Bool) (place : CallPoint) (opened : Option Open) → IsOpenAt opened place
+      → is_some opened ≡ b → closing_writes keys (Some (At place)) ≤ (left + one b) * keys
+  closing_paid left b (InTxn (Committing at)) opened stands e =
+      mine_paid b left keys keys (omega arith) (λ f. absurd (false≢true (sym f ∙ sym e ∙ stands)))
+  closing_paid left b (InTxn (Finding op passed)) opened stands e = omega arith
+  closing_paid left b (InTxn (Reading op position at)) opened stands e = omega arith
+  closing_paid left b (InTxn (Claiming op at)) opened stands e = omega arith
+  closing_paid left b (Beginning txn nth at) opened stands e = omega arith
+  closing_paid left b (Scanning table low high at) opened stands e = omega arith
+  closing_paid left b (Seeking table key passed) opened stands e = omega arith
+  closing_paid left b (Moving table key position at) opened stands e = omega arith
+  closing_paid left b (Snapping bucket at) opened stands e = omega arith
+  closing_paid left b (Collecting bucket prefix seen at) opened stands e = omega arith
+
+  log_rests : (session : SessionState) (now : Option (Now CallPoint Answer)) → session.client.call ≡ now → Rests now
+      → ListsSo shape whole keys session → ListsWithin whole keys (closed_call shape session.client now).log
+  log_rests session None e rests p =
+      let l = closed_lists shape keys session.client None tt in
+      let m = rests_locks session.client.last session.client.log.locks None session.client.txn rests
+      (subst (λ now. OpenCarries session.client.last session.client.log.locks now session.client.txn) e p.carries.opened)
+      in
+      let c = ap collects_snap e in
+      record {
+        reads = (let a = l.reads in let b = p.reads in omega arith);
+        locks = (let a = ap length l.locks in let b = p.locks in omega arith);
+        writes = (let a = l.writes in let b = p.writes in omega arith);
+        snaps = (let a = l.snaps in let b = p.snaps in omega arith);
+      }
+  log_rests session (Some (Over end)) e rests p =
+      let l = closed_lists shape keys session.client (Some (Over end)) tt in
+      let m = rests_locks session.client.last session.client.log.locks (Some (Over end)) session.client.txn rests
+      (subst (λ now. OpenCarries session.client.last session.client.log.locks now session.client.txn) e p.carries.opened)
+      in
+      let c = ap collects_snap e in
+      record {
+        reads = (let a = l.reads in let b = p.reads in omega arith);
+        locks = (let a = ap length l.locks in let b = p.locks in omega arith);
+        writes = (let a = l.writes in let b = p.writes in omega arith);
+        snaps = (let a = l.snaps in let b = p.snaps in omega arith);
+      }
+  log_rests session (Some (At place)) e rests p = absurd rests
+
+  log_runs : (session : SessionState) (place : CallPoint) (job : Job) → SessionFits shape session
+      → session.client.call ≡ Some (At place) → slice_get session.jobs session.driver.job ≡ Some job
+      → ListsSo shape whole keys session
+      → ListsWithin whole keys (closed_call shape session.client (Some (At place))).log
+  log_runs session place job fits e here p =
+      let driver = session.driver in
+      let r = runs_of session place job fits e here p in
+      let asked = place_call job driver.nth driver.place in
+      let l = closed_lists shape keys session.client (Some (At place)) r.writes in
+      let left = room_left shape session.jobs driver in
+      let b = is_asking driver.place in
+      let m = mine_paid b left.attempts keys (open_locks session.client.txn) r.mine
+      (λ f. none_locks session.client.txn (p.asks.opened ∙ f)) in
+      let w = closing_paid left.attempts b place session.client.txn r.stands p.asks.opened in
+      let room = (room_suffices shape).1 session.jobs driver asked answer.Nothing p.counts (ap (job_call driver) here) in
+      let paid = subst (λ c. begins_snap place + collects_snap (Some (At place))
+      ≤ (call_room shape c).attempts + (call_room shape c).tidies) r.asked (snap_paid shape place) in
+      let c = ap collects_snap e in
+      let ra = room.1.attempts in
+      let rt = room.1.tidies in
+      record {
+        reads = (let a = l.reads in let h = p.reads in omega arith);
+        locks = (let a = ap length l.locks in let h = p.locks in omega arith);
+        writes = (let a = l.writes in let h = p.writes in omega arith);
+        snaps = (let a = l.snaps in let h = p.snaps in omega arith);
+      }
+
+  log_within : (session : SessionState) → SessionFits shape session → ListsSo shape whole keys session
+      → (now : Option (Now CallPoint Answer)) → session.client.call ≡ now
+      → ListsWithin whole keys (closed_call shape session.client now).log
+  log_within session fits p None e = log_rests session None e tt p
+  log_within session fits p (Some (Over end)) e = log_rests session (Some (Over end)) e tt p
+  log_within session fits p (Some (At place)) e =
+      let job = job_is (slice_get session.jobs session.driver.job) (sym fits.stands ∙ ap is_running e) in
+      log_runs session place job.0 fits e job.1 p
+
+pub lists_within : ListsLaw
+lists_within shape limits worker start jobs policy is fit least keys few session reached =
+    let whole = room_for shape policy jobs in
+    let room = (room_suffices shape).0 policy jobs least in
+    let ra = room.1.attempts in
+    let rt = room.1.tidies in
+    let ro = room.1.ops in
+    let none = (room_left shape jobs (new_driver policy)).attempts + 0 in
+    let m : none * keys ≤ whole.attempts * keys = mul-le-mul_right keys (omega arith) in
+    let s = reached_kept shape limits (ListsSo shape whole keys) (session_lists shape whole keys) worker start jobs policy
+    is fit least record {
+      asks = record { opened = refl; attempt = λ job h. tt; call = λ job h. tt };
+      carries = new_carries worker start;
+      opens = open_new worker start;
+      counts = room.0;
+      few = few;
+      reads = omega arith;
+      writes = omega arith;
+      locks = omega arith;
+      snaps = omega arith;
+    } session reached in
+    log_within shape whole keys session s.0 s.1 session.client.call refl

@@ -42,7 +42,7 @@ fits = (
   (omega arith, omega arith),
   record {
     worker_is = (omega arith, omega arith);
-    placed = ((0, ((omega arith, omega arith), refl)), ((1, ((omega arith, omega arith), refl)), tt));
+    placed = ((0, (omega arith, omega arith), refl), ((1, (omega arith, omega arith), refl), tt));
     written = (refl, (refl, tt));
     guarded = tt;
     wide = (refl, (refl, tt));

@@ -181,23 +181,27 @@ module _ (shape : Shape) (word : ℕ) where
         let place = Beginning txn nth at in
         begin_goes (GoodAt (go client place) place) shape (go client place) txn nth _
         (λ next e. (stays place client.log.events (Some (At (Beginning txn nth next))) tt tt tt tt carries, tt))
-        (λ seen e. (record {
-          opened = record {
-            last_is = refl;
-            took = record {
-              earlier = client.log.locks;
-              listed = sym (append-nil client.log.locks);
-              number = refl;
-              held = omega arith;
+        (λ seen e. (
+          record {
+            opened = record {
+              last_is = refl;
+              took = record {
+                earlier = client.log.locks;
+                listed = sym (append-nil client.log.locks);
+                number = refl;
+                held = omega arith;
+              };
+              point = tt;
             };
-            point = tt;
-          };
-          scanned = tt;
-          collected = tt;
-        }, record { seen = seen; snapshot = e; prefix_is = refl; log = refl; opened = refl }))
-        (λ worker first second e. let d = differs_in shape.workers at word worker first second e in
-        (stays place _ (Some (Over (answer.Again worker first second))) tt tt tt tt carries,
-        (record { again = e; second_is = d.0; differ = d.1 }, refl)))
+            scanned = tt;
+            collected = tt;
+          },
+          record { seen = seen; snapshot = e; prefix_is = refl; log = refl; opened = refl },
+        ))
+        (λ worker first second e. let d = differs_in shape.workers at word worker first second e in (
+          stays place _ (Some (Over (answer.Again worker first second))) tt tt tt tt carries,
+          (record { again = e; second_is = d.0; differ = d.1 }, refl),
+        ))
 
     seek_good : (table key passed : ℕ) → let place = Seeking table key passed in Carries (go client place)
         → GoodAt (go client place) place (call_after shape (go client place) place word)
@@ -219,14 +223,22 @@ module _ (shape : Shape) (word : ℕ) where
         let says = move_says there (cells_by shape there) at word in
         move_goes (GoodAt (go client place) place) shape (go client place) table key position _ _
         (λ next e. (stays place client.log.events (Some (At (Moving table key position next))) tt tt tt tt carries, tt))
-        (λ stamp e. (stays place _ (Some (Over answer.Moved)) tt tt tt tt carries,
-        record { stamp = stamp; claimed = subst Says e says; log = refl }))
-        (λ stamp e. (stays place _ (Some (Over answer.Back)) tt tt tt tt carries,
-        record { stamp = stamp; claimed = subst Says e says; log = refl }))
-        (λ e. (stays place client.log.events (Some (Over answer.Nothing)) tt tt tt tt carries,
-        (subst Says e says, refl)))
-        (λ full e. (stays place _ (Some (Over (answer.NoRoom full))) tt tt tt tt carries,
-        (subst Says e says, refl)))
+        (λ stamp e. (
+          stays place _ (Some (Over answer.Moved)) tt tt tt tt carries,
+          record { stamp = stamp; claimed = subst Says e says; log = refl },
+        ))
+        (λ stamp e. (
+          stays place _ (Some (Over answer.Back)) tt tt tt tt carries,
+          record { stamp = stamp; claimed = subst Says e says; log = refl },
+        ))
+        (λ e. (
+          stays place client.log.events (Some (Over answer.Nothing)) tt tt tt tt carries,
+          (subst Says e says, refl),
+        ))
+        (λ full e. (
+          stays place _ (Some (Over (answer.NoRoom full))) tt tt tt tt carries,
+          (subst Says e says, refl),
+        ))
 
     snap_good : (bucket : ℕ) (at : SnapPoint) → let place = Snapping bucket at in Carries (go client place)
         → GoodAt (go client place) place (call_after shape (go client place) place word)
@@ -234,14 +246,18 @@ module _ (shape : Shape) (word : ℕ) where
         let place = Snapping bucket at in
         snap_goes (GoodAt (go client place) place) shape (go client place) bucket _
         (λ next e. (stays place client.log.events (Some (At (Snapping bucket next))) tt tt tt tt carries, tt))
-        (λ seen e. (record {
-          opened = beside client.last client.log.locks (Some (At place)) _ tt tt client.txn carries.opened;
-          scanned = tt;
-          collected = (refl, (client.log.snaps, refl));
-        }, tt))
-        (λ worker first second e. let d = differs_in shape.workers at word worker first second e in
-        (stays place _ (Some (Over (answer.Again worker first second))) tt tt tt tt carries,
-        (record { again = e; second_is = d.0; differ = d.1 }, refl)))
+        (λ seen e. (
+          record {
+            opened = beside client.last client.log.locks (Some (At place)) _ tt tt client.txn carries.opened;
+            scanned = tt;
+            collected = (refl, (client.log.snaps, refl));
+          },
+          tt,
+        ))
+        (λ worker first second e. let d = differs_in shape.workers at word worker first second e in (
+          stays place _ (Some (Over (answer.Again worker first second))) tt tt tt tt carries,
+          (record { again = e; second_is = d.0; differ = d.1 }, refl),
+        ))
 
     collect_good : (bucket prefix : ℕ) (seen : List ℕ) (at : CollectPoint)
         → let place = Collecting bucket prefix seen at in Carries (go client place)
@@ -249,14 +265,20 @@ module _ (shape : Shape) (word : ℕ) where
     collect_good bucket prefix seen at carries =
         let place = Collecting bucket prefix seen at in
         collect_goes (GoodAt (go client place) place) shape (go client place) bucket prefix seen _
-        (λ next e. (stays place client.log.events (Some (At (Collecting bucket prefix seen next))) tt tt tt
-        carries.collected carries, tt))
-        (λ known e. (stays place _ (Some (Over (answer.Collected known))) tt tt tt tt carries, record {
-          prefix_is = carries.collected.0;
-          earlier = carries.collected.1.0;
-          snaps = carries.collected.1.1;
-          log = refl;
-        }))
+        (λ next e. (
+          stays place client.log.events (Some (At (Collecting bucket prefix seen next))) tt tt tt
+              carries.collected carries,
+          tt,
+        ))
+        (λ known e. (
+          stays place _ (Some (Over (answer.Collected known))) tt tt tt tt carries,
+          record {
+            prefix_is = carries.collected.0;
+            earlier = carries.collected.1.0;
+            snaps = carries.collected.1.1;
+            log = refl;
+          },
+        ))
 
   -- 4. A word of a transaction's call
 
@@ -392,21 +414,23 @@ module _ (shape : Shape) where
       → Good (λ after end. ⊥) (ask_scan shape client table low high opened)
   scan_asked client table low high None rests carries some = absurd (cc)
   scan_asked client table low high (Some attempt) rests carries some =
-      let rest = takes_none client attempt client.call (rests_beside client.call rests) carries in
-      (record {
-        opened = record {
-          last_is = rest.last_is;
-          took = record {
-            earlier = client.log.locks;
-            listed = sym (append-nil client.log.locks);
-            number = rest.locks;
-            held = rest.held;
+      let rest = takes_none client attempt client.call (rests_beside client.call rests) carries in (
+        record {
+          opened = record {
+            last_is = rest.last_is;
+            took = record {
+              earlier = client.log.locks;
+              listed = sym (append-nil client.log.locks);
+              number = rest.locks;
+              held = rest.held;
+            };
+            point = tt;
           };
-          point = tt;
-        };
-        scanned = (tt, tt, omega arith);
-        collected = tt;
-      }, tt)
+          scanned = (tt, tt, omega arith);
+          collected = tt;
+        },
+        tt,
+      )
 
   ask_good : (client : ClientState) (asked : Call) → MayAsk shape client asked → Carries client
       → Good (λ after end. AskTells shape client after asked end) (client_ask shape client asked)

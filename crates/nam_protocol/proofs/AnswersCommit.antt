@@ -132,19 +132,22 @@ module _ (shape : Shape) (client : ClientState) (attempt : Open) (word : ℕ) (T
   goes : (s : TxnState) (next : CommitPoint) (more : List ℕ) → headers ++ more ≡ locks_taken s next
       → s.last ≡ state.last → s.records ≡ state.records → length s.held ≤ length (locks_taken s next)
       → CommitCarries s next → Steps (go s next)
-  goes s next more whole last same held carries = (record {
-    opened = record {
-      last_is = last ∙ f.last_is;
-      took = took_more client.log.locks attempt
-          record attempt {
-            locks = attempt.locks + length (new_locks s (length headers) (locks_taken s next));
-            state = s;
-          } headers more (locks_taken s next) whole same held refl f.took;
-      point = carries;
-    };
-    scanned = tt;
-    collected = tt;
-  }, tt)
+  goes s next more whole last same held carries = (
+    record {
+      opened = record {
+        last_is = last ∙ f.last_is;
+        took = took_more client.log.locks attempt
+            record attempt {
+              locks = attempt.locks + length (new_locks s (length headers) (locks_taken s next));
+              state = s;
+            } headers more (locks_taken s next) whole same held refl f.took;
+        point = carries;
+      };
+      scanned = tt;
+      collected = tt;
+    },
+    tt,
+  )
 
   -- with no more locks
   goes_on : (next : CommitPoint) → headers ≡ locks_taken state next → CommitCarries state next → Steps (go state next)
@@ -180,12 +183,16 @@ module _ (shape : Shape) (client : ClientState) (attempt : Open) (word : ℕ) (T
   given_back held given found same way within in_way =
       let lock = lock_at state (length held) found in
       give_back_goes (λ now. Steps (on_lock state now)) (places state) held given found
-      (λ e locked. closes (txn_answer.Locked lock) (record { opened = tt; scanned = tt; collected = tt },
-      f.tells _ (txn_answer.Locked lock)
-      (missed held found lock true (outcome.Locked lock) same way within in_way refl locked _ refl)))
-      (λ e free. closes (txn_answer.Newer lock) (record { opened = tt; scanned = tt; collected = tt },
-      f.tells _ (txn_answer.Newer lock)
-      (missed held found lock false (outcome.Newer lock) same way within in_way refl free _ refl)))
+      (λ e locked. closes (txn_answer.Locked lock) (
+        record { opened = tt; scanned = tt; collected = tt },
+        f.tells _ (txn_answer.Locked lock)
+            (missed held found lock true (outcome.Locked lock) same way within in_way refl locked _ refl),
+      ))
+      (λ e free. closes (txn_answer.Newer lock) (
+        record { opened = tt; scanned = tt; collected = tt },
+        f.tells _ (txn_answer.Newer lock)
+            (missed held found lock false (outcome.Newer lock) same way within in_way refl free _ refl),
+      ))
       (λ e. goes_on (Locking (GiveBack held given found)) same in_way)
 
   -- 4. The end
@@ -193,9 +200,11 @@ module _ (shape : Shape) (client : ClientState) (attempt : Open) (word : ℕ) (T
   freed : (nth : ℕ) → headers ≡ state.held → Steps (next_free state nth)
   freed nth same =
       next_free_goes Steps state nth
-      (λ e. closes (txn_answer.Committed (state.last + 1)) (record { opened = tt; scanned = tt; collected = tt },
-      f.tells _ (txn_answer.Committed (state.last + 1))
-      record { next = ap (λ n. n + 1) f.last_is; last = refl; log = refl }))
+      (λ e. closes (txn_answer.Committed (state.last + 1)) (
+        record { opened = tt; scanned = tt; collected = tt },
+        f.tells _ (txn_answer.Committed (state.last + 1))
+            record { next = ap (λ n. n + 1) f.last_is; last = refl; log = refl },
+      ))
       (λ e. goes_on (Freeing nth) same tt)
 
 -- 5. Each point
@@ -298,23 +307,28 @@ module _ (shape : Shape) (client : ClientState) (attempt : Open) (word : ℕ) (T
       let none = rest.locks in
       ask_commit_goes (λ step. Good Tells (stepped client attempt 0 step)) s shape
       (λ e. subst (Good Tells)
-      (sym (quiet_over client attempt 0 record s { read = None } txn_answer.ReadOnly rest.held))
-      (record { opened = tt; scanned = tt; collected = tt },
-      tells _ txn_answer.ReadOnly (eqb-true (length s.writes) 0 e, refl)))
+      (sym (quiet_over client attempt 0 record s { read = None } txn_answer.ReadOnly rest.held)) (
+        record { opened = tt; scanned = tt; collected = tt },
+        tells _ txn_answer.ReadOnly (eqb-true (length s.writes) 0 e, refl),
+      ))
       (λ some e. subst (Good Tells)
-      (sym (quiet_over client attempt 0 record s { read = None } txn_answer.Spent rest.held))
-      (record { opened = tt; scanned = tt; collected = tt },
-      tells _ txn_answer.Spent (
-        (let n = eqb-false (length s.writes) 0 some in omega arith),
-        sym rest.last_is ∙ eqb-true s.last (greatest_number shape.form) e,
-        refl,
-      )))
-      (λ some free. (record {
-        opened = record {
-          last_is = rest.last_is;
-          took = record { earlier = client.log.locks; listed = refl; number = omega arith; held = omega arith };
-          point = tt;
-        };
-        scanned = tt;
-        collected = tt;
-      }, tt))
+      (sym (quiet_over client attempt 0 record s { read = None } txn_answer.Spent rest.held)) (
+        record { opened = tt; scanned = tt; collected = tt },
+        tells _ txn_answer.Spent (
+          (let n = eqb-false (length s.writes) 0 some in omega arith),
+          sym rest.last_is ∙ eqb-true s.last (greatest_number shape.form) e,
+          refl,
+        ),
+      ))
+      (λ some free. (
+        record {
+          opened = record {
+            last_is = rest.last_is;
+            took = record { earlier = client.log.locks; listed = refl; number = omega arith; held = omega arith };
+            point = tt;
+          };
+          scanned = tt;
+          collected = tt;
+        },
+        tt,
+      ))

@@ -204,48 +204,57 @@ module _ (shape : Shape) (client : ClientState) (attempt : Open) (rest : TakesNo
 
   stays : (s : TxnState) (place : TxnPoint) → SameHeld attempt.state s → IsOperation place → PointCarries s place
       → Steps (at s place)
-  stays s (Finding op passed) same is carries = (record {
-    opened = record {
-      last_is = same.last ∙ rest.last_is;
-      took = record {
-        earlier = client.log.locks;
-        listed = refl;
-        number = (let l = rest.locks in omega arith);
-        held = held_in s same;
+  stays s (Finding op passed) same is carries = (
+    record {
+      opened = record {
+        last_is = same.last ∙ rest.last_is;
+        took = record {
+          earlier = client.log.locks;
+          listed = refl;
+          number = (let l = rest.locks in omega arith);
+          held = held_in s same;
+        };
+        point = tt;
       };
-      point = tt;
-    };
-    scanned = tt;
-    collected = tt;
-  }, tt)
-  stays s (Reading op position place) same is carries = (record {
-    opened = record {
-      last_is = same.last ∙ rest.last_is;
-      took = record {
-        earlier = client.log.locks;
-        listed = refl;
-        number = (let l = rest.locks in omega arith);
-        held = held_in s same;
+      scanned = tt;
+      collected = tt;
+    },
+    tt,
+  )
+  stays s (Reading op position place) same is carries = (
+    record {
+      opened = record {
+        last_is = same.last ∙ rest.last_is;
+        took = record {
+          earlier = client.log.locks;
+          listed = refl;
+          number = (let l = rest.locks in omega arith);
+          held = held_in s same;
+        };
+        point = tt;
       };
-      point = tt;
-    };
-    scanned = tt;
-    collected = tt;
-  }, tt)
-  stays s (Claiming op place) same is carries = (record {
-    opened = record {
-      last_is = same.last ∙ rest.last_is;
-      took = record {
-        earlier = client.log.locks;
-        listed = refl;
-        number = (let l = rest.locks in omega arith);
-        held = held_in s same;
+      scanned = tt;
+      collected = tt;
+    },
+    tt,
+  )
+  stays s (Claiming op place) same is carries = (
+    record {
+      opened = record {
+        last_is = same.last ∙ rest.last_is;
+        took = record {
+          earlier = client.log.locks;
+          listed = refl;
+          number = (let l = rest.locks in omega arith);
+          held = held_in s same;
+        };
+        point = carries;
       };
-      point = carries;
-    };
-    scanned = tt;
-    collected = tt;
-  }, tt)
+      scanned = tt;
+      collected = tt;
+    },
+    tt,
+  )
   stays s (Committing place) same is carries = absurd is
 
   answered : (s : TxnState) (end : TxnAnswer) → SameHeld attempt.state s
@@ -265,43 +274,45 @@ module _ (shape : Shape) (client : ClientState) (attempt : Open) (rest : TakesNo
         → Steps (over s (answer_of op value))
     passed pass writes guards tells =
         answered s (answer_of op value) same
-        (passed_answer (λ c end. Good Tells (with_answer c (client_answer.Txn end))) client later op value
-        (record {
-          opened = record {
-            last_is = same.last ∙ rest.last_is;
-            took = record {
-              earlier = client.log.locks;
-              listed = sym (append-nil client.log.locks);
-              number = rest.locks;
-              held = held_in s same;
+        (passed_answer (λ c end. Good Tells (with_answer c (client_answer.Txn end))) client later op value (
+          record {
+            opened = record {
+              last_is = same.last ∙ rest.last_is;
+              took = record {
+                earlier = client.log.locks;
+                listed = sym (append-nil client.log.locks);
+                number = rest.locks;
+                held = held_in s same;
+              };
+              point = tt;
             };
-            point = tt;
-          };
-          scanned = tt;
-          collected = tt;
-        },
-        tells (with_answer (read_listed client later (items_of s.read)) (client_answer.Txn (answer_of op value))) record {
-          passes = pass;
-          answer = refl;
-          log = ap (with_reads client.log) read;
-          state = s;
-          opened = ap (λ items. Some (with_read later items)) read;
-          writes = writes;
-          guards = guards;
-        }))
+            scanned = tt;
+            collected = tt;
+          },
+          tells (with_answer (read_listed client later (items_of s.read)) (client_answer.Txn (answer_of op value))) record {
+            passes = pass;
+            answer = refl;
+            log = ap (with_reads client.log) read;
+            state = s;
+            opened = ap (λ items. Some (with_read later items)) read;
+            writes = writes;
+            guards = guards;
+          },
+        ))
 
     declined : passes op (holding value) ≡ false
         → ((after : ClientState) → OpDeclined client after attempt op value
         → Tells after (client_answer.Txn txn_answer.Declined))
         → Steps (over s txn_answer.Declined)
     declined fails tells =
-        answered s txn_answer.Declined same
-        (record { opened = tt; scanned = tt; collected = tt },
-        tells _ record {
-          declines = fails;
-          log = ap (λ items. with_event (with_reads client.log items)
-              (attempt_of (with_read attempt items) (outcome.Declined attempt.ops) 0)) read;
-        })
+        answered s txn_answer.Declined same (
+          record { opened = tt; scanned = tt; collected = tt },
+          tells _ record {
+            declines = fails;
+            log = ap (λ items. with_event (with_reads client.log items)
+                (attempt_of (with_read attempt items) (outcome.Declined attempt.ops) 0)) read;
+          },
+        )
 
 -- 6. What one that passes tells
 
@@ -384,10 +395,11 @@ module _ (shape : Shape) (client : ClientState) (attempt : Open) (rest : TakesNo
       (λ next e. stays shape client attempt rest Tells state (Reading op position next) same_held tt tt)
       (λ value e. valued word (Reading op position at) tells value e)
       (λ worker entry horizon e. let facts = passed_facts sight state.seen at word worker entry horizon e in
-      answered shape client attempt rest Tells state (txn_answer.TooOld worker entry horizon) same_held
-      (record { opened = tt; scanned = tt; collected = tt },
-      tells _ (txn_answer.TooOld worker entry horizon)
-      record { entry_is = facts.0; horizon_is = facts.1; above = facts.2; log = refl }))
+      answered shape client attempt rest Tells state (txn_answer.TooOld worker entry horizon) same_held (
+        record { opened = tt; scanned = tt; collected = tt },
+        tells _ (txn_answer.TooOld worker entry horizon)
+            record { entry_is = facts.0; horizon_is = facts.1; above = facts.2; log = refl },
+      ))
       (λ e. answered shape client attempt rest Tells state txn_answer.Astray same_held
       (record { opened = tt; scanned = tt; collected = tt }, tells _ txn_answer.Astray refl))
 
@@ -397,14 +409,19 @@ module _ (shape : Shape) (client : ClientState) (attempt : Open) (rest : TakesNo
       let value = value_in state.read in
       on_claim_goes shape OpSteps op state _
       (λ next e. stays shape client attempt rest Tells state (Claiming op next) same_held tt decided)
-      (λ e. answered shape client attempt rest Tells state (txn_answer.NoSpace (op_key op).table) same_held
-      (record { opened = tt; scanned = tt; collected = tt },
-      tells _ (txn_answer.NoSpace (op_key op).table) (value, refl, record {
-        passes = decided.passes;
-        table_is = refl;
-        log = ap (λ items. with_event (with_reads client.log items)
-            (attempt_of (with_read attempt items) (outcome.NoSpace (op_key op).table) 0)) decided.read;
-      })))
+      (λ e. answered shape client attempt rest Tells state (txn_answer.NoSpace (op_key op).table) same_held (
+        record { opened = tt; scanned = tt; collected = tt },
+        tells _ (txn_answer.NoSpace (op_key op).table) (
+          value,
+          refl,
+          record {
+            passes = decided.passes;
+            table_is = refl;
+            log = ap (λ items. with_event (with_reads client.log items)
+                (attempt_of (with_read attempt items) (outcome.NoSpace (op_key op).table) 0)) decided.read;
+          },
+        ),
+      ))
       (λ position e. passed shape client attempt rest Tells (after_claim shape state op position) op value
       record { last = refl; held = refl } decided.read decided.passes refl refl
       (λ after told. tells after (answer_of op value)

@@ -118,40 +118,44 @@ module _ (shape : Shape) (attempt : Open) (table low high word : ℕ) (before : 
 
   goes_on : (client : ClientState) (place : ScanPoint) → TakesNone client attempt → AreBetween low high client.scanned
       → length client.scanned ≤ position_of place → KeyBetween low high place → Good Tells (go (opens client) (Scanning table low high place))
-  goes_on client place rest rows few between = (record {
-    opened = record {
-      last_is = rest.last_is;
-      took = record {
-        earlier = client.log.locks;
-        listed = sym (append-nil client.log.locks);
-        number = rest.locks;
-        held = rest.held;
+  goes_on client place rest rows few between = (
+    record {
+      opened = record {
+        last_is = rest.last_is;
+        took = record {
+          earlier = client.log.locks;
+          listed = sym (append-nil client.log.locks);
+          number = rest.locks;
+          held = rest.held;
+        };
+        point = tt;
       };
-      point = tt;
-    };
-    scanned = (rows, between, few);
-    collected = tt;
-  }, tt)
+      scanned = (rows, between, few);
+      collected = tt;
+    },
+    tt,
+  )
 
   lists : (client : ClientState) → client.log ≡ before.log → TakesNone client attempt
       → AreBetween low high client.scanned → length client.scanned ≤ capacity_of shape table
       → Good Tells (scan_listed (opens client) attempt table)
-  lists client log rest rows few =
-      (record {
-        opened = record {
-          last_is = rest.last_is;
-          took = record {
-            earlier = client.log.locks;
-            listed = sym (append-nil client.log.locks);
-            number = rest.locks;
-            held = rest.held;
-          };
-          point = tt;
+  lists client log rest rows few = (
+    record {
+      opened = record {
+        last_is = rest.last_is;
+        took = record {
+          earlier = client.log.locks;
+          listed = sym (append-nil client.log.locks);
+          number = rest.locks;
+          held = rest.held;
         };
-        scanned = tt;
-        collected = tt;
-      },
-      (record {
+        point = tt;
+      };
+      scanned = tt;
+      collected = tt;
+    },
+    (
+      record {
         items = scanned_items table client.scanned;
         number_is = refl;
         between =
@@ -161,8 +165,10 @@ module _ (shape : Shape) (attempt : Open) (table low high word : ℕ) (before : 
         opened = refl;
       },
       (let sorted = length_sorted [] client.scanned in
-      let mapped = length-map (sorted_onto [] client.scanned) (item_of table) in
-      omega arith)))
+          let mapped = length-map (sorted_onto [] client.scanned) (item_of table) in
+          omega arith),
+    ),
+  )
 
   skips : (client : ClientState) → client.log ≡ before.log → TakesNone client attempt
       → AreBetween low high client.scanned → (position : ℕ) → length client.scanned ≤ position + 1
@@ -204,13 +210,16 @@ module _ (shape : Shape) (attempt : Open) (table low high word : ℕ) (before : 
       gathered client log rest rows position item.key few within says item.value
   scan_good client log rest rows position few within (Over scan_answer.Done) says =
       lists client log rest rows (omega arith)
-  scan_good client log rest rows position few within (Over (scan_answer.TooOld worker entry horizon)) says =
-      (record { opened = tt; scanned = tt; collected = tt }, record {
-        entry_is = says.0;
-        horizon_is = says.1;
-        above = says.2;
-        log = ap (λ l. with_event l (attempt_of attempt (outcome.TooOld worker entry horizon) 0)) log;
-      })
-  scan_good client log rest rows position few within (Over scan_answer.Astray) says =
-      (record { opened = tt; scanned = tt; collected = tt },
-      ap (λ l. with_event l (attempt_of attempt outcome.Left 0)) log)
+  scan_good client log rest rows position few within (Over (scan_answer.TooOld worker entry horizon)) says = (
+    record { opened = tt; scanned = tt; collected = tt },
+    record {
+      entry_is = says.0;
+      horizon_is = says.1;
+      above = says.2;
+      log = ap (λ l. with_event l (attempt_of attempt (outcome.TooOld worker entry horizon) 0)) log;
+    },
+  )
+  scan_good client log rest rows position few within (Over scan_answer.Astray) says = (
+    record { opened = tt; scanned = tt; collected = tt },
+    ap (λ l. with_event l (attempt_of attempt outcome.Left 0)) log,
+  )

@@ -18,7 +18,7 @@ use Rattle.nam_protocol.specs.AskedLaw.{DriverAsksLaw, attempt_calls, calls_unti
 use Rattle.nam_protocol.specs.Driver.{call_of, driver_next, driver_take, job_call, on_ask, on_begin, on_txn, op_call}
 use Rattle.nam_protocol.specs.Driver.{place_call, place_taken}
 use Rattle.nam_protocol.specs.SessionKeeps.{is_asking}
-use Rattle.nam_protocol.proofs.EventsSession.{Rests, commit_rests, full_rests, retried_rests}
+use Rattle.nam_protocol.proofs.OpensDriver.{Rests, commit_rests, full_rests, retried_rests}
 use Rattle.nam_protocol.specs.declared.client.Answer.TheVariants as answer
 use Rattle.nam_protocol.specs.declared.client.Call.TheVariants as call
 use Rattle.nam_protocol.specs.declared.txn.TxnAnswer.TheVariants as txn_answer
@@ -125,9 +125,11 @@ module _ (jobs : List Job) (job : Job) where
       → driver.place ≡ ToAsk nth → nth + length answers ≤ length job.ops
       → IsFront (calls_until_over jobs driver answers) (drop nth op_calls)
   asks_on [] driver nth here at l =
-      let n = next_is job.ops nth (omega arith) in
-      (n.0, ap (λ o. listed_call o ++ n.0)
-      (ap (job_call driver) here ∙ ap (λ place. Some (place_call job driver.nth place)) at) ∙ sym n.1)
+      let n = next_is job.ops nth (omega arith) in (
+        n.0,
+        ap (λ o. listed_call o ++ n.0)
+            (ap (job_call driver) here ∙ ap (λ place. Some (place_call job driver.nth place)) at) ∙ sym n.1,
+      )
   asks_on (end ∷ ends) driver nth here at l =
       let n = next_is job.ops nth (omega arith) in
       let next = driver_take jobs driver end in
@@ -143,9 +145,11 @@ module _ (jobs : List Job) (job : Job) where
       (λ rests. absurd (false≢true (sym rests ∙ asking))) goes)
 
 pub driver_asks : DriverAsksLaw
-driver_asks jobs driver job [] here at l =
-    (op_calls jobs job, ap (λ o. listed_call o ++ op_calls jobs job)
-    (ap (job_call driver) here ∙ ap (λ place. Some (place_call job driver.nth place)) at))
+driver_asks jobs driver job [] here at l = (
+  op_calls jobs job,
+  ap (λ o. listed_call o ++ op_calls jobs job)
+      (ap (job_call driver) here ∙ ap (λ place. Some (place_call job driver.nth place)) at),
+)
 driver_asks jobs driver job (end ∷ ends) here at l =
     let next = driver_take jobs driver end in
     let goes = subst (λ place. GoesTo driver 0 (place_taken jobs driver place end)) (sym at)

@@ -45,7 +45,7 @@ use Rattle.nam_protocol.specs.TxnCalls.{txn_after}
 use Rattle.nam_protocol.proofs.AskedDriver.{GoesTo, ask_goes_to, begin_goes_to}
 use Rattle.nam_protocol.proofs.EndsDriver.{AsksFrom}
 use Rattle.nam_protocol.proofs.EndsSession.{is_open}
-use Rattle.nam_protocol.proofs.EventsSession.{Rests, asks_after, needs_open, tidying_rests}
+use Rattle.nam_protocol.proofs.OpensDriver.{Rests, asks_after, needs_open, tidying_rests}
 use Rattle.nam_protocol.proofs.GoesClient.{begin_goes, collect_goes, move_goes, on_answer_goes, scan_goes, seek_goes}
 use Rattle.nam_protocol.proofs.GoesClient.{snap_goes, step_lists, step_opens, stepped_goes}
 use Rattle.nam_protocol.proofs.GoesCommit.{ask_commit_goes, commit_goes}

@@ -60,7 +60,7 @@ use Rattle.nam_protocol.proofs.EndsDriver.{AsksFrom, calls_from}
 use Rattle.nam_protocol.proofs.EndsSession.{IsReady, asks, is_open, new_ready, new_session_ends, nth_holds}
 use Rattle.nam_protocol.proofs.EndsSession.{session_cut_ends, session_word, taken_ready, takes_word}
 use Rattle.nam_protocol.proofs.EventsClient.{ask_lists, word_lists}
-use Rattle.nam_protocol.proofs.EventsSession.{asks_after, needs_open}
+use Rattle.nam_protocol.proofs.OpensDriver.{asks_after, needs_open}
 use Rattle.nam_protocol.proofs.FallsKeys.{all_at}
 use Rattle.nam_protocol.proofs.GoesClient.{begin_goes, collect_goes, move_goes, on_answer_goes, scan_goes, seek_goes}
 use Rattle.nam_protocol.proofs.GoesClient.{snap_goes, step_lists, step_opens, stepped_goes}

@@ -33,6 +33,7 @@ pub mod EndsSession
 pub mod EndsWorld
 pub mod RoomDriver
 pub mod EventsClient
+pub mod OpensDriver
 pub mod EventsSession
 pub mod GoesParts
 pub mod GoesTxn

@@ -52,7 +52,7 @@ use Rattle.nam_protocol.proofs.ListsClient.{closing_writes, rests_snap, word_sam
 use Rattle.nam_protocol.proofs.AskedSession.{AsksSo, NowOf, job_is, session_asks}
 use Rattle.nam_protocol.proofs.AnswersClient.{answers_tell, asked_carries, cut_carries, new_carries, word_carries}
 use Rattle.nam_protocol.proofs.EndsSession.{IsReady, nth_holds}
-use Rattle.nam_protocol.proofs.EventsSession.{asks_after}
+use Rattle.nam_protocol.proofs.OpensDriver.{asks_after, one, one_at_most}
 use Rattle.nam_protocol.proofs.GoesSession.{NextHolds, SessionKeeps, Steps, reached_kept}
 use Rattle.nam_protocol.proofs.KeptSession.{may_ask}
 use Rattle.nam_protocol.proofs.OpenLemmas.{open_asked, open_new, open_word}
@@ -170,11 +170,6 @@ rests_locks last locks (Some (At place)) (Some attempt) rests carries = absurd r
 
 -- 2. Attempts
 
--- the attempt that is open
-abbrev one : Bool → ℕ
-one true = 1
-one false = 0
-
 one_more : (a k : ℕ) → (a + 1) * k ≡ a * k + k
 one_more a k = ap (λ n. n * k) (add-one a) ∙ suc-mul a k
 
@@ -212,10 +207,6 @@ locks_paid false c left later all keys listed mine then_mine least less few none
 mine_paid : (b : Bool) (left keys mine : ℕ) → mine ≤ keys → (b ≡ false → mine ≡ 0) → mine ≤ (left + one b) * keys
 mine_paid true left keys mine few none = let o = one_more left keys in omega arith
 mine_paid false left keys mine few none = let n = none refl in omega arith
-
-one_at_most : (b : Bool) → one b ≤ 1
-one_at_most true = omega arith
-one_at_most false = omega arith
 
 none_locks : (opened : Option Open) → is_some opened ≡ false → open_locks opened ≡ 0
 none_locks None e = refl

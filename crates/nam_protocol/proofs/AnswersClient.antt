@@ -1,10 +1,9 @@
 -- Each word that a client takes, and each call that it is asked, keeps what the client carries, and its answer tells.
 use Rattle.std.specs.Prelude.{IsSome, slice_index}
-use Rattle.std.proofs.Common.{◌≡◌, ◌≢◌, ℕ, ◌+◌, ◌<◌, ◌≤◌, true, false, List, [], ◌∷◌, ◌++◌, length, Option, Some, None}
-use Rattle.std.proofs.Common.{refl, sym, subst, ap, ◌∙◌, append-nil, arith}
+use Rattle.std.proofs.Common.{◌≡◌, ◌≢◌, ℕ, ◌+◌, ◌<◌, true, List, [], Option, Some, None}
+use Rattle.std.proofs.Common.{refl, sym, subst, ◌∙◌, append-nil, arith}
 use Rattle.si_model.specs.declared.log.Lock.{Lock}
 use Rattle.si_model.specs.declared.log.Event.{Event}
-use Rattle.si_model.specs.declared.log.Event.TheVariants.{NoRoom}
 use Rattle.si_model.specs.declared.op.Op.TheVariants as op
 use Rattle.nam_verbs.specs.declared.now.Now.{Now}
 use Rattle.nam_verbs.specs.declared.now.Now.TheVariants.{At, Over}
@@ -13,7 +12,7 @@ use Rattle.nam_catalog.specs.declared.shape.Shape.{Shape}
 use Rattle.nam_header.specs.Stamp.{is_moved}
 use Rattle.nam_layout.specs.declared.field.Cells.{Cells}
 use Rattle.nam_layout.specs.declared.field.Place.{Place}
-use Rattle.nam_layout.specs.Place.{bucket_of, cells_by, place_of}
+use Rattle.nam_layout.specs.Place.{cells_by, place_of}
 use Rattle.nam_vector.specs.declared.snap.SnapEnd.{SnapEnd}
 use Rattle.nam_vector.specs.declared.snap.SnapPoint.{SnapPoint}
 use Rattle.nam_vector.specs.declared.snap.SnapPoint.TheVariants.{First, Second}
@@ -48,7 +47,6 @@ use Rattle.nam_protocol.specs.Carries.{AttemptCarries, Carries, CollectCarries, 
 use Rattle.nam_protocol.specs.Carries.{headers_in}
 use Rattle.nam_protocol.specs.Client.{abandon_open, after_call, ask_scan, ask_txn, call_after, client_abandon}
 use Rattle.nam_protocol.specs.Client.{client_after, client_ask, take_scan, take_txn, with_call}
-use Rattle.nam_protocol.specs.Log.{with_event}
 use Rattle.nam_protocol.specs.ClientFits.{CallPointFits, ClientFits, NowFits, OpenPointFits}
 use Rattle.nam_protocol.specs.CutClient.{client_cut}
 use Rattle.nam_protocol.specs.Own.{MayAsk, Rests}

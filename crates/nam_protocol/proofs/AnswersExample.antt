@@ -1,5 +1,5 @@
 -- A client to whose answer the law of answers applies: a commit that gives a lock back, the second record being locked.
-use Rattle.std.proofs.Common.{◌≡◌, ℕ, ◌+◌, true, [], ◌∷◌, length, Some, inl, refl, arith}
+use Rattle.std.proofs.Common.{◌≡◌, [], ◌∷◌, Some, inl, refl, arith}
 use Rattle.nam_verbs.specs.declared.now.Now.TheVariants.{At}
 use Rattle.nam_catalog.specs.declared.form.Form.TheVariants.{Narrow}
 use Rattle.nam_header.specs.Stamp.{with_lock}

@@ -1,6 +1,6 @@
 -- The call that runs in a session is the one that its driver asks, and the open transaction is its driver's try.
-use Rattle.std.proofs.Common.{◌≡◌, ◌⊎◌, inl, inr, ⊎_elim, ℕ, zero, suc, ◌+◌, ◌≤◌, Bool, true, false, List, [], ◌∷◌, ◌++◌}
-use Rattle.std.proofs.Common.{length, take, Option, Some, None, refl, sym, ap, subst, ◌∙◌, arith}
+use Rattle.std.proofs.Common.{◌≡◌, inr, ⊎_elim, ℕ, zero, suc, ◌+◌, Bool, true, false, List, [], ◌∷◌}
+use Rattle.std.proofs.Common.{length, take, Option, Some, None, refl, sym, ap, subst, ◌∙◌}
 use Rattle.std.proofs.lemmas.Bool.{false≢true}
 use Rattle.std.proofs.Math.Numerals.{add-one}
 use Rattle.std.proofs.lemmas.List.{length_push}
@@ -23,29 +23,23 @@ use Rattle.nam_protocol.specs.declared.session.DriverPoint.TheVariants.{ToBegin,
 use Rattle.nam_protocol.specs.declared.session.DriverState.{DriverState}
 use Rattle.nam_protocol.specs.declared.session.Job.{Job}
 use Rattle.nam_protocol.specs.declared.session.SessionState.{SessionState}
-use Rattle.nam_protocol.specs.declared.txn.CommitPoint.{CommitPoint}
-use Rattle.nam_protocol.specs.declared.txn.TxnCall.{TxnCall}
 use Rattle.nam_protocol.specs.declared.txn.TxnCall.TheVariants.{Get, Put, Add, Del, Need, Guard, Commit}
 use Rattle.nam_protocol.specs.declared.txn.TxnPoint.{TxnPoint}
 use Rattle.nam_protocol.specs.declared.txn.TxnPoint.TheVariants.{Finding, Reading, Claiming, Committing}
-use Rattle.nam_protocol.specs.AskedLaw.{IsTry, RunsAsked, SessionAsksLaw, call_at, ops_asked}
-use Rattle.nam_protocol.specs.Client.{ask_scan, ask_txn, call_after, client_after, client_ask, take_scan, take_txn}
+use Rattle.nam_protocol.specs.AskedLaw.{IsTry, SessionAsksLaw, call_at, ops_asked}
+use Rattle.nam_protocol.specs.Client.{call_after, client_after, client_ask, take_scan, take_txn}
 use Rattle.nam_protocol.specs.Client.{after_call, with_call}
-use Rattle.nam_protocol.specs.ClientEvents.{NeedsOpen, NowLists, is_open_after}
+use Rattle.nam_protocol.specs.ClientEvents.{NowLists, is_open_after}
 use Rattle.nam_protocol.specs.ClientFits.{CallPointFits, NowFits}
-use Rattle.nam_protocol.specs.Commit.{ask_commit, commit_after, locks_taken}
-use Rattle.nam_protocol.specs.CutClient.{client_cut}
-use Rattle.nam_protocol.specs.Driver.{call_of, driver_take, job_call, on_tidy, op_call, place_call, place_taken}
-use Rattle.nam_protocol.specs.Session.{taken}
+use Rattle.nam_protocol.specs.Commit.{ask_commit}
+use Rattle.nam_protocol.specs.Driver.{call_of, driver_take, job_call, op_call, place_call, place_taken}
 use Rattle.nam_protocol.specs.SessionFits.{NowRuns, PlaceRuns, SessionFits, is_running, ops_of}
 use Rattle.nam_protocol.specs.SessionKeeps.{OpensAsked, is_asking}
 use Rattle.nam_protocol.specs.Telling.{stepped}
 use Rattle.nam_protocol.specs.Txn.{Stepped, ask_op}
 use Rattle.nam_protocol.specs.TxnCalls.{txn_after}
 use Rattle.nam_protocol.proofs.AskedDriver.{GoesTo, ask_goes_to, begin_goes_to}
-use Rattle.nam_protocol.proofs.EndsDriver.{AsksFrom}
-use Rattle.nam_protocol.proofs.EndsSession.{is_open}
-use Rattle.nam_protocol.proofs.OpensDriver.{Rests, asks_after, needs_open, tidying_rests}
+use Rattle.nam_protocol.proofs.OpensDriver.{asks_after, tidying_rests}
 use Rattle.nam_protocol.proofs.GoesClient.{begin_goes, collect_goes, move_goes, on_answer_goes, scan_goes, seek_goes}
 use Rattle.nam_protocol.proofs.GoesClient.{snap_goes, step_lists, step_opens, stepped_goes}
 use Rattle.nam_protocol.proofs.GoesCommit.{ask_commit_goes, commit_goes}

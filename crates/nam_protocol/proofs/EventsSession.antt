@@ -1,23 +1,11 @@
 -- A session lists no more events than the room for its jobs has.
-use Rattle.std.proofs.Common.{◌≡◌, ℕ, zero, suc, ◌+◌, ◌≤◌, List, [], ◌∷◌, length, take, refl, sym, ◌∙◌, ap}
-use Rattle.std.proofs.Common.{subst, arith, Bool, true, false, not, Option, Some, None}
-use Rattle.std.specs.Prelude.{◌==◌, ◌||◌, if◌then◌else◌, slice_get, is_some, IsSome}
-use Rattle.std.specs.List.{AllByRecursion}
-use Rattle.si_model.specs.declared.row.Key.{Key}
+use Rattle.std.proofs.Common.{◌≡◌, ℕ, ◌+◌, ◌≤◌, List, length, refl, sym, ◌∙◌, ap}
+use Rattle.std.proofs.Common.{arith, true, Option, Some, None}
+use Rattle.std.specs.Prelude.{slice_get, is_some}
 use Rattle.si_model.specs.declared.op.Op.{Op}
-use Rattle.si_model.specs.declared.op.Policy.{Policy}
-use Rattle.si_model.specs.declared.log.Lock.{Lock}
-use Rattle.si_model.specs.Rows.{key_at}
-use Rattle.si_model.specs.declared.op.Op.TheVariants as op
 use Rattle.nam_verbs.specs.declared.now.Now.{Now}
 use Rattle.nam_verbs.specs.declared.now.Now.TheVariants.{At, Over}
-use Rattle.nam_verbs.specs.VerbAt.{VerbAt}
 use Rattle.nam_catalog.specs.declared.shape.Shape.{Shape}
-use Rattle.nam_catalog.specs.Fits.{FitsLimits}
-use Rattle.nam_layout.specs.declared.field.Field.{Field}
-use Rattle.nam_calls.specs.Fits.{IsOf}
-use Rattle.nam_calls.proofs.FallsTests.{either}
-use Rattle.nam_protocol.specs.declared.txn.TxnAnswer.{TxnAnswer}
 use Rattle.nam_protocol.specs.declared.txn.TxnPoint.{TxnPoint}
 use Rattle.nam_protocol.specs.declared.client.Answer.{Answer}
 use Rattle.nam_protocol.specs.declared.client.CallPoint.{CallPoint}
@@ -28,38 +16,24 @@ use Rattle.nam_protocol.specs.declared.client.ClientState.{ClientState}
 use Rattle.nam_protocol.specs.declared.session.Job.{Job}
 use Rattle.nam_protocol.specs.declared.session.DriverPoint.{DriverPoint}
 use Rattle.nam_protocol.specs.declared.session.DriverPoint.TheVariants.{ToBegin, ToAsk, ToTidy, ToCollect}
-use Rattle.nam_protocol.specs.declared.session.DriverState.{DriverState}
 use Rattle.nam_protocol.specs.declared.session.SessionState.{SessionState}
-use Rattle.nam_protocol.specs.Telling.{new_client}
 use Rattle.nam_protocol.specs.Client.{client_ask, client_after}
-use Rattle.nam_protocol.specs.CutClient.{client_cut}
-use Rattle.nam_protocol.specs.ClientFits.{ClientFits}
-use Rattle.nam_protocol.specs.Session.{answer_now, calls_at_most, taken, settle, session_verb, session_after}
+use Rattle.nam_protocol.specs.Session.{taken}
 use Rattle.nam_protocol.specs.Session.{session_log}
-use Rattle.nam_protocol.specs.Session.{has_ended, session_cut}
-use Rattle.nam_protocol.specs.Driver.{new_driver, op_call, place_call, job_call, driver_next, next_job, next_try}
-use Rattle.nam_protocol.specs.Driver.{retried, tidying, on_full, keys_of_job, on_commit, on_txn, on_begin, on_ask}
-use Rattle.nam_protocol.specs.Driver.{on_tidy}
-use Rattle.nam_protocol.specs.Driver.{place_taken}
-use Rattle.nam_protocol.specs.Left.{Room, room_for}
-use Rattle.nam_protocol.specs.AttemptLaw.{has_passed}
-use Rattle.nam_protocol.specs.SessionFits.{PlaceRuns, DriverFits}
-use Rattle.nam_protocol.specs.SessionFits.{NowRuns, ops_of, JobFits, SessionFits}
-use Rattle.nam_protocol.specs.RoomLaw.{call_room, DriverCounts, room_left}
+use Rattle.nam_protocol.specs.Driver.{place_call, job_call, driver_next}
+use Rattle.nam_protocol.specs.Left.{room_for}
+use Rattle.nam_protocol.specs.SessionFits.{PlaceRuns}
+use Rattle.nam_protocol.specs.SessionFits.{NowRuns, ops_of, SessionFits}
+use Rattle.nam_protocol.specs.RoomLaw.{DriverCounts, room_left}
 use Rattle.nam_protocol.specs.SessionKeeps.{is_asking}
-use Rattle.nam_protocol.specs.ClientEvents.{listed, is_open_after, NowLists, ClientLists, NeedsOpen, closing}
-use Rattle.nam_protocol.specs.EventsLaw.{IsReached, is_new, by_word, by_cut, EventsLaw}
+use Rattle.nam_protocol.specs.ClientEvents.{listed, is_open_after, NowLists, closing}
+use Rattle.nam_protocol.specs.EventsLaw.{EventsLaw}
 use Rattle.nam_protocol.proofs.OpensDriver.{asks_after, is_paid, one, one_at_most}
-use Rattle.nam_protocol.proofs.GoesSession.{NextHolds, SessionKeeps, Steps, reached_kept}
+use Rattle.nam_protocol.proofs.GoesSession.{NextHolds, SessionKeeps, reached_kept}
 use Rattle.nam_protocol.proofs.RunsClient.{NowDoes}
-use Rattle.nam_protocol.proofs.EndsDriver.{AsksFrom, calls_from}
-use Rattle.nam_protocol.proofs.EndsSession.{IsReady, asks, taken_ready, nth_holds, is_open, takes_word, new_ready}
-use Rattle.nam_protocol.proofs.EndsSession.{new_session_ends, session_word, session_cut_ends}
 use Rattle.nam_protocol.proofs.RoomDriver.{room_suffices}
-use Rattle.nam_protocol.proofs.EventsClient.{word_lists, ask_lists, closed_lists}
-use Rattle.nam_protocol.proofs.RunsClient.{AskAnswered, TidyAnswered, CollectAnswered, IsAnswered}
-use Rattle.nam_protocol.specs.declared.txn.TxnAnswer.TheVariants as txn_answer
-use Rattle.nam_protocol.specs.declared.client.Answer.TheVariants as answer
+use Rattle.nam_protocol.proofs.EventsClient.{closed_lists}
+use Rattle.nam_protocol.proofs.RunsClient.{IsAnswered}
 
 module _ (shape : Shape) (whole : ℕ) where
   -- 1. A session

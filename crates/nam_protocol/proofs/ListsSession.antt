@@ -1,20 +1,17 @@
 -- Each list of a session's log is within the room for its jobs.
-use Rattle.std.proofs.Common.{◌≡◌, ℕ, zero, suc, ◌+◌, ◌*◌, ◌≤◌, Bool, true, false, List, [], ◌∷◌, ◌++◌, map, length, take}
-use Rattle.std.proofs.Common.{Option, Some, None, refl, sym, ap, subst, ◌∙◌, length-append, arith, drop}
+use Rattle.std.proofs.Common.{◌≡◌, ℕ, ◌+◌, ◌*◌, ◌≤◌, Bool, true, false, List, ◌++◌, map, length, take}
+use Rattle.std.proofs.Common.{Option, Some, None, refl, sym, ap, subst, ◌∙◌, length-append, arith}
 use Rattle.std.proofs.Math.Nat.{mul-le-mul_right, suc-mul}
 use Rattle.std.proofs.Math.Numerals.{add-one}
 use Rattle.std.proofs.lemmas.Bool.{false≢true}
 use Rattle.std.proofs.lemmas.List.{length-map}
-use Rattle.std.specs.List.{AllByRecursion}
-use Rattle.std.specs.Prelude.{IsSome, is_some, slice_get}
+use Rattle.std.specs.Prelude.{is_some, slice_get}
 use Rattle.si_model.specs.declared.op.Op.{Op}
-use Rattle.si_model.specs.declared.op.Policy.{Policy}
 use Rattle.si_model.specs.Evaluation.{guard_keys, unwritten, written_keys}
 use Rattle.si_model.specs.Rows.{item_key}
 use Rattle.nam_verbs.specs.declared.now.Now.{Now}
 use Rattle.nam_verbs.specs.declared.now.Now.TheVariants.{At, Over}
 use Rattle.nam_catalog.specs.declared.shape.Shape.{Shape}
-use Rattle.nam_catalog.specs.Fits.{FitsLimits}
 use Rattle.nam_protocol.specs.declared.client.Answer.{Answer}
 use Rattle.nam_protocol.specs.declared.client.Call.{Call}
 use Rattle.nam_protocol.specs.declared.client.CallPoint.{CallPoint}
@@ -36,17 +33,16 @@ use Rattle.nam_protocol.specs.Commit.{locks_taken, record_in}
 use Rattle.nam_protocol.specs.Own.{Rests}
 use Rattle.si_model.specs.declared.log.Lock.{Lock}
 use Rattle.nam_protocol.specs.ListsLaw.{KeysWithin, ListsLaw, ListsWithin}
-use Rattle.nam_protocol.specs.SessionFits.{NowRuns, OpenAsked, OpenRuns, PlaceRuns, SessionFits, is_running, ops_of}
+use Rattle.nam_protocol.specs.SessionFits.{NowRuns, OpenRuns, PlaceRuns, SessionFits, is_running, ops_of}
 use Rattle.nam_protocol.specs.CutClient.{closed_call}
 use Rattle.nam_protocol.specs.TxnFits.{CommitFits, CommitPointFits}
-use Rattle.nam_calls.specs.declared.lock.LockPoint.{LockPoint}
 use Rattle.nam_calls.specs.declared.lock.LockPoint.TheVariants.{GiveBack, Peek, Seize}
 use Rattle.nam_protocol.specs.declared.txn.CommitPoint.TheVariants.{Checking, Copying, Freeing, Installing, Locking}
 use Rattle.nam_protocol.specs.declared.txn.CommitPoint.TheVariants.{Publishing, Returning, Saving}
 use Rattle.nam_protocol.proofs.FallsAttempt.{guards_as_asked}
 use Rattle.nam_protocol.proofs.ListsClient.{WritesWithin, ended, open_locks}
 use Rattle.nam_protocol.proofs.RunsClient.{IsAnswered, NowDoes, take_past}
-use Rattle.nam_protocol.proofs.ListsClient.{KeepsLocks, Listed, NowSame, Same, WritesNow, answer_lists, answer_locks}
+use Rattle.nam_protocol.proofs.ListsClient.{KeepsLocks, Listed, NowSame, Same, answer_lists, answer_locks}
 use Rattle.nam_protocol.proofs.ListsClient.{ask_same, asked_lists, asked_locks, begins_snap, closed_lists, collects_snap}
 use Rattle.nam_protocol.proofs.ListsClient.{closing_writes, rests_snap, word_same}
 use Rattle.nam_protocol.proofs.AskedSession.{AsksSo, NowOf, job_is, session_asks}
@@ -62,7 +58,7 @@ use Rattle.nam_protocol.specs.Client.{after_call, client_after, client_ask}
 use Rattle.nam_protocol.specs.ClientEvents.{is_open_after}
 use Rattle.nam_protocol.specs.Driver.{driver_take, job_call, new_driver, place_call}
 use Rattle.nam_protocol.specs.Left.{Room, room_for}
-use Rattle.nam_protocol.specs.Own.{IsOpenAt, IsOpenNow, MayAsk, OpenClient}
+use Rattle.nam_protocol.specs.Own.{IsOpenAt, IsOpenNow, OpenClient}
 use Rattle.nam_protocol.specs.RoomLaw.{DriverCounts, call_room, room_left}
 use Rattle.nam_protocol.specs.Session.{answer_now}
 use Rattle.nam_protocol.specs.SessionKeeps.{is_asking}

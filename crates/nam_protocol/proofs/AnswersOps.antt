@@ -284,15 +284,16 @@ module _ (shape : Shape) (client : ClientState) (attempt : Open) (rest : TakesNo
             scanned = tt;
             collected = tt;
           },
-          tells (with_answer (read_listed client later (items_of s.read)) (client_answer.Txn (answer_of op value))) record {
-            passes = pass;
-            answer = refl;
-            log = ap (with_reads client.log) read;
-            state = s;
-            opened = ap (λ items. Some (with_read later items)) read;
-            writes = writes;
-            guards = guards;
-          },
+          tells (with_answer (read_listed client later (items_of s.read)) (client_answer.Txn (answer_of op value)))
+              record {
+                passes = pass;
+                answer = refl;
+                log = ap (with_reads client.log) read;
+                state = s;
+                opened = ap (λ items. Some (with_read later items)) read;
+                writes = writes;
+                guards = guards;
+              },
         ))
 
     declined : passes op (holding value) ≡ false

@@ -1,6 +1,6 @@
 -- A driver asks an attempt's calls in their order.
-use Rattle.std.proofs.Common.{◌≡◌, ◌⊎◌, inl, inr, ⊎_elim, ℕ, zero, suc, ◌+◌, ◌≤◌, Bool, true, false, List, [], ◌∷◌, ◌++◌}
-use Rattle.std.proofs.Common.{map, length, drop, Some, refl, sym, ap, subst, ◌∙◌, arith}
+use Rattle.std.proofs.Common.{◌≡◌, ◌⊎◌, inl, inr, ⊎_elim, ℕ, zero, suc, ◌+◌, ◌≤◌, Bool, true, false, List, [], ◌∷◌}
+use Rattle.std.proofs.Common.{◌++◌, map, length, drop, Some, refl, sym, ap, subst, ◌∙◌, arith}
 use Rattle.std.proofs.Math.Numerals.{add-one}
 use Rattle.std.specs.Prelude.{if◌then◌else◌, slice_get}
 use Rattle.std.proofs.lemmas.Bool.{false≢true}
@@ -98,7 +98,8 @@ module _ (jobs : List Job) (job : Job) where
   op_calls = map call_of job.ops ++ last_call
 
   -- the call, and those after it where the attempt goes on
-  front_of : (asked : Call) (next : DriverState) (more rest : List Call) → (is_asking next.place ≡ true → IsFront more rest)
+  front_of : (asked : Call) (next : DriverState) (more rest : List Call)
+      → (is_asking next.place ≡ true → IsFront more rest)
       → IsFront (asked ∷ (if is_asking next.place then more else [])) (asked ∷ rest)
   front_of asked next more rest front = by_place (is_asking next.place) front
     where

@@ -221,7 +221,8 @@ module _ (shape : Shape) (job : Job) (try : ℕ) (ops : List Op) (nth : ℕ) whe
 
   asked_try : (client : ClientState) (o : Option Op) (opened : Option Open) → slice_get ops nth ≡ o → IsSome opened
       → OpenTry job try (length (take nth ops)) opened
-      → OnTry shape job try (length (take (nth + 1) ops)) (client_ask shape (record client { txn = opened }) (op_call o))
+      → OnTry shape job try (length (take (nth + 1) ops))
+      (client_ask shape (record client { txn = opened }) (op_call o))
   asked_try client o None here some is = absurd (cc)
   asked_try client None (Some attempt) here some is =
       stepped_try shape job try (length (take (nth + 1) ops)) (record client { txn = Some attempt }) attempt 0
@@ -397,7 +398,8 @@ module _ (shape : Shape) where
       let try = subst (OnTry shape job driver.nth n) same
       (word_try shape job driver.nth n client place found needs
       (begins_try job driver.nth driver.place client.txn place runs is) on) in
-      let of = subst (λ c. IsOf c after) is (subst (IsOf (call_at place)) same (word_of shape client place found needs)) in
+      let of = subst (λ c. IsOf c after) is
+      (subst (IsOf (call_at place)) same (word_of shape client place found needs)) in
       next_asks session job s.here asks.opened after try after.call refl of s.does s.lists
 
   -- 7. A call

@@ -60,7 +60,8 @@ module _ (shape : Shape) (whole : ℕ) where
         let next : driver_next session.jobs session.driver ≡ Some call = ap (job_call session.driver) here in
         let r = (room_suffices shape).1 session.jobs session.driver call end holds.counts next in
         let asks = asks_after shape session.jobs session.driver job.ops client.txn place end does in
-        let paid = is_paid shape session.jobs session.driver job.ops client.txn job.txn session.driver.nth place end does in
+        let paid = is_paid shape session.jobs session.driver job.ops client.txn job.txn session.driver.nth place end
+        does in
         let flag = ap one asks in
         record {
           counts = r.0;

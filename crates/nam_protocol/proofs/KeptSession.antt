@@ -125,7 +125,8 @@ module _ (shape : Shape) (limits : FitsLimits shape) (P : ClientState → Type 0
         let c = place_call job session.driver.nth session.driver.place in
         let client = client_ask shape session.client c in
         next_holds session job client holds
-        (keeps.asked session.client c ready.client (may_ask shape session job ready uncut holds.opened s.here) holds.client)
+        (keeps.asked session.client c ready.client (may_ask shape session job ready uncut holds.opened s.here)
+        holds.client)
         client.call s.does s.lists;
     cut = λ session holds. record { opened = holds.opened; client = keeps.cut session.client holds.client };
   }

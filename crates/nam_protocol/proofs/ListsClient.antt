@@ -262,10 +262,14 @@ module _ (shape : Shape) (word : ℕ) (before after : ClientState) where
   op_locks : (attempt : Open) (at : TxnPoint) (op : Op) (end : TxnAnswer)
       → OpTells shape word before after attempt at op end → has_passed end ≡ true
       → KeepsLocks (Some attempt) after.txn
-  op_locks attempt at op (txn_answer.Value value) told e = subst (KeepsLocks (Some attempt)) (sym told.2.opened) (omega arith)
-  op_locks attempt at op txn_answer.Written told e = subst (KeepsLocks (Some attempt)) (sym told.2.opened) (omega arith)
-  op_locks attempt at op (txn_answer.Added n) told e = subst (KeepsLocks (Some attempt)) (sym told.2.opened) (omega arith)
-  op_locks attempt at op txn_answer.Met told e = subst (KeepsLocks (Some attempt)) (sym told.2.opened) (omega arith)
+  op_locks attempt at op (txn_answer.Value value) told e =
+      subst (KeepsLocks (Some attempt)) (sym told.2.opened) (omega arith)
+  op_locks attempt at op txn_answer.Written told e =
+      subst (KeepsLocks (Some attempt)) (sym told.2.opened) (omega arith)
+  op_locks attempt at op (txn_answer.Added n) told e =
+      subst (KeepsLocks (Some attempt)) (sym told.2.opened) (omega arith)
+  op_locks attempt at op txn_answer.Met told e =
+      subst (KeepsLocks (Some attempt)) (sym told.2.opened) (omega arith)
   op_locks attempt at op _ told e = absurd (false≢true e)
 
   commit_locks : (attempt : Open) (at : CommitPoint) (end : TxnAnswer)

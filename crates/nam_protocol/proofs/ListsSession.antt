@@ -43,7 +43,8 @@ use Rattle.nam_protocol.proofs.FallsAttempt.{guards_as_asked}
 use Rattle.nam_protocol.proofs.ListsClient.{WritesWithin, ended, open_locks}
 use Rattle.nam_protocol.proofs.RunsClient.{IsAnswered, NowDoes, take_past}
 use Rattle.nam_protocol.proofs.ListsClient.{KeepsLocks, Listed, NowSame, Same, answer_lists, answer_locks}
-use Rattle.nam_protocol.proofs.ListsClient.{ask_same, asked_lists, asked_locks, begins_snap, closed_lists, collects_snap}
+use Rattle.nam_protocol.proofs.ListsClient.{ask_same, asked_lists, asked_locks, begins_snap, closed_lists}
+use Rattle.nam_protocol.proofs.ListsClient.{collects_snap}
 use Rattle.nam_protocol.proofs.ListsClient.{closing_writes, rests_snap, word_same}
 use Rattle.nam_protocol.proofs.AskedSession.{AsksSo, NowOf, job_is, session_asks}
 use Rattle.nam_protocol.proofs.AnswersClient.{answers_tell, asked_carries, cut_carries, new_carries, word_carries}
@@ -380,7 +381,8 @@ module _ (shape : Shape) (whole : Room) (keys : ℕ) where
       Same (record client { call = now }) (after_call shape (record client { call = now }) now found)) (sym e)
       (word_same shape found client place r.stands))
       (λ end f. subst (λ c. Listed (call_room shape c).ops
-      (ended keys (is_some client.txn) (is_open_after (is_some client.txn) end)) (begins_snap place) client.log after.log)
+      (ended keys (is_some client.txn) (is_open_after (is_some client.txn) end)) (begins_snap place) client.log
+      after.log)
       r.asked (answer_lists shape found keys client after place end r.fits r.writes (told end f)))
       (λ end f. answer_locks shape found client after place end r.stands (told end f))
       (subst (λ c. begins_snap place + collects_snap client.call
@@ -449,7 +451,8 @@ module _ (shape : Shape) (whole : Room) (keys : ℕ) where
   log_rests session None e rests p =
       let l = closed_lists shape keys session.client None tt in
       let m = rests_locks session.client.last session.client.log.locks None session.client.txn rests
-      (subst (λ now. OpenCarries session.client.last session.client.log.locks now session.client.txn) e p.carries.opened)
+      (subst (λ now. OpenCarries session.client.last session.client.log.locks now session.client.txn) e
+      p.carries.opened)
       in
       let c = ap collects_snap e in
       record {
@@ -461,7 +464,8 @@ module _ (shape : Shape) (whole : Room) (keys : ℕ) where
   log_rests session (Some (Over end)) e rests p =
       let l = closed_lists shape keys session.client (Some (Over end)) tt in
       let m = rests_locks session.client.last session.client.log.locks (Some (Over end)) session.client.txn rests
-      (subst (λ now. OpenCarries session.client.last session.client.log.locks now session.client.txn) e p.carries.opened)
+      (subst (λ now. OpenCarries session.client.last session.client.log.locks now session.client.txn) e
+      p.carries.opened)
       in
       let c = ap collects_snap e in
       record {
@@ -486,7 +490,8 @@ module _ (shape : Shape) (whole : Room) (keys : ℕ) where
       let m = mine_paid b left.attempts keys (open_locks session.client.txn) r.mine
       (λ f. none_locks session.client.txn (p.asks.opened ∙ f)) in
       let w = closing_paid left.attempts b place session.client.txn r.stands p.asks.opened in
-      let room = (room_suffices shape).1 session.jobs driver asked answer.Nothing p.counts (ap (job_call driver) here) in
+      let room = (room_suffices shape).1 session.jobs driver asked answer.Nothing p.counts
+      (ap (job_call driver) here) in
       let paid = subst (λ c. begins_snap place + collects_snap (Some (At place))
       ≤ (call_room shape c).attempts + (call_room shape c).tidies) r.asked (snap_paid shape place) in
       let c = ap collects_snap e in
@@ -517,8 +522,8 @@ lists_within shape limits worker start jobs policy is fit least keys few session
     let ro = room.1.ops in
     let none = (room_left shape jobs (new_driver policy)).attempts + 0 in
     let m : none * keys ≤ whole.attempts * keys = mul-le-mul_right keys (omega arith) in
-    let s = reached_kept shape limits (ListsSo shape whole keys) (session_lists shape whole keys) worker start jobs policy
-    is fit least record {
+    let s = reached_kept shape limits (ListsSo shape whole keys) (session_lists shape whole keys) worker start jobs
+    policy is fit least record {
       asks = record { opened = refl; attempt = λ job h. tt; call = λ job h. tt };
       carries = new_carries worker start;
       opens = open_new worker start;

@@ -93,14 +93,17 @@ module _ (shape : Shape) (word : ℕ) (before after : ClientState) where
   OpTells attempt at op Declined =
       (value : Option (List ℕ)) × IsOn shape word attempt.state at value × OpDeclined before after attempt op value
   OpTells attempt at op end =
-      (value : Option (List ℕ)) × IsOn shape word attempt.state at value × OpPassed shape before after attempt op value end
+      (value : Option (List ℕ)) × IsOn shape word attempt.state at value
+      × OpPassed shape before after attempt op value end
 
   abbrev pub CommitTells : Open → CommitPoint → TxnAnswer → Type 0
   CommitTells attempt at (Committed number) = HasCommitted before after attempt number
   CommitTells attempt at (Locked lock) =
-      LockMissed before after attempt (locks_taken attempt.state at) (word_in_way word at) lock true (outcome.Locked lock)
+      LockMissed before after attempt (locks_taken attempt.state at) (word_in_way word at) lock true
+      (outcome.Locked lock)
   CommitTells attempt at (Newer lock) =
-      LockMissed before after attempt (locks_taken attempt.state at) (word_in_way word at) lock false (outcome.Newer lock)
+      LockMissed before after attempt (locks_taken attempt.state at) (word_in_way word at) lock false
+      (outcome.Newer lock)
   CommitTells attempt at (Full lock) = IsFullAt attempt.state lock × Ends before after attempt (outcome.Full lock)
   CommitTells attempt at _ = ⊥
 

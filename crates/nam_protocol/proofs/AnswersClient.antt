@@ -1,10 +1,9 @@
 -- Each word that a client takes, and each call that it is asked, keeps what the client carries, and its answer tells.
 use Rattle.std.specs.Prelude.{IsSome, slice_index}
-use Rattle.std.proofs.Common.{◌≡◌, ◌≢◌, ℕ, ◌+◌, ◌<◌, ◌≤◌, true, false, List, [], ◌∷◌, ◌++◌, length, Option, Some, None}
-use Rattle.std.proofs.Common.{refl, sym, subst, ap, ◌∙◌, append-nil, arith}
+use Rattle.std.proofs.Common.{◌≡◌, ◌≢◌, ℕ, ◌+◌, ◌<◌, true, List, [], Option, Some, None}
+use Rattle.std.proofs.Common.{refl, sym, subst, arith}
 use Rattle.si_model.specs.declared.log.Lock.{Lock}
 use Rattle.si_model.specs.declared.log.Event.{Event}
-use Rattle.si_model.specs.declared.log.Event.TheVariants.{NoRoom}
 use Rattle.si_model.specs.declared.op.Op.TheVariants as op
 use Rattle.nam_verbs.specs.declared.now.Now.{Now}
 use Rattle.nam_verbs.specs.declared.now.Now.TheVariants.{At, Over}
@@ -13,7 +12,7 @@ use Rattle.nam_catalog.specs.declared.shape.Shape.{Shape}
 use Rattle.nam_header.specs.Stamp.{is_moved}
 use Rattle.nam_layout.specs.declared.field.Cells.{Cells}
 use Rattle.nam_layout.specs.declared.field.Place.{Place}
-use Rattle.nam_layout.specs.Place.{bucket_of, cells_by, place_of}
+use Rattle.nam_layout.specs.Place.{cells_by, place_of}
 use Rattle.nam_vector.specs.declared.snap.SnapEnd.{SnapEnd}
 use Rattle.nam_vector.specs.declared.snap.SnapPoint.{SnapPoint}
 use Rattle.nam_vector.specs.declared.snap.SnapPoint.TheVariants.{First, Second}
@@ -48,7 +47,6 @@ use Rattle.nam_protocol.specs.Carries.{AttemptCarries, Carries, CollectCarries, 
 use Rattle.nam_protocol.specs.Carries.{HeldIn}
 use Rattle.nam_protocol.specs.Client.{abandon_open, after_call, ask_scan, ask_txn, call_after, client_abandon}
 use Rattle.nam_protocol.specs.Client.{client_after, client_ask, take_scan, take_txn, with_call}
-use Rattle.nam_protocol.specs.Log.{with_event}
 use Rattle.nam_protocol.specs.ClientFits.{CallPointFits, ClientFits, NowFits, OpenCallFits, OpenPointFits}
 use Rattle.nam_protocol.specs.CutClient.{client_cut}
 use Rattle.nam_protocol.specs.Own.{MayAsk, Rests}
@@ -58,7 +56,7 @@ use Rattle.nam_protocol.specs.Telling.{go, new_client}
 use Rattle.nam_protocol.specs.TxnFits.{ScanFits}
 use Rattle.nam_protocol.proofs.AnswersCommit.{commit_asked, commit_good}
 use Rattle.nam_protocol.proofs.AnswersOps.{Good, TakesNone, TellsNow, asked_good, claiming_good, finding_good}
-use Rattle.nam_protocol.proofs.AnswersOps.{none_took, reading_good}
+use Rattle.nam_protocol.proofs.AnswersOps.{no_locks, none_took, reading_good}
 use Rattle.nam_protocol.proofs.AnswersScan.{after_says, scan_good}
 use Rattle.nam_protocol.proofs.GoesClient.{begin_goes, collect_goes, move_goes, seek_goes, snap_goes}
 use Rattle.nam_protocol.proofs.GoesParts.{claim_cell_goes, fill_goes}
@@ -123,8 +121,7 @@ beside last locks now later is stays (Some attempt) carries = record {
 takes_none_at : (client : ClientState) (attempt : Open) → attempt.state.last ≡ client.last
     → Took client.log.locks attempt → attempt.state.held ≡ [] → TakesNone client attempt
 takes_none_at client attempt last took none =
-    let number : length attempt.state.held ≡ 0 = ap (λ (hs : List ℕ). length hs) none in
-    record { last_is = last; locks = took.number ∙ number; held = none }
+    record { last_is = last; locks = no_locks client.log.locks attempt took none; held = none }
 
 takes_none : (client : ClientState) (attempt : Open) (now : Option (Now CallPoint Answer)) → IsBeside now
     → AttemptCarries client.last client.log.locks now attempt → TakesNone client attempt

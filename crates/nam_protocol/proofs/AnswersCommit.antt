@@ -1,28 +1,25 @@
 -- Each word of a commit, and its asking, keeps what its client carries, and its answer tells.
-use Rattle.std.proofs.Common.{◌≡◌, ◌≢◌, ℕ, ◌+◌, ◌≤◌, ◌<◌, Bool, true, false, List, [], ◌∷◌, ◌++◌, length, drop, Option}
-use Rattle.std.proofs.Common.{Some, None, inl, inr, refl, sym, subst, ap, ◌∙◌, append-nil, append_assoc, length-append}
+use Rattle.std.proofs.Common.{◌≡◌, ℕ, ◌+◌, ◌≤◌, ◌<◌, Bool, true, false, List, [], ◌∷◌, ◌++◌, length, drop}
+use Rattle.std.proofs.Common.{None, inl, inr, refl, sym, subst, ap, ◌∙◌, append-nil, append_assoc, length-append}
 use Rattle.std.proofs.Common.{arith}
 use Rattle.std.specs.Prelude.{◌==◌}
-use Rattle.std.proofs.lemmas.Bool.Decides.{nat_tests}
 use Rattle.std.proofs.lemmas.Bool.{eqb-true, eqb-false}
 use Rattle.std.proofs.Math.Seq.{drop-append_seam}
 use Rattle.si_model.specs.declared.log.Lock.{Lock}
 use Rattle.si_model.specs.declared.log.Outcome.{Outcome}
 use Rattle.si_model.specs.declared.log.Outcome.TheVariants as outcome
-use Rattle.nam_verbs.specs.declared.now.Now.{Now}
-use Rattle.nam_verbs.specs.declared.now.Now.TheVariants.{At, Over}
+use Rattle.nam_verbs.specs.declared.now.Now.TheVariants.{Over}
 use Rattle.nam_catalog.specs.declared.shape.Shape.{Shape}
 use Rattle.nam_catalog.specs.Greatest.{greatest_number}
 use Rattle.nam_verbs.proofs.TestLemmas.{by_test}
-use Rattle.nam_header.specs.Stamp.{is_locked, sees}
-use Rattle.nam_calls.specs.declared.ring.CopyPoint.{CopyPoint}
+use Rattle.nam_header.specs.Stamp.{is_locked}
 use Rattle.nam_calls.specs.declared.lock.LockPoint.{LockPoint}
 use Rattle.nam_calls.specs.declared.lock.LockPoint.TheVariants.{Peek, Seize, GiveBack}
 use Rattle.nam_calls.specs.declared.ring.SlotPoint.{SlotPoint}
 use Rattle.nam_calls.specs.declared.ring.SlotPoint.TheVariants.{CheckCount, CheckHead}
-use Rattle.nam_calls.specs.Lock.{give_back, lock_after}
+use Rattle.nam_calls.specs.Lock.{give_back}
 use Rattle.nam_calls.specs.Record.{install_begin, words_begin}
-use Rattle.nam_calls.specs.Ring.{copy_begin, slot_after, slot_begin}
+use Rattle.nam_calls.specs.Ring.{copy_begin, slot_begin}
 use Rattle.nam_calls.proofs.GoesTests.{give_back_goes, peek_goes, seize_goes, slot_goes}
 use Rattle.nam_protocol.specs.declared.client.Answer.{Answer}
 use Rattle.nam_protocol.specs.declared.client.ClientState.{ClientState}
@@ -31,11 +28,10 @@ use Rattle.nam_protocol.specs.declared.txn.CommitPoint.{CommitPoint}
 use Rattle.nam_protocol.specs.declared.txn.CommitPoint.TheVariants.{Checking, Copying, Freeing, Installing, Locking}
 use Rattle.nam_protocol.specs.declared.txn.CommitPoint.TheVariants.{Publishing, Returning, Saving}
 use Rattle.nam_protocol.specs.declared.txn.TxnAnswer.{TxnAnswer}
-use Rattle.nam_protocol.specs.declared.txn.TxnPoint.TheVariants.{Committing}
 use Rattle.nam_protocol.specs.declared.txn.TxnState.{TxnState}
 use Rattle.nam_protocol.specs.AnswersLaw.{CommitTells, CommitAskTells, word_in_way}
-use Rattle.nam_protocol.specs.Told.{Ends, HasCommitted, LockMissed}
-use Rattle.nam_protocol.specs.Carries.{Carries, CommitCarries, IsFullAt, IsInTheWay, Took}
+use Rattle.nam_protocol.specs.Told.{Ends, LockMissed}
+use Rattle.nam_protocol.specs.Carries.{CommitCarries, IsInTheWay, Took}
 use Rattle.nam_protocol.specs.Commit.{ask_commit, commit_after, go, lock_at, on_lock, on_slot, places}
 use Rattle.nam_protocol.specs.Commit.{next_free, record_place, value_at}
 use Rattle.nam_protocol.specs.Telling.{locks_from, new_locks, on_call, stepped}
@@ -43,7 +39,7 @@ use Rattle.nam_protocol.specs.Txn.{Stepped, over}
 use Rattle.nam_protocol.specs.TxnFits.{CommitFits}
 use Rattle.nam_protocol.proofs.AnswersOps.{Good, TakesNone, none_took, quiet_over}
 use Rattle.nam_protocol.proofs.GoesCommit.{ask_commit_goes, holding_locks, next_free_goes, on_copy_goes, on_install_goes}
-use Rattle.nam_protocol.proofs.GoesCommit.{on_lock_goes, on_return_goes, on_slot_goes, on_words_goes, with_count}
+use Rattle.nam_protocol.proofs.GoesCommit.{on_return_goes, on_words_goes, with_count}
 use Rattle.nam_protocol.specs.declared.client.Answer.TheVariants as client_answer
 use Rattle.nam_protocol.specs.declared.txn.TxnAnswer.TheVariants as txn_answer
 

@@ -1,5 +1,5 @@
 -- A client to whose answer the law of answers applies: a commit that gives a lock back, the second record being locked.
-use Rattle.std.proofs.Common.{◌≡◌, ℕ, ◌+◌, true, [], ◌∷◌, length, Some, inl, refl, arith}
+use Rattle.std.proofs.Common.{◌≡◌, [], ◌∷◌, Some, inl, refl, arith}
 use Rattle.std.specs.List.{IsDistinct}
 use Rattle.si_model.specs.Rows.{key_at, same_key}
 use Rattle.si_model.specs.Evaluation.{key_claimed}

@@ -1,5 +1,5 @@
 -- Each word of an operation keeps what its client carries, and its answer tells.
-use Rattle.std.proofs.Common.{◌≡◌, ℕ, ◌+◌, ◌-◌, ◌≤◌, ◌<◌, true, false, List, [], ◌∷◌, ◌++◌, length, drop, Option, Some, None}
+use Rattle.std.proofs.Common.{◌≡◌, ℕ, ◌+◌, ◌-◌, ◌≤◌, ◌<◌, true, false, List, [], ◌++◌, length, Option, Some, None}
 use Rattle.std.proofs.Common.{refl, sym, subst, ap, ◌∙◌, append-nil, arith}
 use Rattle.std.specs.Prelude.{nat_lt, slice_index}
 use Rattle.std.proofs.lemmas.List.{drop_all}
@@ -16,22 +16,18 @@ use Rattle.si_model.specs.EvaluationLaws.{is_scan}
 use Rattle.si_model.specs.Operations.{op_reads, op_claims}
 use Rattle.si_model.specs.declared.log.Outcome.TheVariants as outcome
 use Rattle.nam_verbs.specs.declared.now.Now.{Now}
-use Rattle.nam_verbs.specs.declared.now.Now.TheVariants.{At, Over}
+use Rattle.nam_verbs.specs.declared.now.Now.TheVariants.{Over}
 use Rattle.nam_verbs.proofs.TestLemmas.{by_test, by_equal}
 use Rattle.nam_catalog.specs.declared.shape.Shape.{Shape}
 use Rattle.nam_catalog.specs.Tables.{widths_of}
-use Rattle.nam_calls.specs.declared.horizon.OldEnd.{OldEnd}
-use Rattle.nam_calls.specs.declared.horizon.OldEnd.TheVariants as old_end
 use Rattle.nam_calls.specs.declared.index.ClaimKeyPoint.{ClaimKeyPoint}
 use Rattle.nam_calls.specs.declared.reading.ReadPoint.{ReadPoint}
 use Rattle.nam_calls.specs.declared.reading.ReadPoint.TheVariants.{ReadCurrent, ReadUnsure, ReadRecheck, ReadRing}
 use Rattle.nam_calls.specs.declared.reading.ReadPoint.TheVariants.{ReadCells, ReadHorizon}
 use Rattle.nam_calls.specs.declared.reading.ReadingEnd.{ReadingEnd}
 use Rattle.nam_calls.specs.declared.reading.Sight.{Sight}
-use Rattle.nam_calls.specs.Index.{claim_key_begin, find_after}
-use Rattle.nam_calls.specs.Horizon.{old_after}
+use Rattle.nam_calls.specs.Index.{claim_key_begin}
 use Rattle.nam_calls.specs.Reading.{on_horizon, read_after, read_begin, sight_of}
-use Rattle.nam_calls.specs.declared.index.FindEnd.TheVariants as found_key
 use Rattle.nam_calls.specs.declared.reading.ReadingEnd.TheVariants as read_end
 use Rattle.nam_protocol.specs.declared.client.Answer.{Answer}
 use Rattle.nam_protocol.specs.declared.client.CallPoint.{CallPoint}
@@ -44,16 +40,15 @@ use Rattle.nam_protocol.specs.declared.txn.TxnState.{TxnState}
 use Rattle.nam_protocol.specs.AnswersLaw.{IsOn, OpTells, OwnTells}
 use Rattle.nam_protocol.specs.Carries.{Carries, IsDecided, PointCarries, Took}
 use Rattle.nam_protocol.specs.Log.{with_event, with_locks, with_reads, attempt_of}
-use Rattle.nam_protocol.specs.Operations.{op_path, holding, own_value, read_of, value_in, answer_of}
+use Rattle.nam_protocol.specs.Operations.{holding, own_value, read_of, value_in, answer_of}
 use Rattle.nam_protocol.specs.Plain.{IsOperation}
-use Rattle.nam_protocol.specs.Telling.{call_listed, with_answer, with_read, items_of, locks_from, new_locks, on_answer}
+use Rattle.nam_protocol.specs.Telling.{call_listed, with_answer, with_read, items_of, locks_from, on_answer}
 use Rattle.nam_protocol.specs.Telling.{unread}
 use Rattle.nam_protocol.specs.Telling.{on_call, stepped}
-use Rattle.nam_protocol.specs.Told.{OpPassed, OpDeclined, IsTooOld}
-use Rattle.nam_protocol.specs.Txn.{Stepped, at, over, with_op, after_claim, on_decision, on_value, on_find, on_read}
-use Rattle.nam_protocol.specs.Txn.{on_claim, ask_op}
-use Rattle.nam_protocol.specs.TxnCalls.{taken_now, txn_after}
-use Rattle.nam_protocol.specs.TxnFits.{OpStands, TxnPointFits}
+use Rattle.nam_protocol.specs.Told.{OpPassed, OpDeclined}
+use Rattle.nam_protocol.specs.Txn.{Stepped, at, over, with_op, after_claim, on_value}
+use Rattle.nam_protocol.specs.Txn.{ask_op}
+use Rattle.nam_protocol.specs.TxnCalls.{txn_after}
 use Rattle.nam_protocol.proofs.GoesParts.{current_goes, unsure_goes, recheck_goes, ring_goes, cells_goes}
 use Rattle.nam_protocol.proofs.GoesTxn.{ask_goes, decided_goes, knowing, on_find_goes, on_read_goes, on_claim_goes}
 use Rattle.nam_protocol.specs.declared.client.Answer.TheVariants as client_answer
@@ -191,6 +186,9 @@ pub record TakesNone (client : ClientState) (attempt : Open) : Type 0 where
   pub held : attempt.state.held ≡ []
 
 -- one that holds no lock has taken none
+pub no_locks : (locks : List Lock) (attempt : Open) → Took locks attempt → attempt.state.held ≡ [] → attempt.locks ≡ 0
+no_locks locks attempt took none = took.number ∙ ap (λ (hs : List ℕ). length hs) none
+
 pub none_took : (locks : List Lock) (attempt : Open) → attempt.state.held ≡ [] → attempt.locks ≡ 0 → Took locks attempt
 none_took locks attempt none number = record {
   earlier = locks;

@@ -1,10 +1,10 @@
 -- Each word of a scan keeps what its client carries, and its answer tells.
 use Rattle.std.specs.Prelude.{nat_le, nat_lt, slice_index}
-use Rattle.std.proofs.Common.{◌≡◌, ◌&&◌, ℕ, ◌+◌, ◌-◌, ◌<◌, ◌≤◌, true, false, List, [], ◌∷◌, ◌++◌, map, length, Option, Some, None}
-use Rattle.std.proofs.Common.{refl, sym, ap, append-nil, suc, arith}
+use Rattle.std.proofs.Common.{◌≡◌, ℕ, ◌+◌, ◌-◌, ◌<◌, ◌≤◌, true, List, [], ◌∷◌, ◌++◌, map, length, Option, Some, None}
+use Rattle.std.proofs.Common.{refl, ap, suc, arith}
 use Rattle.std.proofs.lemmas.List.{length-map, length_push}
 use Rattle.std.specs.List.{AllByRecursion}
-use Rattle.std.proofs.lemmas.Bool.{and_parts, cond_both}
+use Rattle.std.proofs.lemmas.Bool.{and_parts}
 use Rattle.std.proofs.lemmas.Bool.Decides.{nat_tests}
 use Rattle.si_model.specs.declared.row.Item.{Item}
 use Rattle.si_model.specs.Rows.{key_at, writes_key}
@@ -24,19 +24,16 @@ use Rattle.nam_protocol.specs.declared.scan.ScanAnswer.{ScanAnswer}
 use Rattle.nam_protocol.specs.declared.scan.ScanPoint.{ScanPoint}
 use Rattle.nam_protocol.specs.declared.scan.ScanPoint.TheVariants.{ScanKey, ScanRead}
 use Rattle.nam_protocol.specs.AnswersLaw.{ScanTells}
-use Rattle.nam_protocol.specs.Carries.{AreBetween, Carries, IsBetween, KeyBetween, Took}
+use Rattle.nam_protocol.specs.Carries.{AreBetween, IsBetween, KeyBetween}
 use Rattle.nam_protocol.specs.Log.{with_event, with_reads, attempt_of}
 use Rattle.nam_protocol.specs.Operations.{own_value}
-use Rattle.nam_protocol.specs.Scan.{in_range, scan_after, scan_read, scan_skip, position_of}
-use Rattle.nam_protocol.specs.ScanCall.{inserted, item_of, on_key, on_scan, on_skip, scanned_items, sorted_onto}
+use Rattle.nam_protocol.specs.Scan.{in_range, scan_after, scan_skip, position_of}
+use Rattle.nam_protocol.specs.ScanCall.{inserted, item_of, on_scan, on_skip, scanned_items, sorted_onto}
 use Rattle.nam_protocol.specs.ScanCall.{with_gathered, scan_listed}
 use Rattle.nam_protocol.specs.Telling.{go}
-use Rattle.nam_protocol.specs.Told.{HasScanned, IsTooOld}
 use Rattle.nam_protocol.proofs.AnswersOps.{Good, TakesNone, none_took, passed_facts}
 use Rattle.nam_protocol.proofs.GoesParts.{scan_read_goes}
-use Rattle.nam_protocol.specs.declared.client.Answer.TheVariants as client_answer
 use Rattle.nam_protocol.specs.declared.scan.ScanAnswer.TheVariants as scan_answer
-use Rattle.nam_protocol.specs.declared.txn.TxnAnswer.TheVariants as txn_answer
 
 -- 1. The rows, sorted
 

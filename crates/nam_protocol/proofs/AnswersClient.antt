@@ -43,7 +43,8 @@ use Rattle.nam_protocol.specs.declared.txn.TxnPoint.TheVariants.{Claiming, Commi
 use Rattle.nam_protocol.specs.declared.txn.TxnState.{TxnState}
 use Rattle.nam_protocol.specs.AnswersLaw.{AnswerTells, AnswersLaw, AskTells, CarriesLaw, OpenAskTells, ScanTells}
 use Rattle.nam_protocol.specs.AnswersLaw.{TxnTells}
-use Rattle.nam_protocol.specs.Carries.{AttemptCarries, Carries, CollectCarries, NowCarries, OpenCarries, ScanCarries, Took}
+use Rattle.nam_protocol.specs.Carries.{AttemptCarries, Carries, CollectCarries, NowCarries, OpenCarries, ScanCarries}
+use Rattle.nam_protocol.specs.Carries.{Took}
 use Rattle.nam_protocol.specs.Carries.{HeldIn}
 use Rattle.nam_protocol.specs.Client.{abandon_open, after_call, ask_scan, ask_txn, call_after, client_abandon}
 use Rattle.nam_protocol.specs.Client.{client_after, client_ask, take_scan, take_txn, with_call}
@@ -180,9 +181,11 @@ module _ (shape : Shape) (word : ℕ) where
 
   module _ (client : ClientState) where
     -- it goes on, or is answered and listed or not; the transaction, if one is open, is the same
-    stays : (place : CallPoint) (events : List Event) (later : Option (Now CallPoint Answer)) → IsBeside (Some (At place))
-        → IsBeside later → ScanCarries client.scanned later → CollectCarries client.start client.log.snaps later
-        → Carries (go client place) → Carries (record client { log = record client.log { events = events }; call = later })
+    stays : (place : CallPoint) (events : List Event) (later : Option (Now CallPoint Answer))
+        → IsBeside (Some (At place)) → IsBeside later → ScanCarries client.scanned later
+        → CollectCarries client.start client.log.snaps later
+        → Carries (go client place)
+        → Carries (record client { log = record client.log { events = events }; call = later })
     stays place events later is next scanned collected carries = record {
       opened = beside client.last client.log.locks (Some (At place)) later is next client.txn carries.opened;
       scanned = scanned;
@@ -295,29 +298,34 @@ module _ (shape : Shape) (word : ℕ) where
   txn_good : (client : ClientState) (at : TxnPoint) (opened : Option Open)
       → let c = record client { call = Some (At (InTxn at)); txn = opened } in
       Carries c → OpenPointFits shape opened at
-      → Good (λ (after : ClientState) (end : Answer). TxnTells shape word c after opened at end) (take_txn shape c at opened word)
+      → Good (λ (after : ClientState) (end : Answer). TxnTells shape word c after opened at end)
+      (take_txn shape c at opened word)
   txn_good client at None carries fits = absurd fits
   txn_good client (Finding op passed) (Some attempt) carries fits =
       let c = record client { call = Some (At (InTxn (Finding op passed))); txn = Some attempt } in
-      let Tells = λ (after : ClientState) (end : Answer). TxnTells shape word c after (Some attempt) (Finding op passed) end in
+      let Tells = λ (after : ClientState) (end : Answer).
+      TxnTells shape word c after (Some attempt) (Finding op passed) end in
       let o = carries.opened in
       finding_good shape c attempt (takes_none_at c attempt o.last_is o.took o.held) Tells op
       fits.0.1 passed word (λ after end told. told)
   txn_good client (Reading op position at) (Some attempt) carries fits =
       let c = record client { call = Some (At (InTxn (Reading op position at))); txn = Some attempt } in
-      let Tells = λ (after : ClientState) (end : Answer). TxnTells shape word c after (Some attempt) (Reading op position at) end in
+      let Tells = λ (after : ClientState) (end : Answer).
+      TxnTells shape word c after (Some attempt) (Reading op position at) end in
       let o = carries.opened in
       reading_good shape c attempt (takes_none_at c attempt o.last_is o.took o.held) Tells op
       fits.0.1 position at word (λ after end told. told)
   txn_good client (Claiming op at) (Some attempt) carries fits =
       let c = record client { call = Some (At (InTxn (Claiming op at))); txn = Some attempt } in
-      let Tells = λ (after : ClientState) (end : Answer). TxnTells shape word c after (Some attempt) (Claiming op at) end in
+      let Tells = λ (after : ClientState) (end : Answer).
+      TxnTells shape word c after (Some attempt) (Claiming op at) end in
       let o = carries.opened in
       claiming_good shape c attempt (takes_none_at c attempt o.last_is o.took o.held) Tells op
       fits.0.1 at word o.point (λ after end told. told)
   txn_good client (Committing at) (Some attempt) carries fits =
       let c = record client { call = Some (At (InTxn (Committing at))); txn = Some attempt } in
-      let Tells = λ (after : ClientState) (end : Answer). TxnTells shape word c after (Some attempt) (Committing at) end in
+      let Tells = λ (after : ClientState) (end : Answer).
+      TxnTells shape word c after (Some attempt) (Committing at) end in
       let o = carries.opened in
       commit_good shape c attempt word Tells at record {
         last_is = o.last_is;
@@ -417,7 +425,8 @@ module _ (shape : Shape) where
       (λ writes after end told. (writes, told))
   txn_asked client Commit (Some attempt) rests carries fits =
       let rest = takes_none client attempt client.call (rests_beside client.call rests) carries in
-      commit_asked shape client attempt 0 (λ after end. OpenAskTells shape client after Commit (Some attempt) end) rest (λ after end told. told)
+      commit_asked shape client attempt 0 (λ after end. OpenAskTells shape client after Commit (Some attempt) end)
+      rest (λ after end told. told)
 
   scan_asked : (client : ClientState) (table low high : ℕ) (opened : Option Open) → Rests client.call
       → OpenCarries client.last client.log.locks client.call opened → IsSome opened

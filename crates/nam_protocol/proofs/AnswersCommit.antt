@@ -38,7 +38,8 @@ use Rattle.nam_protocol.specs.Telling.{locks_from, new_locks, on_call, stepped}
 use Rattle.nam_protocol.specs.Txn.{Stepped, over}
 use Rattle.nam_protocol.specs.TxnFits.{CommitFits}
 use Rattle.nam_protocol.proofs.AnswersOps.{Good, TakesNone, none_took, quiet_over}
-use Rattle.nam_protocol.proofs.GoesCommit.{ask_commit_goes, holding_locks, next_free_goes, on_copy_goes, on_install_goes}
+use Rattle.nam_protocol.proofs.GoesCommit.{ask_commit_goes, holding_locks, next_free_goes, on_copy_goes}
+use Rattle.nam_protocol.proofs.GoesCommit.{on_install_goes}
 use Rattle.nam_protocol.proofs.GoesCommit.{on_return_goes, on_words_goes, with_count}
 use Rattle.nam_protocol.specs.declared.client.Answer.TheVariants as client_answer
 use Rattle.nam_protocol.specs.declared.txn.TxnAnswer.TheVariants as txn_answer
@@ -203,7 +204,8 @@ module _ (shape : Shape) (client : ClientState) (attempt : Open) (word : ℕ) (T
 
 -- 5. Each point
 
-module _ (shape : Shape) (client : ClientState) (attempt : Open) (word : ℕ) (Tells : ClientState → Answer → Type 0) where
+module _ (shape : Shape) (client : ClientState) (attempt : Open) (word : ℕ)
+    (Tells : ClientState → Answer → Type 0) where
   abbrev At_point : CommitPoint → Type 0
   At_point = AtCommit shape client attempt word Tells
 
@@ -242,8 +244,8 @@ module _ (shape : Shape) (client : ClientState) (attempt : Open) (word : ℕ) (T
       goes_on shape client attempt word Tells (Checking CheckCount) f (Checking (CheckHead word)) tt
   check_good (CheckHead count) f =
       let point = Checking (CheckHead count) in
-      slot_goes (λ now. Steps shape client attempt word Tells point f (on_slot s now)) (record_place s (length s.counts))
-      count word
+      slot_goes (λ now. Steps shape client attempt word Tells point f (on_slot s now))
+      (record_place s (length s.counts)) count word
       (λ moved. by_test (Steps shape client attempt word Tells point f)
       (length (s.counts ++ count ∷ []) == length s.writes) _ _
       (λ last. goes shape client attempt word Tells point f (with_count s count) (Saving 0 words_begin) []

@@ -87,10 +87,12 @@ module _ (shape : Shape) (table low high : ℕ) (seen : List ℕ) (word : ℕ) w
 
   skip_says : (position : ℕ) → Says position (scan_skip shape table position)
   skip_says position =
-      by_equal (Says position) (position + 1) (capacity_of shape table) (Over scan_answer.Done) (At (ScanKey (position + 1)))
+      by_equal (Says position) (position + 1) (capacity_of shape table) (Over scan_answer.Done)
+      (At (ScanKey (position + 1)))
       (λ e. tt) (λ e. (tt, omega arith))
 
-  pub after_says : (at : ScanPoint) → KeyBetween low high at → Says (position_of at) (scan_after shape table low high seen at word)
+  pub after_says : (at : ScanPoint) → KeyBetween low high at
+      → Says (position_of at) (scan_after shape table low high seen at word)
   after_says (ScanKey position) between =
       by_test (Says position) (in_range low high word) _ _
       (λ e. let ends = and_parts (nat_le (low + 1) word) (nat_le word (high + 1)) e in
@@ -114,7 +116,8 @@ module _ (shape : Shape) (attempt : Open) (table low high word : ℕ) (before : 
   opens client = record client { txn = Some attempt }
 
   goes_on : (client : ClientState) (place : ScanPoint) → TakesNone client attempt → AreBetween low high client.scanned
-      → length client.scanned ≤ position_of place → KeyBetween low high place → Good Tells (go (opens client) (Scanning table low high place))
+      → length client.scanned ≤ position_of place → KeyBetween low high place
+      → Good Tells (go (opens client) (Scanning table low high place))
   goes_on client place rest rows few between = (
     record {
       opened = record {

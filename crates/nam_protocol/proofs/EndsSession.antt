@@ -423,13 +423,14 @@ module _ (shape : Shape) where
     )
     next_ends calls session ready few later (Some job) here =
         let driver = session.driver in
-        let a = asks limits session.client ready.client job.ops job.txn driver.nth driver.policy.tries driver.place calls
-        ready.driver.2
+        let a = asks limits session.client ready.client job.ops job.txn driver.nth driver.policy.tries driver.place
+        calls ready.driver.2
         (subst (λ o. AsksFrom shape driver.place (ops_of o) session.client.txn) here ready.asks)
         (nth_holds (JobFits shape) session.jobs driver.job job ready.jobs here)
         (subst (λ o. calls_from shape (ops_of o) driver.place ≤ suc calls) here few) in
         let client = client_ask shape session.client (place_call job driver.nth driver.place) in
-        let g = goes_on session ready.jobs ready.driver job here client calls later a.stands client.call refl a.does a.few in
+        let g = goes_on session ready.jobs ready.driver job here client calls later a.stands client.call refl a.does
+        a.few in
         let d = drop_from session.jobs driver.job job here in
         let same = ap (rest_bound shape driver) d in
         let all = ap (pending shape driver) d in
@@ -512,7 +513,8 @@ module _ (shape : Shape) where
         let runs_here = subst (λ o. NowRuns driver.place (ops_of o) session.client.txn (Some (At at))) some.1 runs in
         let after : call_after shape session.client at found ≡ client_after shape session.client found =
         ap (λ (now : Option (Now CallPoint Answer)). after_call shape session.client now found) (sym is) in
-        let does = word_does shape limits some.0.ops session.client fits.client.1 found driver.place at place runs_here in
+        let does = word_does shape limits some.0.ops session.client fits.client.1 found driver.place at place
+        runs_here in
         record {
           at = at;
           is = is;

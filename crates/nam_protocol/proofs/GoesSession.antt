@@ -223,13 +223,15 @@ module _ (shape : Shape) (limits : FitsLimits shape) (P : SessionState → Type 
   -- 4. The sessions that occur
 
   module _ (worker start : ℕ) (jobs : List Job) (policy : Policy) (is : IsOf shape.workers worker)
-      (number : start ≤ greatest_number shape.form) (fit : AllByRecursion (JobFits shape) jobs) (least : 1 ≤ policy.tries) where
+      (number : start ≤ greatest_number shape.form) (fit : AllByRecursion (JobFits shape) jobs)
+      (least : 1 ≤ policy.tries) where
     abbrev unasked : SessionState
     unasked = record { client = new_client worker start; driver = new_driver policy; jobs = jobs }
 
     pub new_kept : P unasked → P (new_session shape (new_client worker start) jobs policy)
     new_kept p =
-        settle_kept (calls_at_most jobs) unasked (new_ready shape limits worker start jobs policy is number fit least) refl p
+        settle_kept (calls_at_most jobs) unasked
+        (new_ready shape limits worker start jobs policy is number fit least) refl p
 
     pub reached_kept : P unasked → (session : SessionState) → IsReached shape worker start jobs policy session
         → SessionFits shape session × P session

@@ -146,7 +146,8 @@ module _ (shape : Shape) (limits : FitsLimits shape) (P : ClientState → Type 0
   cut_holds = cut_kept shape limits Holds session_holds
 
   module _ (worker start : ℕ) (jobs : List Job) (policy : Policy) (is : IsOf shape.workers worker)
-      (number : start ≤ greatest_number shape.form) (fit : AllByRecursion (JobFits shape) jobs) (least : 1 ≤ policy.tries) where
+      (number : start ≤ greatest_number shape.form) (fit : AllByRecursion (JobFits shape) jobs)
+      (least : 1 ≤ policy.tries) where
     pub new_holds : P (new_client worker start) → Holds (new_session shape (new_client worker start) jobs policy)
     new_holds p =
         new_kept shape limits Holds session_holds worker start jobs policy is number fit least
@@ -162,8 +163,8 @@ module _ (shape : Shape) (limits : FitsLimits shape) (P : ClientState → Type 0
 
 pub session_keeps : SessionKeepsLaw
 session_keeps shape limits worker start jobs policy is number fit least test keeps new session reached =
-    (reached_holds shape limits (λ client. test client ≡ true) keeps worker start jobs policy is number fit least new session
-    reached).1.client
+    (reached_holds shape limits (λ client. test client ≡ true) keeps worker start jobs policy is number fit least new
+    session reached).1.client
 
 pub carries_keeps : (shape : Shape) → ClientKeeps shape Carries
 carries_keeps shape = record {

@@ -92,7 +92,8 @@ module _ (shape : Shape) (word : ℕ) (before after : ClientState) where
   OpTells attempt at op Declined =
       (value : Option (List ℕ)) × IsOn shape word attempt.state at value × OpDeclined before after attempt op value
   OpTells attempt at op end =
-      (value : Option (List ℕ)) × IsOn shape word attempt.state at value × OpPassed shape before after attempt op value end
+      (value : Option (List ℕ)) × IsOn shape word attempt.state at value
+      × OpPassed shape before after attempt op value end
 
   abbrev pub CommitTells : Open → CommitPoint → TxnAnswer → Type 0
   CommitTells attempt at (Committed number) = HasCommitted before after attempt number

@@ -1,7 +1,7 @@
 -- The digits at the front of a line, and the field that they are.
-use Rattle.std.proofs.Common.{◌≡◌, ℕ, suc, ◌+◌, ◌-◌, ◌*◌, ◌^◌, ◌<◌, ◌≤◌, Bool, true, false, ◌&&◌, eqb, leb, List, [], ◌∷◌, ◌++◌, length}
-use Rattle.std.proofs.Common.{take, drop, get_or, Option, Some, None, refl, sym, ap, ◌∙◌, subst, add-one, drop-cons, arith, lit<}
-use Rattle.std.specs.List.{list_all, slice_split}
+use Rattle.std.proofs.Common.{◌≡◌, ℕ, suc, ◌+◌, ◌-◌, ◌*◌, ◌^◌, ◌<◌, ◌≤◌, true, eqb, leb, List, [], ◌∷◌, ◌++◌, length}
+use Rattle.std.proofs.Common.{take, drop, get_or, Some, refl, sym, ap, ◌∙◌, subst, add-one, drop-cons, arith, lit<}
+use Rattle.std.specs.List.{list_all}
 use Rattle.std.specs.Char.{is_ascii_digit, digit_value}
 use Rattle.std.specs.Str.Parse.{digits_value, digits_value_after}
 use Rattle.std.proofs.Math.Nat.{pow-le-pow_right, pow-suc}
@@ -10,7 +10,7 @@ use Rattle.std.proofs.lemmas.List.{take_all, take_more, take-append-drop, length
 use Rattle.std.proofs.lemmas.List.Folds.{list_all-append}
 use Rattle.std.proofs.lemmas.List.Splits.{slice_split_at, slice_split_none}
 use Rattle.std.proofs.lemmas.List.Elements.{All-from_recursion}
-use Rattle.nam_text.specs.Token.{is_led, number_value, number_of, is_name_byte}
+use Rattle.nam_text.specs.Token.{is_led, number_of, is_name_byte}
 use Rattle.nam_text.specs.Fields.{fields_of, IsLeading}
 use Rattle.nam_text.specs.Spelling.{IsPlain}
 use Rattle.nam_text.proofs.Digits.{digit_small}

@@ -98,8 +98,7 @@ impl<'a> Fields<'a> {
 
     /// The number in the next field, where that is one of fewer than 20 digits, read in one pass. Else None, and no
     /// field is taken.
-    #[tactic(auto, unfolding(crate::specs::Read::field_at), using(
-        crate::proofs::Leading::leading_number, crate::proofs::Leading::leading_plain))]
+    #[tactic(auto, unfolding(crate::specs::Read::field_at), using(crate::proofs::Leading::leading_number, crate::proofs::Leading::leading_plain))]
     pub(crate) fn next_short_number(&mut self) -> Option<u64>
         ensures some { IfSome result (λ number. field_at number_of self.old ≡ Some (Some number, self.new)) }
         ensures none { result ≡ None → self.new ≡ self.old }

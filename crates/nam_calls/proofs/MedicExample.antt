@@ -1,5 +1,5 @@
 -- The medic over hand-laid words: worker 2 of a small store was stopped, and its attempt is finished.
-use Rattle.std.proofs.Common.{◌≡◌, ℕ, zero, suc, ◌+◌, ◌==◌, true, List, [], ◌∷◌, ◌++◌, refl}
+use Rattle.std.proofs.Common.{◌≡◌, ℕ, zero, suc, ◌+◌, ◌==◌, false, true, List, [], ◌∷◌, ◌++◌, refl}
 use Rattle.std.specs.Prelude.{if◌then◌else◌, Option, Some, None}
 use Rattle.si_model.specs.declared.log.Finish.{Finish}
 use Rattle.si_model.specs.declared.log.Finish.TheVariants.{Clean, Undone, RolledOn}
@@ -8,6 +8,7 @@ use Rattle.nam_verbs.specs.VerbAt.{VerbAt, ReadAt, WriteAt, ExchangeAt, found_at
 use Rattle.nam_catalog.specs.declared.form.Form.TheVariants.{Held}
 use Rattle.nam_catalog.specs.declared.shape.Shape.{Shape}
 use Rattle.nam_catalog.specs.Greatest.{greatest_number}
+use Rattle.nam_header.specs.Header.{word_of}
 use Rattle.nam_header.specs.Stamp.{stamp_word, version_word, with_lock, with_moved, blank_header, mark}
 use Rattle.nam_layout.specs.declared.field.Field.{Field}
 use Rattle.nam_layout.specs.declared.field.Field.TheVariants.{Entry, Header, Count, Word, SlotHeader, SlotEnd, SlotWord}
@@ -17,7 +18,7 @@ use Rattle.nam_calls.specs.declared.intent.IntentPhase.{IntentPhase}
 use Rattle.nam_calls.specs.declared.intent.IntentPhase.TheVariants.{Listed, Decided}
 use Rattle.nam_calls.specs.declared.intent.IntentKind.{IntentKind}
 use Rattle.nam_calls.specs.declared.intent.IntentKind.TheVariants.{Value, Deletion, Guard}
-use Rattle.nam_calls.specs.declared.medic.MedicPoint.TheVariants.{UndoRow}
+use Rattle.nam_calls.specs.declared.medic.MedicPoint.TheVariants.{UndoRow, UndoHead, UndoClear}
 use Rattle.nam_calls.specs.declared.medic.MedicPoint.TheVariants.{RollNumber, RollRow}
 use Rattle.nam_calls.specs.declared.medic.MedicPoint.TheVariants.{GuardRow, GuardKind}
 use Rattle.nam_calls.specs.Intent.{state_field, number_field, row_field, kind_field, count_field, data_field}
@@ -118,6 +119,19 @@ undone_last : Finishes (state_is 1 Listed ∷ (row_field 2 0, 2) ∷ (Header 2, 
     (ReadAt (state_field 2) ∷ ReadAt (row_field 2 0) ∷ ReadAt (Header 2) ∷ WriteAt (Header 2) gone
     ∷ WriteAt (state_field 2) 0 ∷ [])
 undone_last = record { does = refl; ends = refl }
+
+-- a header that names the worker without a lock isn't written; no call writes such a word
+abbrev only_named : ℕ
+only_named = word_of Held record {
+  stamp = record { thread = 1; number = 2 };
+  moved = false;
+  deleted = false;
+  locked = false;
+  holder = 2;
+}
+
+not_locked : medic_after store 2 (UndoHead 1 0 1) only_named ≡ At UndoClear
+not_locked = refl
 
 -- 3. Rolled on
 

@@ -22,5 +22,6 @@ pub mod Program
 pub mod ProgramRead
 pub mod ProgramClaim
 pub mod ProgramTidy
+pub mod ProgramMedic
 pub mod ProgramCollect
 pub mod FieldLaw

@@ -3,6 +3,7 @@
 ghost use Rattle.nam_calls.specs.Intent.{IntentWordsLaw, StateReadLaw, StateWrittenLaw, KindReadLaw, KindWrittenLaw};
 ghost use Rattle.nam_calls.specs.MedicLaw.{MedicFallsLaw, MedicBeginsLaw, MedicFieldLaw, MedicHoldsLaw, MedicWordLaw};
 ghost use Rattle.nam_calls.specs.MedicLaw.{MedicWritesLaw};
+ghost use Rattle.nam_calls.specs.ProgramMedic.{MedicIsProgram};
 
 /// The words of an intent have room for the most records that a commit can have. The word of a state, and that of a
 /// kind, is read as it was written, and no other word is read as that.
@@ -28,4 +29,10 @@ pub fn medic_verbs()
     ensures holds { MedicHoldsLaw }
     ensures word { MedicWordLaw }
     ensures writes { MedicWritesLaw }
+{}
+
+/// The medic is one straight program: at each moment the verb stands that the program has there, whatever words were
+/// found so far, and it ends where the program returns, with its answer. No other program is that.
+pub fn medic_program_law()
+    ensures { MedicIsProgram }
 {}

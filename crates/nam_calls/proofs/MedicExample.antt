@@ -19,7 +19,7 @@ use Rattle.nam_calls.specs.declared.intent.IntentPhase.TheVariants.{Listed, Deci
 use Rattle.nam_calls.specs.declared.intent.IntentKind.{IntentKind}
 use Rattle.nam_calls.specs.declared.intent.IntentKind.TheVariants.{Value, Deletion, Guard}
 use Rattle.nam_calls.specs.declared.medic.MedicPoint.TheVariants.{UndoRow, UndoHead, UndoClear}
-use Rattle.nam_calls.specs.declared.medic.MedicPoint.TheVariants.{RollNumber, RollRow}
+use Rattle.nam_calls.specs.declared.medic.MedicPoint.TheVariants.{RollNumber, RollRow, RollEntry}
 use Rattle.nam_calls.specs.declared.medic.MedicPoint.TheVariants.{GuardRow, GuardKind}
 use Rattle.nam_calls.specs.Intent.{state_field, number_field, row_field, kind_field, count_field, data_field}
 use Rattle.nam_calls.specs.Intent.{state_word, kind_word}
@@ -217,6 +217,13 @@ all_listed = refl
 
 all_decided : medic_after store 2 medic_begin (state_word 16 Decided) ≡ At (RollNumber 16)
 all_decided = refl
+
+-- no records: no commit lists none
+none_listed : medic_after store 2 medic_begin (state_word 0 Listed) ≡ At UndoClear
+none_listed = refl
+
+none_decided : medic_after store 2 (RollNumber 0) 6 ≡ At (RollEntry 6 [])
+none_decided = refl
 
 greatest_number_is : medic_after store 2 (RollNumber 1) (greatest_number Held)
     ≡ At (RollRow (new_walk 1 (greatest_number Held)))

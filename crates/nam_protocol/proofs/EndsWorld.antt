@@ -8,6 +8,7 @@ use Rattle.std.proofs.lemmas.List.{length-set, length-map}
 use Rattle.si_model.specs.declared.op.Policy.{Policy}
 use Rattle.nam_verbs.specs.Verb.{found_by, after_verb}
 use Rattle.nam_verbs.specs.VerbAt.{VerbAt}
+use Rattle.nam_line.specs.Plan.{Line, refuses_next}
 use Rattle.nam_catalog.specs.declared.shape.Shape.{Shape}
 use Rattle.nam_catalog.specs.Fits.{FitsLimits}
 use Rattle.nam_layout.specs.declared.field.Field.{Field}
@@ -18,9 +19,9 @@ use Rattle.nam_protocol.specs.declared.session.SessionState.{SessionState}
 use Rattle.nam_protocol.specs.Session.{session_verb, session_after, session_cut}
 use Rattle.nam_protocol.specs.World.{World, Turn, Step, Cut, session_of, with_session, verb_in}
 use Rattle.nam_protocol.specs.World.{step_by, step_of, step, cut_of, cut, after_turn, new_sessions, HasNoVerb, HasEnded}
-use Rattle.nam_protocol.specs.Schedule.{Line, Run, Owned, Simulated, numbers_from, turn_by, turn_on, turn_of}
+use Rattle.nam_protocol.specs.Schedule.{Run, Owned, Simulated, numbers_from, turn_by, turn_on, turn_of}
 use Rattle.nam_protocol.specs.Schedule.{after_workers, after_round, after_rounds, scheduled, jobs_of, all_jobs, opened}
-use Rattle.nam_protocol.specs.Schedule.{refuses_next, is_live, until_ended, run_to_end}
+use Rattle.nam_protocol.specs.Schedule.{is_live, until_ended, run_to_end}
 use Rattle.nam_protocol.specs.Left.{session_left}
 use Rattle.nam_protocol.specs.SessionFits.{OpsFit, JobFits, SessionFits}
 use Rattle.nam_protocol.specs.EndsLaw.{sessions_left, world_left, WorldFits, worker_in, TurnLaw}

@@ -1,5 +1,5 @@
 -- Where a client's call goes on. For any property of clients: if it holds at each point that may follow, and of each
--- with_answer client, then it holds after the word.
+-- answered client, then it holds after the word.
 use Rattle.std.proofs.Common.{◌≡◌, ℕ, ◌+◌, false, List, [], ◌∷◌, ◌++◌, length, Option, Some, None, refl}
 use Rattle.std.proofs.Common.{◌≢◌}
 use Rattle.std.proofs.lemmas.Bool.{cond_both}
@@ -93,7 +93,7 @@ step_opens attempt before step = record attempt {
 }
 
 module _ (P : ClientState → Type 0) where
-  -- 2. A transaction's call: it goes on, or it was with_answer
+  -- 2. A transaction's call: it goes on, or it was answered
 
   pub on_call_goes : (client : ClientState) (attempt : Open) (call : Now TxnPoint TxnAnswer)
       → ((place : TxnPoint) → call ≡ At place → P (go (record client { txn = Some attempt }) (InTxn place)))
@@ -113,7 +113,7 @@ module _ (P : ClientState → Type 0) where
   stepped_goes client attempt before step stays over =
       on_call_goes (step_lists client before step) (step_opens attempt before step) step.call stays over
 
-  -- the transaction stays open and lists what was read, or it ends, having listed it or not, or it is with_commit
+  -- the transaction stays open and lists what was read, or it ends, having listed it or not, or it is committed
   pub on_answer_goes : (client : ClientState) (attempt : Open) (answer : TxnAnswer)
       → (outcome_of attempt answer ≡ None → P (read_listed client attempt (items_of attempt.state.read)))
       → ((outcome : Outcome) → outcome_of attempt answer ≡ Some outcome → P (with_end client attempt outcome))

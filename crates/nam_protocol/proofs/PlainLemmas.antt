@@ -34,7 +34,7 @@ use Rattle.nam_protocol.specs.Telling as telling
 pub same_begin : (s : TxnState) → SameBegin s s
 same_begin s = record { worker = refl; last = refl; seen = refl }
 
--- what is read, written and after_claim is no part of it
+-- what is read, written and claimed is no part of it
 knows_same : (s : TxnState) (op : Op) (value : Option (List ℕ)) → SameBegin s (knowing s op value)
 knows_same s op value = record { worker = refl; last = refl; seen = refl }
 

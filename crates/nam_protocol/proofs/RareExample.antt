@@ -1,10 +1,11 @@
 -- Simulated runs that an implementation of its own gave, each with an end that comes rarely.
-use Rattle.std.proofs.Common.{◌≡◌, ℕ, true, false, List, [], ◌∷◌, Some, None, refl}
+use Rattle.std.proofs.Common.{◌≡◌, ℕ, true, false, List, [], ◌∷◌, Some, refl}
 use Rattle.si_model.specs.declared.op.Op.TheVariants.{Get, Put, Add, Need, Guard, Scan}
 use Rattle.si_model.specs.declared.log.Outcome.TheVariants.{Commit, Declined, Again, Newer, TooOld, Full, Cut}
 use Rattle.si_model.specs.declared.log.Event.TheVariants.{NoRoom, Collected, TailCut}
+use Rattle.nam_line.specs.Plan.{Line, plan_of, new_line}
 use Rattle.nam_catalog.specs.declared.form.Form.TheVariants.{Narrow}
-use Rattle.nam_protocol.specs.Schedule.{Scenario, Line, Stints, stint_workers, picked, after_workers, until_ended}
+use Rattle.nam_protocol.specs.Schedule.{Scenario, Stints, stint_workers, picked, after_workers, until_ended}
 use Rattle.nam_protocol.specs.Session.{settle}
 use Rattle.nam_protocol.specs.Opening.{copies, load_from}
 use Rattle.nam_protocol.proofs.Shown.{shape, table, loaded, txn, stint, fuse, item, row, lock, tried, unbegun}
@@ -12,7 +13,7 @@ use Rattle.nam_protocol.proofs.Shown.{move, move_done, move_cut, shown}
 
 -- a line that refuses these verbs alone
 abbrev listed : List ℕ → Line
-listed numbers = record { plan = record { listed = numbers; from = None }; asked = 0 }
+listed numbers = new_line (plan_of numbers)
 
 unfoldable of_no_room_again : Scenario
 of_no_room_again = record {

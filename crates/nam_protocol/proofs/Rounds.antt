@@ -3,11 +3,12 @@ use Rattle.std.proofs.Common.{◌≡◌, ℕ, zero, suc, ◌+◌, ◌-◌, List,
 use Rattle.std.proofs.Math.Nat.{add_comm}
 use Rattle.std.specs.Prelude.{slice_get, option_map}
 use Rattle.std.specs.List.{AllByRecursion}
+use Rattle.nam_line.specs.Plan.{Line}
 use Rattle.nam_catalog.specs.declared.shape.Shape.{Shape}
 use Rattle.nam_calls.specs.Memory.{verb_there}
 use Rattle.nam_protocol.specs.declared.session.SessionState.{SessionState}
 use Rattle.nam_protocol.specs.World.{HasNoVerb, HasEnded, verb_in}
-use Rattle.nam_protocol.specs.Schedule.{Run, Line, Scenario, Simulated, turn_on, turn_of, after_workers, after_round}
+use Rattle.nam_protocol.specs.Schedule.{Run, Scenario, Simulated, turn_on, turn_of, after_workers, after_round}
 use Rattle.nam_protocol.specs.Schedule.{after_rounds, numbers_from, simulated}
 
 module _ (shape : Shape) where

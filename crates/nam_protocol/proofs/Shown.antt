@@ -11,10 +11,11 @@ use Rattle.si_model.specs.declared.log.Event.TheVariants.{Tried, Moved}
 use Rattle.si_model.specs.declared.report.AuditRow.{AuditRow}
 use Rattle.si_model.specs.declared.report.Closed.{Closed}
 use Rattle.si_model.specs.declared.log.MoveEnd.TheVariants as move_end
+use Rattle.nam_line.specs.Plan.{Line, empty_plan, plan_from, new_line}
 use Rattle.nam_catalog.specs.declared.form.Form.{Form}
 use Rattle.nam_catalog.specs.declared.shape.Table.{Table}
 use Rattle.nam_catalog.specs.declared.shape.Shape.{Shape}
-use Rattle.nam_protocol.specs.Schedule.{Line, Stint, Owned, Scenario, run_to_end}
+use Rattle.nam_protocol.specs.Schedule.{Stint, Owned, Scenario, run_to_end}
 use Rattle.nam_protocol.specs.Closed.{closed}
 
 -- 1. The run
@@ -43,10 +44,10 @@ stint worker steps = record { worker = worker; steps = steps }
 
 -- a line that never fails, and one that fails from its nth verb on
 abbrev pub up : Line
-up = record { plan = record { listed = []; from = None }; asked = 0 }
+up = new_line empty_plan
 
 abbrev pub fuse : ℕ → Line
-fuse nth = record { plan = record { listed = []; from = Some nth }; asked = 0 }
+fuse nth = new_line (plan_from nth)
 
 -- 3. Logs and audits
 

@@ -128,7 +128,7 @@ module _ (shape : Shape) (found : ℕ) where
 -- 2. A call is asked
 
 module _ (shape : Shape) where
-  -- the operations are with_call, and the transaction is as it was
+  -- the call is counted, and the transaction is as it was
   recounted : (attempt counts : Open) (later : Option Open) → counts.state ≡ attempt.state
       → KeepsOpen (Some counts) later → KeepsOpen (Some attempt) later
   recounted attempt counts None same kept = tt

@@ -3,7 +3,7 @@ use Rattle.std.proofs.Common.{◌≡◌, ℕ, true, false, List, [], ◌∷◌, 
 use Rattle.si_model.specs.declared.op.Op.TheVariants.{Put}
 use Rattle.si_model.specs.declared.log.Outcome.TheVariants as outcome
 use Rattle.nam_catalog.specs.declared.form.Form.TheVariants.{Narrow}
-use Rattle.nam_protocol.specs.Schedule.{Scenario, Plan, Stints, refuses, next_asked, opened, run_to_end}
+use Rattle.nam_protocol.specs.Schedule.{Scenario, Stints, opened, run_to_end}
 use Rattle.nam_protocol.specs.Schedule.{stint_workers, picked, after_workers, until_ended}
 use Rattle.nam_protocol.specs.Session.{settle}
 use Rattle.nam_protocol.specs.Opening.{copies, load_from}
@@ -83,15 +83,3 @@ cut_at_the_begin = refl
 asked_lines : map (λ line. line.asked) (run_to_end 1000000 puts_of_one_key (fuse 22 ∷ up ∷ [])).lines ≡ 22 ∷ 6 ∷ []
 unfolding puts_of_one_key stint_workers picked after_workers until_ended settle copies load_from
 asked_lines = refl
-
--- verbs that are listed, and all from a number on
-abbrev plan : Plan
-plan = record { listed = 2 ∷ 4 ∷ []; from = Some 6 }
-
-refused : map (refuses plan) (1 ∷ 2 ∷ 3 ∷ 4 ∷ 5 ∷ 6 ∷ 7 ∷ []) ≡ false ∷ true ∷ false ∷ true ∷ false ∷ true ∷ true ∷ []
-refused = refl
-
--- the number of the verbs asked for stays at the last
-asked_at_most : map next_asked (0 ∷ 18446744073709551614 ∷ 18446744073709551615 ∷ [])
-    ≡ 1 ∷ 18446744073709551615 ∷ 18446744073709551615 ∷ []
-asked_at_most = refl

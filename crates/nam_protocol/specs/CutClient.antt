@@ -35,7 +35,7 @@ abbrev pub cut_open : ClientState → TxnPoint → Option Open → ClientState
 cut_open client at None = client
 cut_open client at (Some attempt) = cut_in_txn client attempt at
 
--- the open transaction, where one is, with_end so
+-- the open transaction, where one is, ended so
 abbrev pub left_open : ClientState → Option Open → ClientState
 left_open client None = client
 left_open client (Some attempt) = with_end client attempt (if client.cut then outcome.Cut else outcome.Left)

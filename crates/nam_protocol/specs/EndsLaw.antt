@@ -3,6 +3,7 @@ use Rattle.std.specs.Prelude.{◌≡◌, ℕ, ◌+◌, ◌<◌, ◌≤◌, IsSom
 use Rattle.std.specs.List.{AllByRecursion}
 use Rattle.si_model.specs.declared.op.Policy.{Policy}
 use Rattle.nam_verbs.specs.VerbAt.{VerbAt}
+use Rattle.nam_line.specs.Plan.{Line}
 use Rattle.nam_catalog.specs.declared.shape.Shape.{Shape}
 use Rattle.nam_catalog.specs.Fits.{FitsLimits}
 use Rattle.nam_catalog.specs.Greatest.{greatest_number}
@@ -13,7 +14,7 @@ use Rattle.nam_protocol.specs.declared.session.SessionState.{SessionState}
 use Rattle.nam_protocol.specs.Telling.{new_client}
 use Rattle.nam_protocol.specs.Session.{new_session, session_verb, session_after, session_cut}
 use Rattle.nam_protocol.specs.World.{World, Turn, Step, Cut, session_of, verb_in, after_turn}
-use Rattle.nam_protocol.specs.Schedule.{Line, Run, Owned, Scenario, Simulated, all_jobs, run_to_end}
+use Rattle.nam_protocol.specs.Schedule.{Run, Owned, Scenario, Simulated, all_jobs, run_to_end}
 use Rattle.nam_protocol.specs.Left.{jobs_bound, session_left}
 use Rattle.nam_protocol.specs.SessionFits.{OpsFit, JobFits, SessionFits, IsSettled}
 

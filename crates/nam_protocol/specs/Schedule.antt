@@ -1,5 +1,5 @@
--- Lines that refuse verbs by a plan, and the schedule of a simulated run.
-use Rattle.std.specs.Prelude.{ℕ, zero, suc, ◌+◌, ◌-◌, ◌^◌, ◌≡◌, ◌==◌, ◌||◌, nat_le, Bool, true, false}
+-- The schedule of a simulated run, in which lines refuse verbs.
+use Rattle.std.specs.Prelude.{ℕ, zero, suc, ◌+◌, ◌-◌, ◌≡◌, ◌==◌, Bool, true, false}
 use Rattle.std.specs.Prelude.{if◌then◌else◌, List, [], ◌∷◌, ◌++◌, map, replicate, Option, Some, None, is_some}
 use Rattle.std.specs.Prelude.{slice_get, slice_set}
 use Rattle.std.specs.List.{list_any}
@@ -9,42 +9,13 @@ use Rattle.si_model.specs.declared.op.Policy.{Policy}
 use Rattle.si_model.specs.declared.log.Log.{Log}
 use Rattle.si_model.specs.Generator.{next_state, pick}
 use Rattle.nam_verbs.specs.declared.verb.Verb.{Verb}
+use Rattle.nam_line.specs.Plan.{Line, asked_once, refuses_next}
 use Rattle.nam_catalog.specs.declared.shape.Shape.{Shape}
 use Rattle.nam_protocol.specs.declared.session.Job.{Job}
 use Rattle.nam_protocol.specs.Session.{session_verb, session_log}
 use Rattle.nam_protocol.specs.World.{World, world_verb, step, cut, new_world, HasEnded}
 
--- 1. Lines
-
--- which of a line's verbs are refused, counted from 1: those listed, and all from a number on
-pub record Plan : Type 0 where
-  pub listed : List ℕ
-  pub from : Option ℕ
-
--- a line, and how many verbs it was asked to pass, up to 2^64 - 1
-pub record Line : Type 0 where
-  pub plan : Plan
-  pub asked : ℕ
-
-abbrev pub is_from : Option ℕ → ℕ → Bool
-is_from None number = false
-is_from (Some first) number = nat_le first number
-
--- does the plan refuse the verb with this number
-abbrev pub refuses : Plan → ℕ → Bool
-refuses plan number = list_any (λ n. n == number) plan.listed || is_from plan.from number
-
-abbrev pub next_asked : ℕ → ℕ
-next_asked asked = if asked == 2 ^ 64 - 1 then asked else asked + 1
-
--- the line was asked once more
-abbrev pub asked_once : Line → Line
-asked_once line = record line { asked = next_asked line.asked }
-
-abbrev pub refuses_next : Line → Bool
-refuses_next line = refuses line.plan (next_asked line.asked)
-
--- 2. A turn of a simulated run: a worker that has a verb to come first asks its line, and a refusal is a cut
+-- 1. A turn of a simulated run: a worker that has a verb to come first asks its line, and a refusal is a cut
 
 -- a world, and the line of each worker
 pub record Run : Type 0 where
@@ -86,7 +57,7 @@ module _ (shape : Shape) where
   after_rounds zero run = run
   after_rounds (suc rounds) run = after_rounds rounds (after_round run)
 
--- 3. Schedules: whose turns come before the rounds
+-- 2. Schedules: whose turns come before the rounds
 
 -- so many turns of one worker
 pub record Stint : Type 0 where
@@ -110,7 +81,7 @@ abbrev pub scheduled : Shape → Schedule → List ℕ
 scheduled shape (Stints stints) = stint_workers stints
 scheduled shape (Picks seed picks) = picked shape.workers seed picks
 
--- 4. What is simulated
+-- 3. What is simulated
 
 -- a transaction, and the worker that it belongs to
 pub record Owned : Type 0 where
@@ -153,7 +124,7 @@ pub record Simulated (c : Scenario) (lines : List Line) (run : Run) : Type 0 whe
 abbrev pub logs_of : Shape → World → List Log
 logs_of shape world = map (session_log shape) world.sessions
 
--- 5. The same, computed: rounds until all have ended, at most so many
+-- 4. The same, computed: rounds until all have ended, at most so many
 
 abbrev pub is_live : Shape → World → Bool
 is_live shape world = list_any (λ session. is_some (session_verb shape session)) world.sessions

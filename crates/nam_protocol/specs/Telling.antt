@@ -59,12 +59,12 @@ new_attempt client txn nth prefix seen = record {
 abbrev pub with_listed : ClientState → Event → ClientState
 with_listed client event = record client { log = with_event client.log event }
 
--- the attempt has with_end so: the transaction is no longer open
+-- the attempt has ended so: the transaction is no longer open
 abbrev pub with_end : ClientState → Open → Outcome → ClientState
 with_end client attempt outcome =
     record client { txn = None; log = with_event client.log (attempt_of attempt outcome 0) }
 
--- it has with_commit, and lists what it wrote
+-- it has committed, and lists what it wrote
 abbrev pub with_commit : ClientState → Open → ℕ → ClientState
 with_commit client attempt number = record client {
   last = number;
@@ -82,7 +82,7 @@ abbrev pub read_listed : ClientState → Open → List Item → ClientState
 read_listed client attempt items =
     record client { txn = Some (with_read attempt items); log = with_reads client.log items }
 
--- the items that were read are listed, and the attempt has with_end so
+-- the items that were read are listed, and the attempt has ended so
 abbrev pub read_ended : ClientState → Open → List Item → Outcome → ClientState
 read_ended client attempt items outcome =
     with_end (record client { log = with_reads client.log items }) (with_read attempt items) outcome
@@ -100,7 +100,7 @@ locks_from state nth (header ∷ headers) = lock_at state nth header ∷ locks_f
 abbrev pub new_locks : TxnState → ℕ → List ℕ → List Lock
 new_locks state before headers = locks_from state before (drop before headers)
 
--- 2. A transaction's call was with_answer
+-- 2. A transaction's call was answered
 
 -- a call lists what it has read when it answers; each end but the first four is the attempt's
 abbrev pub on_answer : ClientState → Open → TxnAnswer → ClientState

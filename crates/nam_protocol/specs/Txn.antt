@@ -53,7 +53,7 @@ at state place = record { state = state; call = At place }
 abbrev pub over : TxnState → TxnAnswer → Stepped
 over state answer = record { state = state; call = Over answer }
 
--- the after_claim keys with one more, each once
+-- the claimed keys with one more, each once
 abbrev pub with_claim : List Record → Record → List Record
 with_claim [] r = r ∷ []
 with_claim (c ∷ cs) r = if same_key c.key r.key then c ∷ cs else c ∷ with_claim cs r

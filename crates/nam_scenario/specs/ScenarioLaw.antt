@@ -2,7 +2,8 @@
 use Rattle.std.specs.Prelude.{List}
 use Rattle.nam_script.specs.declared.script.Script.{Script}
 use Rattle.nam_script.specs.Limits.{IsScript}
-use Rattle.nam_protocol.specs.Schedule.{Line, Run, run_to_end}
+use Rattle.nam_line.specs.Plan.{Line}
+use Rattle.nam_protocol.specs.Schedule.{Run, run_to_end}
 use Rattle.nam_protocol.specs.EndsLaw.{ScenarioFits, scenario_bound, ReachesEnd}
 use Rattle.nam_scenario.specs.Scenario.{scenario_of}
 

@@ -33,7 +33,7 @@ abbrev pub with_write : List Item → Item → List Item
 with_write [] i = i ∷ []
 with_write (j ∷ is) i = if same_key (item_key j) (item_key i) then i ∷ is else j ∷ with_write is i
 
--- the with_guard keys with one more: each once, in the order of first guards
+-- the guarded keys with one more: each once, in the order of first guards
 abbrev pub with_guard : List Key → Key → List Key
 with_guard [] key = key ∷ []
 with_guard (g ∷ gs) key = if same_key g key then g ∷ gs else g ∷ with_guard gs key
@@ -70,7 +70,7 @@ writes_after widths (Need t k f least) copy ws = ws
 writes_after widths (Guard t k) copy ws = ws
 writes_after widths (Scan t low high) copy ws = ws
 
--- the with_guard keys after the operation
+-- the guarded keys after the operation
 abbrev pub guards_after : Op → List Key → List Key
 guards_after (Get t k) gs = gs
 guards_after (Put t k v) gs = gs
@@ -80,7 +80,7 @@ guards_after (Need t k f least) gs = gs
 guards_after (Guard t k) gs = with_guard gs (key_at t k)
 guards_after (Scan t low high) gs = gs
 
--- the with_guard keys that aren't written
+-- the guarded keys that aren't written
 abbrev pub unwritten : List Item → List Key → List Key
 unwritten ws gs = filter (λ key. not (writes_key ws key)) gs
 

@@ -1,0 +1,2 @@
+mod KeysLemmas
+mod DriverLemmas

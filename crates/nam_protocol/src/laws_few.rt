@@ -9,7 +9,7 @@ ghost use Rattle.nam_protocol.specs.CommitGives.{CommitGivesLaw};
 /// At each point of a commit that fits, the records, the headers of their locks and the counts are at most 16, and the
 /// commit's number is one of the form. The keys that are tidied after a commit are at most 16. The word that a position
 /// bears for the key of an operation that fits is below 2^64.
-pub fn lists_few()
+pub fn places_suffice()
     ensures keys { FewKeysLaw }
     ensures places { FewPlacesLaw }
     ensures tidies { FewTidiesLaw }

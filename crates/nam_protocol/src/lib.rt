@@ -28,7 +28,7 @@ mod txn;
 pub use client::{Answer, Call, CallPoint, ClientState, Open, Scanned};
 pub use laws_answers::{answers_tell, attempts_asked, lists_within, session_keeps};
 pub use laws_ends::{runs_end, sessions_settle, turns_fall};
-pub use laws_few::{commit_gives, lists_few};
+pub use laws_few::{commit_gives, places_suffice};
 pub use laws_growth::{commit_program_law, logs_grow_law, session_logs_grow_law};
 pub use laws_left::{
     attempt_bound, calls_at_fields, client_falls, reached_within, scan_falls, txn_falls,

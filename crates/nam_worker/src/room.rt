@@ -5,8 +5,7 @@ ghost use Rattle.std.specs.List.{AllByRecursion};
 ghost use Rattle.si_model.specs.Evaluation.{OpFits};
 ghost use Rattle.nam_catalog.specs.Tables.{widths_of};
 ghost use Rattle.nam_protocol.specs.Left.{op_weight, ops_weight, jobs_weight, writes_in, jobs_writes, room_for};
-ghost use Rattle.nam_protocol.specs.SessionFits.{JobFits};
-ghost use Rattle.nam_worker.specs.Needs.{IsSmall};
+ghost use Rattle.nam_worker.specs.Needs.{FitsTables, IsSmall};
 
 use nam_layout::Layout;
 use nam_protocol::Job;
@@ -36,7 +35,7 @@ fn ops_weight(layout: &Layout, ops: &[Op]) -> u64
 }
 
 fn jobs_weight(layout: &Layout, jobs: &[Job]) -> u64
-    requires jobs { AllByRecursion (JobFits layout.now) jobs.now }
+    requires jobs { AllByRecursion (FitsTables layout.now) jobs.now }
     requires small { jobs_weight layout.now jobs.now < 2 ^ 64 }
     ensures { result ≡ jobs_weight layout.now jobs.now }
 {
@@ -76,7 +75,7 @@ fn jobs_writes(jobs: &[Job]) -> u64
 /// and, where the policy tidies, three for each operation that writes and for each try.
 pub fn needs(layout: &Layout, policy: Policy, jobs: &[Job]) -> (u32, u32, u32)
     requires tries { 1 ≤ policy.tries }
-    requires jobs { AllByRecursion (JobFits layout.now) jobs.now }
+    requires jobs { AllByRecursion (FitsTables layout.now) jobs.now }
     requires small { IsSmall (room_for layout.now policy jobs.now) }
     ensures attempts { result.0 ≡ (room_for layout.now policy jobs.now).attempts }
     ensures ops { result.1 ≡ (room_for layout.now policy jobs.now).ops }

@@ -1,5 +1,5 @@
 use Rattle.nam_protocol.proofs.FewLemmas.{few_keys, few_places, few_tidies, key_words}
-use Rattle.nam_protocol.proofs.laws_few.lists_few.Goals as goal
+use Rattle.nam_protocol.proofs.laws_few.places_suffice.Goals as goal
 
 pub returns-clause-keys : goal.returns-clause-keys
 returns-clause-keys c = few_keys

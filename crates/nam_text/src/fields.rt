@@ -9,7 +9,6 @@ ghost use Rattle.nam_text.specs.Read.{field_at};
 ghost use Rattle.nam_text.specs.Spelling.{IsPlain};
 
 use crate::token::{is_led, leading_digits, leading_name};
-use memchr::memchr;
 use std::marker::Model;
 
 /// Where a byte stands first.
@@ -19,14 +18,6 @@ pub fn find_byte(text: &[u8], byte: u8) -> Option<usize>
     text.iter().position(|b| *b == byte)
 }
 
-/// Where a newline stands first. Most lines are short, yet it reads many bytes at once.
-#[tactic(auto, using(crate::proofs::Splits::position_of_first))]
-fn find_newline(text: &[u8]) -> Option<usize>
-    ensures { result ≡ position (λ b. b == 10) text.now }
-{
-    memchr(b'\n', text)
-}
-
 /// The first line, without its newline, and what follows it. None where no newline stands in the text.
 #[tactic(auto, using(crate::proofs::Splits::split_at_position, crate::proofs::Splits::split_no_position))]
 pub fn first_line(text: &[u8]) -> Option<(&[u8], &[u8])>
@@ -34,7 +25,7 @@ pub fn first_line(text: &[u8]) -> Option<(&[u8], &[u8])>
         (λ x. lines_of text.now ≡ x.0.now ∷ lines_of x.1.now) }
     ensures shorter { IfSome result (λ x. length x.1.now < length text.now) }
 {
-    let at = find_newline(text)?;
+    let at = find_byte(text, b'\n')?;
     Some((&text[..at], &text[at + 1..]))
 }
 

@@ -7,6 +7,9 @@ pub mod Mover
 pub mod Horizon
 pub mod Lock
 pub mod Reading
+pub mod Intent
+pub mod Medic
+pub mod MedicLeft
 pub mod Left
 pub mod Fits
 pub mod Holds

@@ -11,10 +11,12 @@
 
 mod horizon;
 mod index;
+mod intent;
 mod laws_left;
 mod laws_memory;
 mod laws_programs;
 mod lock;
+mod medic;
 mod mover;
 mod overflow;
 mod reading;
@@ -23,12 +25,14 @@ mod ring;
 
 pub use horizon::{CollectPoint, OldEnd};
 pub use index::{ClaimKeyEnd, ClaimKeyPoint, FindEnd, Path};
+pub use intent::{IntentKind, IntentPhase, IntentState};
 pub use laws_left::{cells_fall, locks_fall, position_falls, read_falls, verbs_at_fields};
 pub use laws_memory::memory_law;
 pub use laws_programs::{
     claim_program_law, collect_program_law, move_program_law, read_program_law,
 };
 pub use lock::{LockEnd, LockPoint, Locks};
+pub use medic::{MedicPoint, NextVersion, Walk};
 pub use mover::{MoveAnswer, MovePoint};
 pub use overflow::{CellPoint, ClaimEnd, ClaimPoint, FillPoint, Version};
 pub use reading::{ReadPoint, ReadingEnd, Sight};

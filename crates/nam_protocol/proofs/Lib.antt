@@ -43,6 +43,7 @@ pub mod GoesParts
 pub mod GoesTxn
 pub mod GoesCommit
 pub mod GoesClient
+pub mod StaysLemmas
 pub mod GoesView
 pub mod ProgramsCommit
 pub mod CallWrites

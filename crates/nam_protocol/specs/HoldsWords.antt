@@ -5,6 +5,7 @@ use Rattle.si_model.specs.declared.op.Op.{Op}
 use Rattle.si_model.specs.declared.op.Op.TheVariants.{Get, Put, Add, Del, Need, Guard, Scan}
 use Rattle.si_model.specs.declared.row.Item.{Item}
 use Rattle.si_model.specs.declared.row.Row.{Row}
+use Rattle.si_model.specs.declared.log.Finish.{Finish}
 use Rattle.si_model.specs.Evaluation.{new_number, field_of}
 use Rattle.nam_verbs.specs.declared.now.Now.{Now}
 use Rattle.nam_verbs.specs.declared.now.Now.TheVariants.{At}
@@ -14,6 +15,8 @@ use Rattle.nam_catalog.specs.Greatest.{greatest_number}
 use Rattle.nam_calls.specs.Holds.{AreWords, CollectHolds, HasWords, HoldsNow, LockHolds, MoveHolds, ReadHolds, IsWord}
 use Rattle.nam_calls.specs.Holds.{SnapHolds}
 use Rattle.nam_calls.specs.Words.{key_word}
+use Rattle.nam_calls.specs.declared.medic.MedicPoint.{MedicPoint}
+use Rattle.nam_calls.specs.MedicFits.{MedicHolds}
 use Rattle.nam_protocol.specs.declared.client.Answer.{Answer}
 use Rattle.nam_protocol.specs.declared.client.Call.{Call}
 use Rattle.nam_protocol.specs.declared.client.CallPoint.{CallPoint}
@@ -138,8 +141,14 @@ pub record HoldsWords (shape : Shape) (client : ClientState) : Type 0 where
 abbrev pub JobHolds : Job → Type 0
 JobHolds job = AllByRecursion (λ op. CallHolds (call_of op)) job.ops
 
+-- what the medic may still write
+abbrev pub TreatmentHolds : Option (Now MedicPoint Finish) → Type 0
+TreatmentHolds (Some (At place)) = MedicHolds place
+TreatmentHolds _ = Unit {0}
+
 abbrev pub SessionHolds : Shape → SessionState → Type 0
-SessionHolds shape session = HoldsWords shape session.client × AllByRecursion JobHolds session.jobs
+SessionHolds shape session =
+    HoldsWords shape session.client × AllByRecursion JobHolds session.jobs × TreatmentHolds session.client.medic
 
 abbrev pub WorldHolds : Shape → World → Type 0
 WorldHolds shape world = AreWords world.words × AllByRecursion (SessionHolds shape) world.sessions

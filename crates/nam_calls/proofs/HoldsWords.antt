@@ -10,11 +10,12 @@ use Rattle.nam_catalog.specs.declared.form.Form.{Form}
 use Rattle.nam_catalog.specs.declared.form.Form.TheVariants.{Narrow, Wide, Held}
 use Rattle.nam_catalog.specs.Greatest.{greatest_number}
 use Rattle.nam_header.specs.declared.header.Header.{Header}
-use Rattle.nam_header.specs.Flag.{holder_named, locked_by, moved}
+use Rattle.nam_header.specs.Flag.{holder_named, locked_by, unlocked, moved}
 use Rattle.nam_header.specs.Header.{IsWithin, fields_of, header_of, word_of}
 use Rattle.nam_header.specs.Stamp.{mark, with_lock, with_moved, without_moved, version_word}
 use Rattle.nam_header.specs.Tag.{freed, full, generation_of, has_next, written}
 use Rattle.nam_calls.specs.Holds.{AreWords, HasWords, IsWord}
+use Rattle.nam_calls.specs.Medic.{without_lock}
 use Rattle.nam_calls.specs.Record.{word_in}
 use Rattle.nam_calls.specs.Words.{wrapped}
 use Rattle.nam_calls.proofs.FallsTests.{either}
@@ -90,6 +91,11 @@ no_holder : (form : Form) → 0 < (fields_of form).holders
 no_holder Narrow = omega arith
 no_holder Wide = omega arith
 no_holder Held = omega arith
+
+pub unlocked_word : (form : Form) (word : ℕ) → IsWord word → IsWord (without_lock form word)
+unlocked_word form word is =
+    let h = header_within form word is in
+    header_word form (unlocked form word) record { thread = h.thread; number = h.number; holder = no_holder form }
 
 thread_within : (form : Form) (worker : ℕ) → worker ≤ MOST_WORKERS → worker < (fields_of form).threads
 thread_within Narrow worker l = omega arith

@@ -1,5 +1,5 @@
--- The words of a worker's intent: its state, the number of its commit, and for each listed record its row, its kind, the
--- number of the version that was locked, and the data words of the next one.
+-- The words of a worker's intent: its state, the number of its commit, and for each listed record its row, its kind,
+-- the number of the version that was locked, and the data words of the next one.
 use Rattle.std.specs.Prelude.{◌≡◌, if◌then◌else◌, ℕ, ◌+◌, ◌*◌, ◌/◌, ◌%◌, ◌==◌, ◌≤◌, nat_le, Option, Some, None}
 use Rattle.nam_catalog.specs.declared.bounds.TheConstants.{MOST_KEYS, MOST_WIDTH, INTENT_WORDS}
 use Rattle.nam_layout.specs.declared.field.Field.{Field}

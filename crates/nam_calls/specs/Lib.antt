@@ -14,6 +14,8 @@ pub mod Left
 pub mod Fits
 pub mod Holds
 pub mod Writes
+pub mod MedicFits
+pub mod MedicLaw
 pub mod FallsLaw
 pub mod Memory
 pub mod Program

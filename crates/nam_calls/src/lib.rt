@@ -13,6 +13,7 @@ mod horizon;
 mod index;
 mod intent;
 mod laws_left;
+mod laws_medic;
 mod laws_memory;
 mod laws_programs;
 mod lock;
@@ -27,6 +28,7 @@ pub use horizon::{CollectPoint, OldEnd};
 pub use index::{ClaimKeyEnd, ClaimKeyPoint, FindEnd, Path};
 pub use intent::{IntentKind, IntentPhase, IntentState};
 pub use laws_left::{cells_fall, locks_fall, position_falls, read_falls, verbs_at_fields};
+pub use laws_medic::{intent_law, medic_falls, medic_verbs};
 pub use laws_memory::memory_law;
 pub use laws_programs::{
     claim_program_law, collect_program_law, move_program_law, read_program_law,

@@ -94,7 +94,7 @@ module _ (shape : Shape) (limits : FitsLimits shape) where
       let r = records_length shape state fits in
       let l = fits.last_is in
       let room : state.last < greatest_number shape.form = grind (arith, nat_tests) in
-      (fits, ((refl, some, (omega arith, refl, omega arith), room), commit_figure state fits))))
+      (fits, ((refl, some, (omega arith, refl), room), commit_figure state fits))))
 
   -- a call is asked
   pub txn_begins : (state : TxnState) (call : TxnCall) → StateFits shape state → TxnCallFits shape state call

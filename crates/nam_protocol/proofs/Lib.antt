@@ -34,6 +34,7 @@ pub mod RunsClient
 pub mod JobKeys
 pub mod FewLemmas
 pub mod EndsDriver
+pub mod StaysLemmas
 pub mod EndsSession
 pub mod EndsWorld
 pub mod RoomDriver
@@ -43,7 +44,6 @@ pub mod GoesParts
 pub mod GoesTxn
 pub mod GoesCommit
 pub mod GoesClient
-pub mod StaysLemmas
 pub mod GoesView
 pub mod ProgramsCommit
 pub mod CallWrites

@@ -437,6 +437,7 @@ module _ (shape : Shape) where
         (place_try client job driver.nth driver.place asks.opened on) after.call refl
         (place_of_call client job driver.nth driver.place asks.opened) s.does s.lists;
     cut = λ session asks. record { opened = asks.opened; attempt = asks.attempt; call = asks.call };
+    treated = λ session medic asks. record { opened = asks.opened; attempt = asks.attempt; call = asks.call };
   }
 
 -- 8. The law

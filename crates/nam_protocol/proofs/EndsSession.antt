@@ -86,7 +86,7 @@ nth_holds P [] n x all e = absurd (cc)
 nth_holds P (y ∷ ys) zero x all e = let same : y ≡ x = cc in subst P same all.0
 nth_holds P (y ∷ ys) (suc n) x all e = nth_holds P ys n x all.1 e
 
-some_of : {A : Type 0} (o : Option A) → is_some o ≡ true → (x : A) × (o ≡ Some x)
+pub some_of : {A : Type 0} (o : Option A) → is_some o ≡ true → (x : A) × (o ≡ Some x)
 some_of None e = absurd (false≢true e)
 some_of (Some x) e = (x, refl)
 

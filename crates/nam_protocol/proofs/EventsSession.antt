@@ -1,11 +1,12 @@
 -- A session lists no more events than the room for its jobs has.
-use Rattle.std.proofs.Common.{◌≡◌, ℕ, zero, suc, ◌+◌, ◌≤◌, List, [], ◌∷◌, length, take, refl, sym, ◌∙◌, ap}
+use Rattle.std.proofs.Common.{◌≡◌, ℕ, zero, suc, ◌+◌, ◌≤◌, List, [], ◌∷◌, length, take, drop, refl, sym, ◌∙◌, ap}
 use Rattle.std.proofs.Common.{subst, arith, Bool, true, false, not, Option, Some, None}
 use Rattle.std.specs.Prelude.{◌==◌, ◌||◌, if◌then◌else◌, slice_get, is_some, IsSome}
 use Rattle.std.specs.List.{AllByRecursion}
 use Rattle.si_model.specs.declared.row.Key.{Key}
 use Rattle.si_model.specs.declared.op.Op.{Op}
 use Rattle.si_model.specs.declared.op.Policy.{Policy}
+use Rattle.si_model.specs.declared.log.Finish.{Finish}
 use Rattle.si_model.specs.declared.log.Lock.{Lock}
 use Rattle.si_model.specs.Rows.{key_at}
 use Rattle.si_model.specs.declared.op.Op.TheVariants as op
@@ -16,7 +17,9 @@ use Rattle.nam_catalog.specs.declared.shape.Shape.{Shape}
 use Rattle.nam_catalog.specs.Fits.{FitsLimits}
 use Rattle.nam_catalog.specs.Greatest.{greatest_number}
 use Rattle.nam_layout.specs.declared.field.Field.{Field}
+use Rattle.nam_calls.specs.declared.medic.MedicPoint.{MedicPoint}
 use Rattle.nam_calls.specs.Fits.{IsOf}
+use Rattle.nam_calls.specs.Medic.{medic_begin, medic_after}
 use Rattle.nam_calls.proofs.FallsTests.{either}
 use Rattle.nam_protocol.specs.declared.txn.TxnAnswer.{TxnAnswer}
 use Rattle.nam_protocol.specs.declared.txn.TxnPoint.{TxnPoint}
@@ -32,30 +35,31 @@ use Rattle.nam_protocol.specs.declared.session.DriverPoint.TheVariants.{ToBegin,
 use Rattle.nam_protocol.specs.declared.session.DriverState.{DriverState}
 use Rattle.nam_protocol.specs.declared.session.SessionState.{SessionState}
 use Rattle.nam_protocol.specs.Telling.{new_client}
-use Rattle.nam_protocol.specs.Client.{client_ask, client_after}
-use Rattle.nam_protocol.specs.CutClient.{client_cut}
+use Rattle.nam_protocol.specs.Client.{client_ask, client_after, client_verb}
+use Rattle.nam_protocol.specs.CutClient.{finish_of}
 use Rattle.nam_protocol.specs.ClientFits.{ClientFits}
 use Rattle.nam_protocol.specs.Session.{answer_now, calls_at_most, taken, settle, session_verb, session_after}
-use Rattle.nam_protocol.specs.Session.{session_log}
-use Rattle.nam_protocol.specs.Session.{has_ended, session_cut}
+use Rattle.nam_protocol.specs.Session.{call_taken, treated, session_log, jobs_over, has_medic, stopped, cut_in}
+use Rattle.nam_protocol.specs.Session.{session_cut}
 use Rattle.nam_protocol.specs.Driver.{new_driver, op_call, place_call, job_call, driver_next, next_job, next_try}
 use Rattle.nam_protocol.specs.Driver.{retried, tidying, on_full, keys_of_job, on_commit, on_txn, on_begin, on_ask}
 use Rattle.nam_protocol.specs.Driver.{on_tidy}
 use Rattle.nam_protocol.specs.Driver.{place_taken}
 use Rattle.nam_protocol.specs.Left.{Room, room_for}
 use Rattle.nam_protocol.specs.AttemptLaw.{has_passed}
-use Rattle.nam_protocol.specs.SessionFits.{PlaceRuns, DriverFits}
-use Rattle.nam_protocol.specs.SessionFits.{NowRuns, ops_of, JobFits, SessionFits}
-use Rattle.nam_protocol.specs.RoomLaw.{call_room, DriverCounts, room_left}
+use Rattle.nam_protocol.specs.SessionFits.{DriverFits, is_running, ops_of, JobFits, SessionFits}
+use Rattle.nam_protocol.specs.RoomLaw.{call_room, DriverCounts, driver_room, room_left}
 use Rattle.nam_protocol.specs.SessionKeeps.{is_asking}
-use Rattle.nam_protocol.specs.ClientEvents.{listed, is_open_after, NowLists, ClientLists, NeedsOpen, closing}
+use Rattle.nam_protocol.specs.ClientEvents.{listed, is_open_after, NowLists, ClientLists, NeedsOpen, event_if}
+use Rattle.nam_protocol.specs.ClientEvents.{closing}
 use Rattle.nam_protocol.specs.EventsLaw.{IsReached, is_new, by_word, by_cut, EventsLaw}
 use Rattle.nam_protocol.proofs.RunsClient.{NowDoes}
-use Rattle.nam_protocol.proofs.EndsDriver.{AsksFrom, calls_from}
+use Rattle.nam_protocol.proofs.EndsDriver.{AsksFrom, calls_from, drop_from}
 use Rattle.nam_protocol.proofs.EndsSession.{IsReady, asks, taken_ready, nth_holds, is_open, takes_word, new_ready}
-use Rattle.nam_protocol.proofs.EndsSession.{new_session_ends, session_word, session_cut_ends}
+use Rattle.nam_protocol.proofs.EndsSession.{some_of, by_medic, new_session_ends, session_word, session_cut_ends}
+use Rattle.nam_protocol.proofs.StaysLemmas.{IsUncut, still_uncut, asked_stays, word_stays}
 use Rattle.nam_protocol.proofs.RoomDriver.{room_suffices}
-use Rattle.nam_protocol.proofs.EventsClient.{word_lists, ask_lists, closed_lists}
+use Rattle.nam_protocol.proofs.EventsClient.{word_lists, ask_lists, log_lists}
 use Rattle.nam_protocol.proofs.RunsClient.{AskAnswered, TidyAnswered, CollectAnswered, IsAnswered}
 use Rattle.nam_protocol.specs.declared.txn.TxnAnswer.TheVariants as txn_answer
 use Rattle.nam_protocol.specs.declared.client.Answer.TheVariants as answer
@@ -237,7 +241,7 @@ module _ (shape : Shape) (limits : FitsLimits shape) (whole : ℕ) where
         }
 
     -- the client has been asked, or has taken a word
-    goes_on_holds : (client : ClientState) (calls : ℕ) → KeepsHolding calls → ClientFits shape client
+    goes_on_holds : (client : ClientState) (calls : ℕ) → KeepsHolding calls → ClientFits shape client → IsUncut client
         → (now : Option (Now CallPoint Answer)) → client.call ≡ now
         → NowDoes shape session.driver.place job.ops client.txn now
         → NowLists events (is_some session.client.txn) client.log.events client.txn now
@@ -245,14 +249,14 @@ module _ (shape : Shape) (limits : FitsLimits shape) (whole : ℕ) where
           | None ↦ record session { client = client }
           | Some answer ↦ settle shape calls (taken session client answer)
         ])
-    goes_on_holds client calls later fits None e does lists = absurd does
-    goes_on_holds client calls later fits (Some (At at)) e does lists = record {
+    goes_on_holds client calls later fits uncut None e does lists = absurd does
+    goes_on_holds client calls later fits uncut (Some (At at)) e does lists = record {
       counts = holds.counts;
       opened = lists.1 ∙ holds.opened;
       within = let h = holds.within in let l = lists.0 in omega arith;
     }
-    goes_on_holds client calls later fits (Some (Over end)) e does lists =
-        later (taken session client end) (taken_ready shape session jobs driver job here client end fits e does)
+    goes_on_holds client calls later fits uncut (Some (Over end)) e does lists =
+        later (taken session client end) (taken_ready shape session jobs driver job here client end fits uncut e does)
         (taken_holds client end does lists.0 lists.1)
 
   next_holds : (calls : ℕ) (session : SessionState) → IsReady shape session → Holds session → KeepsHolding calls
@@ -274,7 +278,8 @@ module _ (shape : Shape) (limits : FitsLimits shape) (whole : ℕ) where
       (nth_holds (JobFits shape) session.jobs driver.job job ready.jobs here) (omega arith) in
       let call = place_call job driver.nth driver.place in
       let client = client_ask shape session.client call in
-      goes_on_holds session ready.jobs ready.driver holds job here client calls later a.stands client.call refl a.does
+      let uncut = still_uncut session.client client (asked_stays shape session.client call) ready.uncut in
+      goes_on_holds session ready.jobs ready.driver holds job here client calls later a.stands uncut client.call refl a.does
       (ask_lists n shape session.client (omega arith) call
       (needs_open shape session.client job.ops job.txn driver.nth driver.place asked))
 
@@ -285,58 +290,107 @@ module _ (shape : Shape) (limits : FitsLimits shape) (whole : ℕ) where
       next_holds calls session ready holds (settle_holds calls) (slice_get session.jobs session.driver.job) refl
 
   -- a word is taken
-  word_holds : (session : SessionState) (verb : VerbAt Field) (found : ℕ) → SessionFits shape session → Holds session
-      → session_verb shape session ≡ Some verb
-      → Holds (session_after shape session found)
-  word_holds session verb found fits holds e =
+  call_holds : (session : SessionState) (verb : VerbAt Field) (found : ℕ) → SessionFits shape session → Holds session
+      → client_verb shape session.client ≡ Some verb
+      → Holds (call_taken shape session found)
+  call_holds session verb found fits holds e =
       let t = takes_word shape limits session verb found fits e in
       let n = length session.client.log.events in
       let client = client_after shape session.client found in
       let lists = word_lists n shape session.client (omega arith) t.at found t.place in
+      let uncut = still_uncut session.client client (word_stays shape session.client found) t.uncut in
       goes_on_holds session fits.jobs fits.driver holds t.job t.here client (calls_at_most session.jobs)
-      (settle_holds (calls_at_most session.jobs)) t.falls.0 client.call refl t.does
+      (settle_holds (calls_at_most session.jobs)) t.falls.0 uncut client.call refl t.does
       (subst (ClientLists n (is_some session.client.txn)) t.after lists)
 
-  cut_holds : (session : SessionState) → Holds session → Holds (session_cut session)
-  cut_holds session holds =
-      either Holds (has_ended session) session (record session { client = client_cut session.client }) holds
+  treated_holds : (session : SessionState) (medic : Now MedicPoint Finish) → Holds session
+      → Holds (treated session medic)
+  treated_holds session medic holds =
       record { counts = holds.counts; opened = holds.opened; within = holds.within }
+
+  word_holds : (session : SessionState) (verb : VerbAt Field) (found : ℕ) → SessionFits shape session → Holds session
+      → session_verb shape session ≡ Some verb
+      → Holds (session_after shape session found)
+  word_holds session verb found fits holds e =
+      by_medic shape limits session verb found Holds e (λ none stands. call_holds session verb found fits holds stands)
+      (λ place is. treated_holds session (medic_after shape session.client.worker place found) holds)
+
+  cut_holds : (session : SessionState) → Holds session → Holds (session_cut shape.form session)
+  cut_holds session holds =
+      let stop : Holds (stopped session) =
+      record { counts = holds.counts; opened = holds.opened; within = holds.within } in
+      either Holds (jobs_over session || session.client.cut) session (cut_in shape.form session) holds
+      (either Holds (has_medic shape.form) (treated (stopped session) (At medic_begin)) (stopped session)
+      (treated_holds (stopped session) (At medic_begin) stop) stop)
 
   -- 4. The sessions that occur
 
-  asking_in_txn : (place : DriverPoint) (ops : List Op) (txn : Option Open) (at : TxnPoint)
-      → PlaceRuns place ops txn (InTxn at) → is_asking place ≡ true
-  asking_in_txn ToBegin ops txn at runs = absurd runs
-  asking_in_txn (ToAsk nth) ops txn at runs = refl
-  asking_in_txn (ToTidy keys nth again retry) ops txn at runs = absurd runs
-  asking_in_txn (ToCollect bucket keys nth retry) ops txn at runs = absurd runs
-
-  one_at_most : (b : Bool) → one b ≤ 1
+  one_at_most : (b : Bool) → event_if b ≤ 1
   one_at_most true = omega arith
   one_at_most false = omega arith
 
-  -- what closing the client lists is paid by the open attempt, and by one event
-  closing_paid : (place : DriverPoint) (ops : List Op) (txn : Option Open) (now : Option (Now CallPoint Answer))
-      → NowRuns place ops txn now
-      → closing txn now ≤ one (is_asking place) + 1
-  closing_paid place ops txn None runs = let l = one_at_most (is_some txn) in omega arith
-  closing_paid place ops txn (Some (Over end)) runs = let l = one_at_most (is_some txn) in omega arith
-  closing_paid place ops txn (Some (At (InTxn at))) runs =
-      let e = ap one (asking_in_txn place ops txn at runs) in omega arith
-  closing_paid place ops txn (Some (At (Beginning t n at))) runs = omega arith
-  closing_paid place ops txn (Some (At (Scanning table low high at))) runs = omega arith
-  closing_paid place ops txn (Some (At (Seeking table key passed))) runs = omega arith
-  closing_paid place ops txn (Some (At (Moving table key position at))) runs = omega arith
-  closing_paid place ops txn (Some (At (Snapping bucket at))) runs = omega arith
-  closing_paid place ops txn (Some (At (Collecting bucket prefix seen at))) runs = omega arith
+  closing_most : (finish : Option Finish) (txn : Option Open) (place : CallPoint)
+      → closing finish txn (Some (At place)) ≤ 2
+  closing_most finish txn (InTxn at) = omega arith
+  closing_most finish txn (Beginning t n at) = let l = one_at_most (is_some finish) in omega arith
+  closing_most finish txn (Scanning table low high at) = let l = one_at_most (is_some finish) in omega arith
+  closing_most finish txn (Seeking table key passed) = let l = one_at_most (is_some finish) in omega arith
+  closing_most finish txn (Moving table key position at) = let l = one_at_most (is_some finish) in omega arith
+  closing_most finish txn (Snapping bucket at) = let l = one_at_most (is_some finish) in omega arith
+  closing_most finish txn (Collecting bucket prefix seen at) = let l = one_at_most (is_some finish) in omega arith
+
+  -- the call that the driver has asked has room still
+  abbrev to_pay : SessionState → ℕ
+  to_pay session = (room_left shape session.jobs session.driver).attempts
+      + (room_left shape session.jobs session.driver).tidies + one (is_asking session.driver.place)
+
+  abbrev place_to_pay : DriverState → Job → List Job → DriverPoint → ℕ
+  place_to_pay driver job jobs place =
+      (driver_room shape (record driver { place = place }) (job ∷ jobs)).attempts
+      + (driver_room shape (record driver { place = place }) (job ∷ jobs)).tidies + one (is_asking place)
+
+  place_pays : (driver : DriverState) (job : Job) (jobs : List Job) (place : DriverPoint)
+      → 1 ≤ place_to_pay driver job jobs place
+  place_pays driver job jobs ToBegin = omega arith
+  place_pays driver job jobs (ToAsk nth) = omega arith
+  place_pays driver job jobs (ToTidy keys nth false retry) = omega arith
+  place_pays driver job jobs (ToTidy keys nth true retry) = omega arith
+  place_pays driver job jobs (ToCollect bucket keys nth retry) = omega arith
+
+  call_pays : (session : SessionState) (job : Job) → slice_get session.jobs session.driver.job ≡ Some job
+      → 1 ≤ to_pay session
+  call_pays session job here =
+      let driver = session.driver in
+      let rest = drop (driver.job + 1) session.jobs in
+      let same = ap (driver_room shape driver) (drop_from session.jobs driver.job job here) in
+      let a = ap (λ (r : Room). r.attempts) same in
+      let t = ap (λ (r : Room). r.tidies) same in
+      let l = place_pays driver job rest driver.place in
+      omega arith
+
+  -- what closing the client lists is paid by the call that runs or by the open attempt, and by one event
+  closing_paid : (session : SessionState) → Holds session → (now : Option (Now CallPoint Answer))
+      → is_running now ≡ is_some (slice_get session.jobs session.driver.job)
+      → closing (finish_of session.client.medic) session.client.txn now ≤ to_pay session + 1
+  closing_paid session holds None runs =
+      let e = ap one holds.opened in
+      let l = one_at_most (is_some (finish_of session.client.medic)) in
+      omega arith
+  closing_paid session holds (Some (Over end)) runs =
+      let e = ap one holds.opened in
+      let l = one_at_most (is_some (finish_of session.client.medic)) in
+      omega arith
+  closing_paid session holds (Some (At place)) runs =
+      let job = some_of (slice_get session.jobs session.driver.job) (sym runs) in
+      let p = call_pays session job.0 job.1 in
+      let l = closing_most (finish_of session.client.medic) session.client.txn place in
+      omega arith
 
   log_within : (session : SessionState) → SessionFits shape session → Holds session
       → length (session_log shape session).events ≤ whole + 1
   log_within session fits holds =
-      let closed = closed_lists shape session.client session.client.call in
-      let paid = closing_paid session.driver.place
-      (ops_of (slice_get session.jobs session.driver.job)) session.client.txn
-      session.client.call fits.runs in
+      let closed = log_lists shape session.client in
+      let paid = closing_paid session holds session.client.call fits.stands in
       let h = holds.within in
       omega arith
 
@@ -368,7 +422,7 @@ module _ (shape : Shape) (limits : FitsLimits shape) (worker start : ℕ) (jobs 
       )
   reached_stays session (by_cut before reached) =
       let s = reached_stays before reached in
-      ((session_cut_ends shape before s.0).0, cut_holds shape limits whole_room before s.1)
+      ((session_cut_ends shape limits before s.0).fits, cut_holds shape limits whole_room before s.1)
 
 pub events_within : EventsLaw
 events_within shape limits worker start jobs policy is number fit least session reached =

@@ -7,7 +7,11 @@ use Rattle.si_model.specs.declared.row.Item.{Item}
 use Rattle.si_model.specs.declared.log.Lock.{Lock}
 use Rattle.si_model.specs.declared.log.Outcome.{Outcome}
 use Rattle.si_model.specs.declared.log.Event.{Event}
-use Rattle.si_model.specs.declared.log.Event.TheVariants.{TailCut}
+use Rattle.si_model.specs.declared.log.Event.TheVariants.{TailCut, Finished}
+use Rattle.si_model.specs.declared.log.Finish.{Finish}
+use Rattle.si_model.specs.declared.log.Outcome.TheVariants as outcome
+use Rattle.std.specs.Prelude.{◌||◌}
+use Rattle.nam_calls.proofs.FallsTests.{either}
 use Rattle.si_model.specs.declared.log.Stamp.{Stamp}
 use Rattle.si_model.specs.declared.log.Log.{Log}
 use Rattle.si_model.specs.Rows.{key_at, writes_key}
@@ -49,6 +53,8 @@ use Rattle.nam_protocol.specs.Client.{with_call, ask_txn, ask_scan, client_ask, 
 use Rattle.nam_protocol.specs.Client.{on_collect, take_txn, take_scan, call_after, after_call, client_after}
 use Rattle.nam_protocol.specs.Client.{abandon_open, client_abandon}
 use Rattle.nam_protocol.specs.CutClient.{cut_in_txn, cut_open, left_open, cut_move, cut_call, closed_call}
+use Rattle.nam_protocol.specs.CutClient.{finish_of, is_published, has_rolled_on, finished_in_txn, finished_call}
+use Rattle.nam_protocol.specs.CutClient.{closed_client}
 use Rattle.nam_protocol.specs.Grows.{Grows, LogsGrow}
 use Rattle.nam_protocol.specs.declared.txn.TxnAnswer.TheVariants as txn_answer
 use Rattle.nam_protocol.specs.declared.scan.ScanAnswer.TheVariants as scan_answer
@@ -352,11 +358,32 @@ module _ (shape : Shape) where
   closed_call_grows client (Some (At place)) = cut_call_grows client place
   closed_call_grows client (Some (Over answer)) = left_open_grows client client.txn
 
+  finished_grows : (client : ClientState) (at : TxnPoint) (how : Finish) (txn : Option Open)
+      → Grows client.log (finished_in_txn client at how txn).log
+  finished_grows client at how None = grows_same client.log
+  finished_grows client at how (Some attempt) =
+      either (λ (c : ClientState). Grows client.log c.log) (is_published at || has_rolled_on how)
+      (with_commit client attempt (attempt.state.last + 1)) (with_end client attempt outcome.Cut)
+      (committed_grows client attempt (attempt.state.last + 1)) (event_grows client.log _)
+
+  finished_call_grows : (client : ClientState) (how : Finish) (call : Option (Now CallPoint Answer))
+      → Grows client.log (finished_call shape client how call).log
+  finished_call_grows client how (Some (At (InTxn at))) = finished_grows client at how client.txn
+  finished_call_grows client how call = closed_call_grows client call
+
+  closed_grows : (client : ClientState) (finish : Option Finish)
+      → Grows client.log (closed_client shape client finish).log
+  closed_grows client None = closed_call_grows client client.call
+  closed_grows client (Some how) =
+      let done = finished_call shape client how client.call in
+      grows_trans client.log done.log _ (finished_call_grows client how client.call)
+      (event_grows done.log (Finished how))
+
   pub logs_grow : LogsGrow shape
   logs_grow = record {
     word = word_grows shape;
     asked = ask_grows shape;
     abandoned = abandon_grows;
     cut = λ client. refl;
-    closed = λ client. closed_call_grows client client.call;
+    closed = λ client. closed_grows client (finish_of client.medic);
   }

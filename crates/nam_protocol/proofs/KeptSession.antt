@@ -146,6 +146,8 @@ module _ (shape : Shape) (limits : FitsLimits shape) (P : ClientState → Type 0
         (keeps.asked session.client c ready.client (may_ask session job ready uncut holds.opened s.here) holds.client)
         client.call s.does s.lists;
     cut = λ session holds. record { opened = holds.opened; client = keeps.cut session.client holds.client };
+    treated = λ session medic holds.
+        record { opened = holds.opened; client = keeps.treated session.client medic holds.client };
   }
 
   -- so by each word of a verb that stands, by a stop, and of each session that occurs
@@ -153,7 +155,7 @@ module _ (shape : Shape) (limits : FitsLimits shape) (P : ClientState → Type 0
       → session_verb shape session ≡ Some verb → Holds session → Holds (session_after shape session found)
   word_holds = word_kept shape limits Holds session_holds
 
-  pub cut_holds : (session : SessionState) → Holds session → Holds (session_cut session)
+  pub cut_holds : (session : SessionState) → Holds session → Holds (session_cut shape.form session)
   cut_holds = cut_kept shape limits Holds session_holds
 
   module _ (worker start : ℕ) (jobs : List Job) (policy : Policy) (is : IsOf shape.workers worker)
@@ -181,6 +183,8 @@ carries_keeps shape = record {
   word = λ client place found fits uncut e. word_carries shape client found fits;
   asked = λ client asked fits. asked_carries shape client asked;
   cut = cut_carries;
+  treated = λ client medic carries.
+      record { opened = carries.opened; scanned = carries.scanned; collected = carries.collected };
 }
 
 pub own_keeps : (shape : Shape) (worker : ℕ) → ClientKeeps shape (OwnOk shape worker)
@@ -188,6 +192,7 @@ own_keeps shape worker = record {
   word = λ client place found fits uncut. own_word shape worker client place found fits;
   asked = λ client asked fits. own_asked shape worker client asked;
   cut = own_cut shape worker;
+  treated = λ client medic own. own;
 }
 
 pub stage_keeps : (shape : Shape) → ClientKeeps shape StageClient
@@ -195,6 +200,7 @@ stage_keeps shape = record {
   word = λ client place found fits uncut. stage_word shape client place found fits;
   asked = λ client asked fits may stage. stage_asked shape client asked may;
   cut = stage_cut;
+  treated = λ client medic stage. stage;
 }
 
 pub open_keeps : (shape : Shape) → ClientKeeps shape OpenClient
@@ -202,6 +208,7 @@ open_keeps shape = record {
   word = λ client place found fits uncut e. open_word shape client found;
   asked = λ client asked fits may opens. open_asked shape client asked may;
   cut = open_cut;
+  treated = λ client medic open_. open_;
 }
 
 pub session_carries : SessionCarriesLaw

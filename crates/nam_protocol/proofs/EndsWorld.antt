@@ -67,8 +67,8 @@ module _ (shape : Shape) where
   rests world fits = record { fits = fits; many = refl; within = omega arith; falls = λ some. absurd (false≢true some) }
 
   follows_if : (A B : Type 0) (before after : World) → (A → B) → Follows B before after → Follows A before after
-  follows_if A B before after if f =
-      record { fits = f.fits; many = f.many; within = f.within; falls = λ a. f.falls (if a) }
+  follows_if A B before after holds f =
+      record { fits = f.fits; many = f.many; within = f.within; falls = λ a. f.falls (holds a) }
 
   -- a session gave way to one with no more verbs to come
   replaced : (Turned : Type 0) (world : World) (words : List ℕ) (worker : ℕ) (old new : SessionState)

@@ -1,7 +1,7 @@
 -- How many events a client lists with each word and each answer, and when a transaction is open.
 use Rattle.std.proofs.Common.{◌≡◌, ℕ, ◌+◌, ◌≤◌, List, [], ◌∷◌, ◌++◌, length, length-append, refl, sym, subst}
 use Rattle.std.proofs.Common.{arith, Bool, true, false, Option, Some, None}
-use Rattle.std.specs.Prelude.{if◌then◌else◌, ◌||◌, is_some, IsSome}
+use Rattle.std.specs.Prelude.{if◌then◌else◌, is_some, IsSome}
 use Rattle.std.proofs.lemmas.Bool.{false≢true}
 use Rattle.si_model.specs.declared.log.Event.{Event}
 use Rattle.si_model.specs.declared.log.Event.TheVariants.{Finished}
@@ -54,7 +54,7 @@ use Rattle.nam_protocol.specs.ScanCall.{with_gathered, on_skip, on_scan}
 use Rattle.nam_protocol.specs.Client.{with_call, ask_txn, ask_scan, client_ask, on_begin, on_seek, on_move, on_snap}
 use Rattle.nam_protocol.specs.Client.{on_collect, take_txn, take_scan, call_after, after_call}
 use Rattle.nam_protocol.specs.CutClient.{cut_in_txn, cut_open, left_open, cut_move, closed_call, finish_of}
-use Rattle.nam_protocol.specs.CutClient.{is_published, has_rolled_on, finished_in_txn, finished_call, closed_client}
+use Rattle.nam_protocol.specs.CutClient.{has_committed, finished_in_txn, finished_call, closed_client}
 use Rattle.nam_protocol.specs.CutClient.{into_log}
 use Rattle.nam_protocol.specs.ClientFits.{CallPointFits, OpenPointFits}
 use Rattle.nam_protocol.specs.ClientEvents.{ClientLists, NeedsOpen, closing, ClientEventsLaw}
@@ -283,7 +283,7 @@ finished_lists : (client : ClientState) (at : TxnPoint) (how : Finish) (opened :
 finished_lists client at how None = omega arith
 finished_lists client at how (Some attempt) =
     either (λ (c : ClientState). length c.log.events ≤ length client.log.events + 1)
-    (is_published at || has_rolled_on how) (with_commit client attempt (attempt.state.last + 1))
+    (has_committed at how) (with_commit client attempt (attempt.state.last + 1))
     (with_end client attempt outcome.Cut) (one_more client.log.events _) (one_more client.log.events _)
 
 module _ (shape : Shape) where
@@ -322,7 +322,7 @@ module _ (shape : Shape) where
       let l = call_lists client (Some (At (Collecting bucket prefix seen at))) in omega arith
 
   closed_lists : (client : ClientState) (finish : Option Finish)
-      → length (closed_client shape client finish).log.events
+      → length (closed_client shape client finish client.call).log.events
       ≤ length client.log.events + closing finish client.txn client.call
   closed_lists client None = call_lists client client.call
   closed_lists client (Some how) =

@@ -10,7 +10,6 @@ use Rattle.si_model.specs.declared.log.Event.{Event}
 use Rattle.si_model.specs.declared.log.Event.TheVariants.{TailCut, Finished}
 use Rattle.si_model.specs.declared.log.Finish.{Finish}
 use Rattle.si_model.specs.declared.log.Outcome.TheVariants as outcome
-use Rattle.std.specs.Prelude.{◌||◌}
 use Rattle.nam_calls.proofs.FallsTests.{either}
 use Rattle.si_model.specs.declared.log.Stamp.{Stamp}
 use Rattle.si_model.specs.declared.log.Log.{Log}
@@ -47,13 +46,13 @@ use Rattle.nam_protocol.specs.Operations.{own_value}
 use Rattle.nam_protocol.specs.TxnCalls.{taken_now}
 use Rattle.nam_protocol.specs.Scan.{scan_skip, scan_read}
 use Rattle.nam_protocol.specs.Log.{with_event, with_reads, with_locks, with_writes, with_snap}
-use Rattle.nam_protocol.specs.Telling.{read_ended, items_of, new_locks, with_commit, on_answer, on_call, stepped}
+use Rattle.nam_protocol.specs.Telling.{read_ended, items_of, new_locks, with_commit, on_answer, on_call, stepped, with_end}
 use Rattle.nam_protocol.specs.ScanCall.{with_gathered, on_skip, on_key, on_scan}
 use Rattle.nam_protocol.specs.Client.{with_call, ask_txn, ask_scan, client_ask, on_begin, on_seek, on_move, on_snap}
 use Rattle.nam_protocol.specs.Client.{on_collect, take_txn, take_scan, call_after, after_call, client_after}
 use Rattle.nam_protocol.specs.Client.{abandon_open, client_abandon}
 use Rattle.nam_protocol.specs.CutClient.{cut_in_txn, cut_open, left_open, cut_move, cut_call, closed_call}
-use Rattle.nam_protocol.specs.CutClient.{finish_of, is_published, has_rolled_on, finished_in_txn, finished_call}
+use Rattle.nam_protocol.specs.CutClient.{finish_of, has_committed, finished_in_txn, finished_call}
 use Rattle.nam_protocol.specs.CutClient.{closed_client}
 use Rattle.nam_protocol.specs.Grows.{Grows, LogsGrow}
 use Rattle.nam_protocol.specs.declared.txn.TxnAnswer.TheVariants as txn_answer
@@ -362,7 +361,7 @@ module _ (shape : Shape) where
       → Grows client.log (finished_in_txn client at how txn).log
   finished_grows client at how None = grows_same client.log
   finished_grows client at how (Some attempt) =
-      either (λ (c : ClientState). Grows client.log c.log) (is_published at || has_rolled_on how)
+      either (λ (c : ClientState). Grows client.log c.log) (has_committed at how)
       (with_commit client attempt (attempt.state.last + 1)) (with_end client attempt outcome.Cut)
       (committed_grows client attempt (attempt.state.last + 1)) (event_grows client.log _)
 
@@ -372,7 +371,7 @@ module _ (shape : Shape) where
   finished_call_grows client how call = closed_call_grows client call
 
   closed_grows : (client : ClientState) (finish : Option Finish)
-      → Grows client.log (closed_client shape client finish).log
+      → Grows client.log (closed_client shape client finish client.call).log
   closed_grows client None = closed_call_grows client client.call
   closed_grows client (Some how) =
       let done = finished_call shape client how client.call in

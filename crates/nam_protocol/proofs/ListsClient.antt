@@ -1,6 +1,6 @@
 -- How long the lists of a client's log grow with a word and with a call.
-use Rattle.std.proofs.Common.{◌≡◌, ℕ, ◌+◌, ◌≤◌, Bool, true, false, List, [], ◌∷◌, ◌++◌, length, Option, Some, None, refl}
-use Rattle.std.proofs.Common.{sym, ap, subst, ◌∙◌, append-nil, length-append, arith}
+use Rattle.std.proofs.Common.{◌≡◌, ℕ, ◌+◌, ◌≤◌, Bool, true, false, List, length, Option, Some, None, refl}
+use Rattle.std.proofs.Common.{sym, subst, ◌∙◌, length-append, arith}
 use Rattle.std.specs.Prelude.{IsSome, is_some}
 use Rattle.std.proofs.lemmas.Bool.{false≢true}
 use Rattle.std.proofs.lemmas.List.{length_push}
@@ -8,7 +8,6 @@ use Rattle.si_model.specs.declared.row.Item.{Item}
 use Rattle.si_model.specs.declared.op.Op.{Op}
 use Rattle.si_model.specs.declared.op.Op.TheVariants as op
 use Rattle.si_model.specs.declared.log.Event.{Event}
-use Rattle.si_model.specs.declared.log.Lock.{Lock}
 use Rattle.si_model.specs.declared.log.Log.{Log}
 use Rattle.si_model.specs.Evaluation.{found}
 use Rattle.si_model.specs.EvaluationLaws.{is_scan}
@@ -30,15 +29,20 @@ use Rattle.nam_protocol.specs.declared.txn.TxnCall.TheVariants.{Get, Put, Add, D
 use Rattle.nam_protocol.specs.declared.txn.TxnPoint.{TxnPoint}
 use Rattle.nam_protocol.specs.declared.txn.TxnPoint.TheVariants.{Finding, Reading, Claiming, Committing}
 use Rattle.nam_protocol.specs.AnswersLaw.{AnswerTells, AskTells, CommitAskTells, CommitTells, OpTells, OpenAskTells}
-use Rattle.nam_protocol.specs.AnswersLaw.{OwnTells, ScanTells, TxnTells, asked_op}
+use Rattle.nam_protocol.specs.AnswersLaw.{OwnTells, ScanTells, TxnTells}
 use Rattle.nam_protocol.specs.AskedLaw.{call_at, txn_call_at}
 use Rattle.nam_protocol.specs.AttemptLaw.{has_passed}
 use Rattle.nam_calls.specs.Words.{capacity_of}
-use Rattle.nam_protocol.specs.Client.{after_call, ask_scan, ask_txn, call_after, client_ask, take_scan, take_txn}
+use Rattle.nam_protocol.specs.Client.{ask_scan, ask_txn, call_after, client_ask, take_scan, take_txn}
 use Rattle.nam_protocol.specs.Client.{with_call}
 use Rattle.nam_protocol.specs.ClientEvents.{is_open_after}
 use Rattle.nam_protocol.specs.ClientFits.{CallFits, CallPointFits, OpenPointFits}
-use Rattle.nam_protocol.specs.CutClient.{closed_call, cut_in_txn, cut_move, cut_open, left_open}
+use Rattle.nam_protocol.specs.CutClient.{closed_call, cut_in_txn, cut_move, cut_open, left_open, has_committed}
+use Rattle.nam_protocol.specs.CutClient.{finished_in_txn, finished_call, closed_client}
+use Rattle.si_model.specs.declared.log.Finish.{Finish}
+use Rattle.si_model.specs.declared.log.Event.TheVariants.{Finished}
+use Rattle.si_model.specs.declared.log.Outcome.TheVariants as outcome
+use Rattle.nam_calls.proofs.FallsTests.{either}
 use Rattle.nam_protocol.specs.declared.txn.CommitPoint.TheVariants.{Freeing}
 use Rattle.nam_layout.specs.Place.{bucket_of, place_of}
 use Rattle.nam_calls.specs.Mover.{move_claimed}
@@ -48,12 +52,14 @@ use Rattle.nam_protocol.specs.Log.{with_event, with_reads, with_snap, with_write
 use Rattle.nam_protocol.specs.Operations.{holding}
 use Rattle.nam_protocol.specs.Own.{IsOpenAt, Rests}
 use Rattle.nam_protocol.specs.RoomLaw.{call_room}
-use Rattle.nam_protocol.specs.Telling.{go, new_locks, stepped}
+use Rattle.nam_protocol.specs.Telling.{go, new_locks, stepped, with_listed, with_commit}
+use Rattle.nam_protocol.specs.Telling.{with_end}
 use Rattle.nam_protocol.specs.Txn.{Stepped}
 use Rattle.nam_protocol.specs.TxnCalls.{taken_now}
 use Rattle.nam_protocol.specs.declared.client.Answer.TheVariants as answer
 use Rattle.nam_protocol.specs.declared.client.Call.TheVariants as call
 use Rattle.nam_protocol.specs.declared.txn.TxnAnswer.TheVariants as txn_answer
+use Rattle.nam_protocol.proofs.FallsClient.{some_open}
 use Rattle.nam_protocol.proofs.GoesClient.{begin_goes, collect_goes, move_goes, scan_goes, seek_goes, snap_goes}
 use Rattle.nam_protocol.proofs.GoesClient.{stepped_goes}
 
@@ -263,10 +269,14 @@ module _ (shape : Shape) (word : ℕ) (before after : ClientState) where
   op_locks : (attempt : Open) (at : TxnPoint) (op : Op) (end : TxnAnswer)
       → OpTells shape word before after attempt at op end → has_passed end ≡ true
       → KeepsLocks (Some attempt) after.txn
-  op_locks attempt at op (txn_answer.Value value) told e = subst (KeepsLocks (Some attempt)) (sym told.2.opened) (omega arith)
-  op_locks attempt at op txn_answer.Written told e = subst (KeepsLocks (Some attempt)) (sym told.2.opened) (omega arith)
-  op_locks attempt at op (txn_answer.Added n) told e = subst (KeepsLocks (Some attempt)) (sym told.2.opened) (omega arith)
-  op_locks attempt at op txn_answer.Met told e = subst (KeepsLocks (Some attempt)) (sym told.2.opened) (omega arith)
+  op_locks attempt at op (txn_answer.Value value) told e =
+      subst (KeepsLocks (Some attempt)) (sym told.2.opened) (omega arith)
+  op_locks attempt at op txn_answer.Written told e =
+      subst (KeepsLocks (Some attempt)) (sym told.2.opened) (omega arith)
+  op_locks attempt at op (txn_answer.Added n) told e =
+      subst (KeepsLocks (Some attempt)) (sym told.2.opened) (omega arith)
+  op_locks attempt at op txn_answer.Met told e =
+      subst (KeepsLocks (Some attempt)) (sym told.2.opened) (omega arith)
   op_locks attempt at op _ told e = absurd (false≢true e)
 
   commit_locks : (attempt : Open) (at : CommitPoint) (end : TxnAnswer)
@@ -485,7 +495,7 @@ module _ (shape : Shape) (keys : ℕ) (before after : ClientState) where
       txn_asked_locks asked before.txn end told (subst (λ was. is_open_after was end ≡ true) some e)
   asked_locks _ end told some e = absurd told
 
-rests_snap : (now : Option (Now CallPoint Answer)) → Rests now → collects_snap now ≡ 0
+pub rests_snap : (now : Option (Now CallPoint Answer)) → Rests now → collects_snap now ≡ 0
 rests_snap None rests = refl
 rests_snap (Some (Over end)) rests = refl
 rests_snap (Some (At place)) rests = absurd rests
@@ -522,7 +532,7 @@ module _ (shape : Shape) where
       let none = rests_snap client.call rests in
       record { reads = refl; writes = refl; locks = refl; snaps = omega arith }
   ask_same client (call.Txn asked) rests fits =
-      ask_txn_same client asked client.txn (rests_snap client.call rests) fits.0
+      ask_txn_same client asked client.txn (rests_snap client.call rests) (some_open shape client.txn asked fits)
   ask_same client (call.Scan table low high) rests fits =
       ask_scan_same client table low high client.txn (rests_snap client.call rests) fits.0
   ask_same client (call.Tidy table key) rests fits =
@@ -573,7 +583,7 @@ module _ (shape : Shape) (keys : ℕ) (client : ClientState) where
   move_closed now table key bucket None = event_more _ _ _ client.log _ _ refl
   move_closed now table key bucket (Some stamp) = event_more _ _ _ client.log _ _ refl
 
-  pub closed_lists : (now : Option (Now CallPoint Answer)) → WritesNow keys client.txn now
+  closed_lists : (now : Option (Now CallPoint Answer)) → WritesNow keys client.txn now
       → Closed now (closed_call shape client now)
   closed_lists None few = ended_closed None client.txn
   closed_lists (Some (Over end)) few = ended_closed (Some (Over end)) client.txn
@@ -588,3 +598,36 @@ module _ (shape : Shape) (keys : ℕ) (client : ClientState) where
       (move_claimed place at)
   closed_lists (Some (At (Snapping bucket at))) few = event_more _ _ _ client.log _ _ refl
   closed_lists (Some (At (Collecting bucket prefix seen at))) few = event_more _ _ _ client.log _ _ refl
+
+  -- the medic has finished it
+  more_event : (now : Option (Now CallPoint Answer)) (after : ClientState) (event : Event) → Closed now after
+      → Closed now (with_listed after event)
+  more_event now after event l = record { reads = l.reads; writes = l.writes; locks = l.locks; snaps = l.snaps }
+
+  finished_closed : (at : TxnPoint) (how : Finish) (opened : Option Open) → WritesWithin keys opened (InTxn at)
+      → Closed (Some (At (InTxn at))) (finished_in_txn client at how opened)
+  finished_closed at how None few = no_more _ _ _ client.log client.log refl
+  finished_closed (Committing at) how (Some attempt) few =
+      either (Closed (Some (At (InTxn (Committing at))))) (has_committed (Committing at) how)
+      (with_commit client attempt (attempt.state.last + 1)) (with_end client attempt outcome.Cut)
+      (record {
+        reads = omega arith;
+        writes = (let l = length-append client.log.writes attempt.state.writes in omega arith);
+        locks = refl;
+        snaps = omega arith;
+      })
+      (event_more _ _ _ client.log _ _ refl)
+  finished_closed (Finding op passed) how (Some attempt) few = event_more _ _ _ client.log _ _ refl
+  finished_closed (Reading op position at) how (Some attempt) few = event_more _ _ _ client.log _ _ refl
+  finished_closed (Claiming op at) how (Some attempt) few = event_more _ _ _ client.log _ _ refl
+
+  finished_lists : (how : Finish) (now : Option (Now CallPoint Answer)) → WritesNow keys client.txn now
+      → Closed now (finished_call shape client how now)
+  finished_lists how (Some (At (InTxn at))) few = finished_closed at how client.txn few
+  finished_lists how now few = closed_lists now few
+
+  pub log_lists : (finish : Option Finish) (now : Option (Now CallPoint Answer)) → WritesNow keys client.txn now
+      → Closed now (closed_client shape client finish now)
+  log_lists None now few = closed_lists now few
+  log_lists (Some how) now few =
+      more_event now (finished_call shape client how now) (Finished how) (finished_lists how now few)

@@ -24,7 +24,8 @@ use Rattle.nam_calls.specs.declared.lock.Locks.{Locks}
 use Rattle.nam_calls.specs.declared.lock.LockPoint.TheVariants.{Peek, GiveBack}
 use Rattle.nam_calls.specs.declared.lock.LockEnd.{LockEnd}
 use Rattle.nam_calls.specs.Record.{install_begin, word_in}
-use Rattle.nam_calls.specs.Lock.{nth_place, lock_begin, lock_verb, lock_after, lock_next, locks_at, loss_of, give_back, of_locks}
+use Rattle.nam_calls.specs.Lock.{nth_place, lock_begin, lock_verb, lock_after, lock_next, locks_at, loss_of}
+use Rattle.nam_calls.specs.Lock.{give_back, of_locks}
 use Rattle.nam_calls.specs.Program.{Prog, ◌>>=◌, write_words, IsProgram, standing, taking}
 use Rattle.nam_calls.proofs.Programs.{both, both_not, is_last, is_more, at_last, before_last, word_then, words_is}
 use Rattle.nam_calls.proofs.Programs.{writes_left, writes_is, part_with, the_program}
@@ -52,7 +53,8 @@ module _ (worker : ℕ) (places : List Place) (seen : List ℕ) where
   back_is held found =
       writes_left (standing (of_locks (lock_verb worker places))) (taking (of_locks (lock_after places seen))) _
       (slice_index held) (length held)
-      (λ nth. At (locks_at held (GiveBack nth found))) (Over (loss_of (nth_place places (length held)).form (length held) found)) _
+      (λ nth. At (locks_at held (GiveBack nth found)))
+      (Over (loss_of (nth_place places (length held)).form (length held) found)) _
       (λ nth. refl) (λ nth word. refl) refl (length held) 0 (omega arith)
 
   locks_from : (rest : ℕ) (held : List ℕ) → length held + rest ≡ length places
@@ -72,7 +74,8 @@ module _ (worker : ℕ) (places : List Place) (seen : List ℕ) where
       (λ t. back_is held found))
 
   -- there is a record to be locked
-  locks_are : 0 < length places → IsLock (At (locks_at [] lock_begin)) (lock_records worker places seen (length places) [])
+  locks_are : 0 < length places
+      → IsLock (At (locks_at [] lock_begin)) (lock_records worker places seen (length places) [])
   locks_are l =
       let t : (0 == length places) ≡ false = grind (arith, nat_tests) in
       subst (λ b. IsLock (if b then Over (lock_end.Held []) else At (locks_at [] Peek))

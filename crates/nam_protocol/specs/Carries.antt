@@ -24,7 +24,6 @@ use Rattle.nam_protocol.specs.declared.client.ClientState.{ClientState}
 use Rattle.nam_protocol.specs.Operations.{holding, value_in}
 use Rattle.nam_protocol.specs.Commit.{lock_at, record_place}
 use Rattle.nam_protocol.specs.Scan.{position_of}
-use Rattle.nam_protocol.specs.TxnCalls.{taken_at}
 use Rattle.nam_protocol.specs.Log.{prefix_of}
 use Rattle.nam_protocol.specs.Telling.{items_of, locks_from}
 
@@ -35,10 +34,10 @@ pub record IsDecided (state : TxnState) (op : Op) : Type 0 where
   pub passes : passes op (holding (value_in state.read)) ≡ true
   pub read : items_of state.read ≡ found op (holding (value_in state.read))
 
--- the word found at a record of the commit is locked or not seen, or is another than the header to be exchanged
-abbrev pub IsInTheWay : TxnState → ℕ → ℕ → Type 0
-IsInTheWay state nth word =
-    let form = (record_place state nth).form in
+-- the word found at the record whose lock is next is locked or not seen, or is another than the header to be exchanged
+abbrev pub IsInTheWay : TxnState → ℕ → Type 0
+IsInTheWay state word =
+    let form = (record_place state (length state.held)).form in
     (is_locked form word ≡ true)
     ⊎ ((sees form state.seen word ≡ false) ⊎ ((header : ℕ) × (sees form state.seen header ≡ true) × (word ≢ header)))
 
@@ -51,9 +50,9 @@ pub record IsFullAt (state : TxnState) (full : Lock) : Type 0 where
   pub not_moved : is_moved (record_place state nth).form head ≡ false
 
 abbrev pub CommitCarries : TxnState → CommitPoint → Type 0
-CommitCarries state (Locking (Seize held header)) =
-    sees (record_place state (length held)).form state.seen header ≡ true
-CommitCarries state (Locking (GiveBack held given word)) = IsInTheWay state (length held) word
+CommitCarries state (Locking (Seize header)) =
+    sees (record_place state (length state.held)).form state.seen header ≡ true
+CommitCarries state (Locking (GiveBack given word)) = IsInTheWay state word
 CommitCarries state (Returning given full) = IsFullAt state full
 CommitCarries state _ = Unit {0}
 
@@ -64,17 +63,16 @@ PointCarries state _ = Unit {0}
 
 -- 2. The open transaction: its number is its client's, and of the locks that the log lists the last are its own
 
--- it has taken the locks of these headers
-pub record Took (locks : List Lock) (attempt : Open) (headers : List ℕ) : Type 0 where
+-- it has taken the locks of the headers that it holds
+pub record Took (locks : List Lock) (attempt : Open) : Type 0 where
   pub earlier : List Lock
-  pub listed : locks ≡ earlier ++ locks_from attempt.state 0 headers
-  pub number : attempt.locks ≡ length headers
-  pub held : length attempt.state.held ≤ length headers
+  pub listed : locks ≡ earlier ++ locks_from attempt.state 0 attempt.state.held
+  pub number : attempt.locks ≡ length attempt.state.held
 
--- the headers of the locks that it holds
-abbrev pub headers_in : Option (Now CallPoint Answer) → TxnState → List ℕ
-headers_in (Some (At (InTxn at))) state = taken_at state at
-headers_in _ state = []
+-- only a commit holds headers
+abbrev pub HeldIn : Option (Now CallPoint Answer) → List ℕ → Type 0
+HeldIn (Some (At (InTxn (Committing at)))) held = Unit {0}
+HeldIn _ held = held ≡ []
 
 abbrev pub NowCarries : TxnState → Option (Now CallPoint Answer) → Type 0
 NowCarries state (Some (At (InTxn at))) = PointCarries state at
@@ -83,7 +81,8 @@ NowCarries state _ = Unit {0}
 pub record AttemptCarries (last : ℕ) (locks : List Lock) (call : Option (Now CallPoint Answer)) (attempt : Open)
     : Type 0 where
   pub last_is : attempt.state.last ≡ last
-  pub took : Took locks attempt (headers_in call attempt.state)
+  pub took : Took locks attempt
+  pub held : HeldIn call attempt.state.held
   pub point : NowCarries attempt.state call
 
 abbrev pub OpenCarries : ℕ → List Lock → Option (Now CallPoint Answer) → Option Open → Type 0

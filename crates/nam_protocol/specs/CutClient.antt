@@ -1,5 +1,5 @@
 -- A client that is stopped, and the log that a client leaves. A call that was stopped in its middle is listed.
-use Rattle.std.specs.Prelude.{ℕ, ◌+◌, ◌||◌, Bool, true, false, if◌then◌else◌, Option, Some, None}
+use Rattle.std.specs.Prelude.{ℕ, ◌+◌, Bool, true, false, if◌then◌else◌, Option, Some, None}
 use Rattle.si_model.specs.declared.log.Stamp.{Stamp}
 use Rattle.si_model.specs.declared.log.Event.TheVariants.{Moved, Collected, CollectCut, TidyCut, TailCut, Finished}
 use Rattle.si_model.specs.declared.log.Finish.{Finish}
@@ -76,19 +76,20 @@ closed_call shape client _ = left_open client client.txn
 
 -- 2. The medic has finished it
 
--- a commit that has published
-abbrev pub is_published : TxnPoint → Bool
-is_published (Committing (Freeing nth)) = true
-is_published _ = false
-
 abbrev pub has_rolled_on : Finish → Bool
 has_rolled_on RolledOn = true
 has_rolled_on _ = false
 
--- a commit is one where it has published or was rolled on; its tail is finished
+-- a commit is one where it has published or was rolled on
+abbrev pub has_committed : TxnPoint → Finish → Bool
+has_committed (Committing (Freeing nth)) how = true
+has_committed (Committing at) how = has_rolled_on how
+has_committed at how = false
+
+-- no tail of it is cut then
 abbrev pub finished_in_txn : ClientState → TxnPoint → Finish → Option Open → ClientState
 finished_in_txn client at how None = client
-finished_in_txn client at how (Some attempt) = if is_published at || has_rolled_on how
+finished_in_txn client at how (Some attempt) = if has_committed at how
     then with_commit client attempt (attempt.state.last + 1)
     else with_end client attempt outcome.Cut
 
@@ -97,10 +98,10 @@ finished_call shape client how (Some (At (InTxn at))) = finished_in_txn client a
 finished_call shape client how now = closed_call shape client now
 
 -- how it was finished stands right after the call that was stopped
-abbrev pub closed_client : Shape → ClientState → Option Finish → ClientState
-closed_client shape client None = closed_call shape client client.call
-closed_client shape client (Some how) = with_listed (finished_call shape client how client.call) (Finished how)
+abbrev pub closed_client : Shape → ClientState → Option Finish → Option (Now CallPoint Answer) → ClientState
+closed_client shape client None now = closed_call shape client now
+closed_client shape client (Some how) now = with_listed (finished_call shape client how now) (Finished how)
 
 -- the log at the end: no call runs, or the client is cut
 abbrev pub into_log : Shape → ClientState → Log
-into_log shape client = (closed_client shape client (finish_of client.medic)).log
+into_log shape client = (closed_client shape client (finish_of client.medic) client.call).log

@@ -7,6 +7,7 @@ use Rattle.nam_verbs.specs.declared.now.Now.{Now}
 use Rattle.nam_verbs.specs.declared.now.Now.TheVariants.{At}
 use Rattle.nam_catalog.specs.declared.shape.Shape.{Shape}
 use Rattle.nam_catalog.specs.Fits.{FitsLimits}
+use Rattle.nam_catalog.specs.Greatest.{greatest_number}
 use Rattle.nam_calls.specs.Fits.{IsOf}
 use Rattle.nam_calls.specs.declared.medic.MedicPoint.{MedicPoint}
 use Rattle.nam_protocol.specs.declared.client.Call.{Call}
@@ -48,7 +49,8 @@ pub record ClientKeeps (shape : Shape) (Holds : ClientState → Type 0) : Type 0
 abbrev pub SessionKeepsLaw : Type 0
 SessionKeepsLaw =
     (shape : Shape) → FitsLimits shape → (worker start : ℕ) (jobs : List Job) (policy : Policy)
-    → IsOf shape.workers worker → AllByRecursion (JobFits shape) jobs → 1 ≤ policy.tries
+    → IsOf shape.workers worker → start ≤ greatest_number shape.form → AllByRecursion (JobFits shape) jobs
+    → 1 ≤ policy.tries
     → (test : ClientState → Bool) → ClientKeeps shape (λ client. test client ≡ true)
     → test (new_client worker start) ≡ true → (session : SessionState)
     → IsReached shape worker start jobs policy session → test session.client ≡ true

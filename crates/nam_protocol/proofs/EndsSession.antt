@@ -55,7 +55,7 @@ use Rattle.nam_protocol.specs.CutClient.{finish_of}
 use Rattle.nam_protocol.specs.Driver.{new_driver, call_of, op_call, key_number, place_call, job_call, driver_next}
 use Rattle.nam_protocol.specs.Driver.{driver_take}
 use Rattle.nam_protocol.specs.Session.{answer_now, calls_at_most, taken, settle, new_session, session_verb}
-use Rattle.nam_protocol.specs.Session.{verb_by, after_by, call_taken, session_after, jobs_over, has_ended, has_medic, treated}
+use Rattle.nam_protocol.specs.Session.{verb_by, after_by, call_taken, session_after, jobs_over, has_medic, treated}
 use Rattle.nam_protocol.specs.Session.{stopped, cut_in}
 use Rattle.nam_protocol.specs.Bound.{op_bound}
 use Rattle.nam_protocol.specs.Left.{left_of, client_left, commit_bound, try_bound, jobs_bound, after_call_bound}
@@ -65,7 +65,7 @@ use Rattle.nam_protocol.specs.TxnFits.{IsKeyOf, StateFits, OpStands, TxnCallFits
 use Rattle.nam_protocol.specs.ClientFits.{OpenFits, NowFits, CallPointFits, ClientFits, OpenCallFits, open_bound}
 use Rattle.nam_protocol.specs.SessionFits.{OpenAsked, NowRuns, is_running, ops_of, OpsFit, JobFits, DriverPointFits}
 use Rattle.nam_protocol.specs.SessionFits.{DriverFits, MedicStands, SessionFits}
-use Rattle.nam_protocol.specs.EndsLaw.{FitsWithin, SettlesLaw, StopsSession, SessionCutLaw}
+use Rattle.nam_protocol.specs.EndsLaw.{FitsWithin, SettlesLaw, SessionCutLaw}
 use Rattle.nam_protocol.proofs.FallsKeys.{all_at}
 use Rattle.nam_protocol.proofs.JobKeys.{op_has_room}
 use Rattle.nam_protocol.proofs.FallsAttempt.{ask_asks, attempt_bound}

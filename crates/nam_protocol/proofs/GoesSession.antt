@@ -1,8 +1,8 @@
 -- Where a session goes on. For any property of sessions: if each word of its client keeps it, and each call that its
 -- driver asks, and a stop, then it holds of each session that occurs.
-use Rattle.std.proofs.Common.{◌≡◌, ℕ, zero, suc, ◌+◌, ◌≤◌, List, [], ◌∷◌, length, take, refl, sym, ◌∙◌, ap, subst, arith}
-use Rattle.std.proofs.Common.{Bool, true, false, ◌<◌, Option, Some, None}
-use Rattle.std.specs.Prelude.{◌||◌, slice_get, is_some, IsSome}
+use Rattle.std.proofs.Common.{◌≡◌, ℕ, zero, suc, ◌≤◌, List, length, refl, subst, arith}
+use Rattle.std.proofs.Common.{false, Option, Some, None}
+use Rattle.std.specs.Prelude.{◌||◌, slice_get, is_some}
 use Rattle.si_model.specs.declared.log.Finish.{Finish}
 use Rattle.std.specs.List.{AllByRecursion}
 use Rattle.si_model.specs.declared.op.Policy.{Policy}
@@ -14,43 +14,30 @@ use Rattle.nam_catalog.specs.Fits.{FitsLimits}
 use Rattle.nam_catalog.specs.Greatest.{greatest_number}
 use Rattle.nam_layout.specs.declared.field.Field.{Field}
 use Rattle.nam_calls.specs.declared.medic.MedicPoint.{MedicPoint}
-use Rattle.nam_calls.specs.Fits.{IsOf, IsTableOf}
+use Rattle.nam_calls.specs.Fits.{IsOf}
 use Rattle.nam_calls.specs.Medic.{medic_begin, medic_after}
 use Rattle.nam_calls.proofs.FallsTests.{either}
 use Rattle.nam_protocol.specs.declared.client.Answer.{Answer}
-use Rattle.nam_protocol.specs.declared.client.Call.{Call}
 use Rattle.nam_protocol.specs.declared.client.CallPoint.{CallPoint}
-use Rattle.nam_protocol.specs.declared.client.CallPoint.TheVariants.{Beginning, Collecting, InTxn, Moving, Scanning}
-use Rattle.nam_protocol.specs.declared.client.CallPoint.TheVariants.{Seeking, Snapping}
 use Rattle.nam_protocol.specs.declared.client.ClientState.{ClientState}
-use Rattle.nam_protocol.specs.declared.client.Open.{Open}
-use Rattle.nam_protocol.specs.declared.scan.ScanPoint.{ScanPoint}
 use Rattle.nam_protocol.specs.declared.session.Job.{Job}
 use Rattle.nam_protocol.specs.declared.session.SessionState.{SessionState}
-use Rattle.nam_protocol.specs.declared.txn.TxnCall.{TxnCall}
-use Rattle.nam_protocol.specs.declared.txn.TxnPoint.{TxnPoint}
 use Rattle.nam_protocol.specs.Client.{client_after, client_ask, client_verb}
-use Rattle.nam_protocol.specs.ClientEvents.{ClientLists, NowLists, is_open_after}
-use Rattle.nam_protocol.specs.ClientFits.{CallFits, ClientFits}
-use Rattle.nam_protocol.specs.Driver.{job_call, new_driver, op_call, place_call}
+use Rattle.nam_protocol.specs.ClientEvents.{ClientLists}
+use Rattle.nam_protocol.specs.ClientFits.{ClientFits}
+use Rattle.nam_protocol.specs.Driver.{job_call, new_driver, place_call}
 use Rattle.nam_protocol.specs.EventsLaw.{IsReached, by_cut, by_word, is_new}
-use Rattle.nam_protocol.specs.Own.{MayAsk, Rests}
 use Rattle.nam_protocol.specs.Session.{answer_now, calls_at_most, call_taken, treated, new_session, session_after}
 use Rattle.nam_protocol.specs.Session.{session_cut, session_verb, settle, taken, jobs_over, has_medic, stopped, cut_in}
-use Rattle.nam_protocol.specs.SessionFits.{DriverFits, DriverPointFits, JobFits, SessionFits, is_running, ops_of}
-use Rattle.nam_protocol.specs.SessionKeeps.{ClientKeeps, OpensAsked, SessionKeepsLaw, is_asking}
-use Rattle.nam_protocol.specs.Telling.{new_client, stepped}
-use Rattle.nam_protocol.specs.Txn.{Stepped}
+use Rattle.nam_protocol.specs.SessionFits.{DriverFits, JobFits, SessionFits, ops_of}
+use Rattle.nam_protocol.specs.Telling.{new_client}
 use Rattle.nam_protocol.proofs.EndsDriver.{AsksFrom, calls_from}
-use Rattle.nam_protocol.proofs.EndsSession.{IsReady, asks, is_open, new_ready, new_session_ends, nth_holds}
+use Rattle.nam_protocol.proofs.EndsSession.{IsReady, asks, new_ready, new_session_ends, nth_holds}
 use Rattle.nam_protocol.proofs.EndsSession.{by_medic, session_cut_ends, session_word, taken_ready, takes_word}
 use Rattle.nam_protocol.proofs.StaysLemmas.{IsUncut, still_uncut, asked_stays, word_stays}
 use Rattle.nam_protocol.proofs.EventsClient.{ask_lists, word_lists}
 use Rattle.nam_protocol.proofs.OpensDriver.{needs_open}
-use Rattle.nam_protocol.proofs.GoesClient.{begin_goes, collect_goes, move_goes, on_answer_goes, scan_goes, seek_goes}
-use Rattle.nam_protocol.proofs.GoesClient.{snap_goes, step_lists, step_opens, stepped_goes}
 use Rattle.nam_protocol.proofs.RunsClient.{ClientDoes, NowDoes}
-use Rattle.nam_protocol.specs.declared.client.Call.TheVariants as call
 
 -- 1. A session's client has taken a word, or was asked
 

@@ -13,6 +13,7 @@ mod ClientExample
 mod BoundsExample
 mod AnswersExample
 mod WorldExample
+mod MedicExample
 mod FitsExample
 pub mod KeyLemmas
 pub mod FallsKeys

@@ -27,7 +27,8 @@ use Rattle.nam_protocol.specs.SessionFits.{OpsFit, JobFits, SessionFits}
 use Rattle.nam_protocol.specs.EndsLaw.{sessions_left, world_left, WorldFits, IsTurn, TurnLaw}
 use Rattle.nam_protocol.specs.EndsLaw.{lists_bound, EndsLaw}
 use Rattle.nam_protocol.proofs.Rounds.{rounds_rest, simulated_once}
-use Rattle.nam_protocol.proofs.EndsSession.{nth_holds, new_session_ends, session_word, session_cut_ends}
+use Rattle.nam_protocol.proofs.EndsSession.{nth_holds, new_session_ends, session_word}
+use Rattle.nam_protocol.proofs.EndsSettled.{session_cut_ends}
 
 -- 1. One session of a world's
 

@@ -33,7 +33,8 @@ use Rattle.nam_protocol.specs.SessionFits.{DriverFits, JobFits, SessionFits, ops
 use Rattle.nam_protocol.specs.Telling.{new_client}
 use Rattle.nam_protocol.proofs.EndsDriver.{AsksFrom, calls_from}
 use Rattle.nam_protocol.proofs.EndsSession.{IsReady, asks, new_ready, new_session_ends, nth_holds}
-use Rattle.nam_protocol.proofs.EndsSession.{by_medic, session_cut_ends, session_word, taken_ready, takes_word}
+use Rattle.nam_protocol.proofs.EndsSession.{by_medic, session_word, taken_ready, takes_word}
+use Rattle.nam_protocol.proofs.EndsSettled.{session_cut_ends}
 use Rattle.nam_protocol.proofs.StaysLemmas.{IsUncut, still_uncut, asked_stays, word_stays}
 use Rattle.nam_protocol.proofs.EventsClient.{ask_lists, word_lists}
 use Rattle.nam_protocol.proofs.OpensDriver.{needs_open}

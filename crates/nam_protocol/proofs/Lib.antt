@@ -37,6 +37,7 @@ pub mod FewLemmas
 pub mod EndsDriver
 pub mod StaysLemmas
 pub mod EndsSession
+pub mod EndsSettled
 pub mod EndsWorld
 pub mod RoomDriver
 pub mod EventsClient

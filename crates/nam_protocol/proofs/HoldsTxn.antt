@@ -38,10 +38,14 @@ use Rattle.nam_calls.specs.declared.reading.ReadingEnd.TheVariants as read_end
 use Rattle.nam_protocol.specs.declared.txn.CommitPoint.{CommitPoint}
 use Rattle.nam_protocol.specs.declared.txn.CommitPoint.TheVariants.{Checking, Copying, Freeing, Installing, Locking}
 use Rattle.nam_protocol.specs.declared.txn.CommitPoint.TheVariants.{Publishing, Returning, Saving}
+use Rattle.nam_protocol.specs.declared.txn.CommitPoint.TheVariants.{Listing, Counting, Deciding, Clearing, Ending}
 use Rattle.nam_protocol.specs.declared.txn.TxnCall.{TxnCall}
 use Rattle.nam_protocol.specs.declared.txn.TxnPoint.{TxnPoint}
 use Rattle.nam_protocol.specs.declared.txn.TxnPoint.TheVariants.{Finding, Reading, Claiming, Committing}
 use Rattle.nam_protocol.specs.declared.txn.TxnState.{TxnState}
+use Rattle.nam_protocol.specs.declared.txn.Refusal.{Refusal}
+use Rattle.nam_protocol.specs.declared.txn.Refusal.TheVariants as refusal
+use Rattle.nam_protocol.specs.Commit.{lock_at, refused, refusal_answer}
 use Rattle.nam_protocol.specs.Commit.{ask_commit, commit_after, next_free, on_lock, on_words, places, record_place}
 use Rattle.nam_protocol.specs.HoldsWords.{CommitPlaceHolds, ItemHolds, OpHolds, ResultHolds, StateHolds, StepHolds}
 use Rattle.nam_protocol.specs.HoldsWords.{TxnCallHolds, TxnPlaceHolds}
@@ -51,7 +55,7 @@ use Rattle.nam_protocol.specs.TxnCalls.{txn_after, txn_ask}
 use Rattle.nam_protocol.proofs.FallsKeys.{all_wrote}
 use Rattle.nam_protocol.proofs.FallsTxn.{answer_fits}
 use Rattle.nam_protocol.proofs.GoesCommit.{ask_commit_goes, next_free_goes, on_copy_goes, on_install_goes}
-use Rattle.nam_protocol.proofs.GoesCommit.{on_return_goes, on_slot_goes}
+use Rattle.nam_protocol.proofs.GoesCommit.{on_return_goes, on_slot_goes, on_list_goes, next_count_goes, refused_goes}
 use Rattle.nam_protocol.proofs.GoesTxn.{ask_goes, decided_goes, knowing}
 use Rattle.nam_protocol.specs.declared.txn.TxnCall.TheVariants as txn_call
 
@@ -207,13 +211,17 @@ module _ (form : Form) (state : TxnState) (h : StateHolds form state) (room : st
   abbrev Commits : Stepped → Type 0
   Commits = StepHolds form
 
+  refused_holds : (refusal : Refusal) → AnswerFits form (refusal_answer refusal) → Commits (refused state refusal)
+  refused_holds refusal fits = refused_goes Commits state refusal (λ e. (h, (room, tt))) (λ e. (h, fits))
+
   on_lock_holds : (now : Now Locks LockEnd) → HoldsNow LocksHold LockEndHolds now → Commits (on_lock state now)
   on_lock_holds (At locks) n =
       (record { last_is = h.last_is; written = h.written; found = h.found; headers = n.0 }, (room, n.1))
   on_lock_holds (Over (lock_end.Held headers)) n =
       (record { last_is = h.last_is; written = h.written; found = h.found; headers = n }, (room, tt))
-  on_lock_holds (Over (lock_end.Locked nth found)) n = (h, tt)
-  on_lock_holds (Over (lock_end.Newer nth found)) n = (h, tt)
+  on_lock_holds (Over (lock_end.Locked nth found)) n =
+      refused_holds (refusal.Locked (lock_at state nth found)) tt
+  on_lock_holds (Over (lock_end.Newer nth found)) n = refused_holds (refusal.Newer (lock_at state nth found)) tt
 
   on_words_holds : (nth : ℕ) (now : Now (List ℕ) (List ℕ)) → HoldsNow AreWords AreWords now
       → Commits (on_words state nth now)
@@ -221,17 +229,22 @@ module _ (form : Form) (state : TxnState) (h : StateHolds form state) (room : st
   on_words_holds nth (Over old) n = (h, (room, n))
 
   next_free_holds : (nth : ℕ) → Commits (next_free state nth)
-  next_free_holds nth = next_free_goes Commits state nth (λ e. (h, omega arith)) (λ e. (h, (room, tt)))
+  next_free_holds nth = 
+      next_free_goes Commits state nth (λ e f. (h, (room, tt))) (λ e f. (h, omega arith)) (λ e. (h, (room, tt)))
 
   pub commit_holds : (at : CommitPoint) (found : ℕ) → CommitPlaceHolds at → IsWord found
       → Commits (commit_after state at found)
+  commit_holds (Listing at) found p is = on_list_goes Commits state _ (λ next e. (h, (room, tt))) (λ e. (h, (room, tt)))
   commit_holds (Locking at) found p is =
       on_lock_holds _ (lock_holds (places state) state.seen state.held at found h.headers p is)
   commit_holds (Checking at) found p is =
-      on_slot_goes Commits state _ (λ next e. (h, (room, tt))) (λ count e f. (h, (room, tt)))
-      (λ count e f. (h, (room, tt))) (λ slot word e. (h, (room, tt)))
+      on_slot_goes Commits state _ (λ next e. (h, (room, tt))) (λ count e f t. (h, (room, tt)))
+      (λ count e f t. (h, (room, tt))) (λ count e f. (h, (room, tt))) (λ slot word e. (h, (room, tt)))
   commit_holds (Returning given full) found p is =
-      on_return_goes Commits state full _ (λ next e. (h, (room, tt))) (λ e. (h, tt))
+      on_return_goes Commits state full _ (λ next e. (h, (room, tt))) (λ e f. (h, (room, tt))) (λ e f. (h, tt))
+  commit_holds (Counting nth) found p is =
+      next_count_goes Commits state (nth + 1) (λ e. (h, (room, tt))) (λ e. (h, (room, tt)))
+  commit_holds Deciding found p is = (h, (room, tt))
   commit_holds (Saving nth got) found p is =
       on_words_holds nth _ (value_holds (record_place state nth) got found p is)
   commit_holds (Copying nth old at) found p is =
@@ -241,6 +254,10 @@ module _ (form : Form) (state : TxnState) (h : StateHolds form state) (room : st
       (λ e f. (h, (room, tt)))
   commit_holds Publishing found p is = next_free_holds (length state.writes)
   commit_holds (Freeing nth) found p is = next_free_holds (nth + 1)
+  commit_holds (Clearing (refusal.Locked lock)) found p is = (h, tt)
+  commit_holds (Clearing (refusal.Newer lock)) found p is = (h, tt)
+  commit_holds (Clearing (refusal.Full lock)) found p is = (h, tt)
+  commit_holds Ending found p is = (h, omega arith)
 
 less_from : (last most : ℕ) → last ≤ most → (last == most) ≡ false → last < most
 less_from last most l e = grind (arith, nat_tests)
@@ -251,7 +268,11 @@ ask_commit_holds shape state h =
     let read_none : StateHolds shape.form (record state { read = None }) =
     record { last_is = h.last_is; written = h.written; found = tt; headers = h.headers } in
     ask_commit_goes (StepHolds shape.form) state shape (λ e. (read_none, tt)) (λ e f. (read_none, tt))
-    (λ e f. (
+    (λ e f t. (
+      record { last_is = h.last_is; written = h.written; found = tt; headers = tt },
+      (less_from state.last (greatest_number shape.form) h.last_is f, tt),
+    ))
+    (λ e f t. (
       record { last_is = h.last_is; written = h.written; found = tt; headers = tt },
       (less_from state.last (greatest_number shape.form) h.last_is f, tt),
     ))

@@ -38,8 +38,8 @@ use Rattle.nam_protocol.specs.Client.{after_call, ask_scan, ask_txn, call_after,
 use Rattle.nam_protocol.specs.Client.{with_call}
 use Rattle.nam_protocol.specs.ClientEvents.{is_open_after}
 use Rattle.nam_protocol.specs.ClientFits.{CallFits, CallPointFits, OpenPointFits}
-use Rattle.nam_protocol.specs.CutClient.{closed_call, cut_in_txn, cut_move, cut_open, left_open}
-use Rattle.nam_protocol.specs.declared.txn.CommitPoint.TheVariants.{Freeing}
+use Rattle.nam_protocol.specs.CutClient.{closed_call, cut_in_txn, cut_tail, cut_move, cut_open, left_open}
+use Rattle.nam_protocol.specs.declared.txn.CommitPoint.TheVariants.{Freeing, Ending}
 use Rattle.nam_layout.specs.Place.{bucket_of, place_of}
 use Rattle.nam_calls.specs.Mover.{move_claimed}
 use Rattle.si_model.specs.declared.log.Stamp.{Stamp}
@@ -550,14 +550,19 @@ module _ (shape : Shape) (keys : ℕ) (client : ClientState) where
   ended_closed now None = no_more _ _ _ client.log client.log refl
   ended_closed now (Some attempt) = event_more _ _ _ client.log _ _ refl
 
-  commit_closed : (attempt : Open) (at : CommitPoint) → length attempt.state.writes ≤ keys
-      → Closed (Some (At (InTxn (Committing at)))) (cut_in_txn client attempt (Committing at))
-  commit_closed attempt (Freeing nth) few = record {
+  tail_closed : (attempt : Open) (at : CommitPoint) → length attempt.state.writes ≤ keys
+      → Closed (Some (At (InTxn (Committing at)))) (cut_tail client attempt)
+  tail_closed attempt at few = record {
     reads = omega arith;
     writes = (let l = length-append client.log.writes attempt.state.writes in omega arith);
     locks = refl;
     snaps = omega arith;
   }
+
+  commit_closed : (attempt : Open) (at : CommitPoint) → length attempt.state.writes ≤ keys
+      → Closed (Some (At (InTxn (Committing at)))) (cut_in_txn client attempt (Committing at))
+  commit_closed attempt (Freeing nth) few = tail_closed attempt (Freeing nth) few
+  commit_closed attempt Ending few = tail_closed attempt Ending few
   commit_closed attempt _ few = event_more _ _ _ client.log _ _ refl
 
   cut_closed : (at : TxnPoint) (opened : Option Open) → WritesWithin keys opened (InTxn at)

@@ -109,10 +109,6 @@ module _ (state : TxnState) where
   abbrev pub commit_records : Prog TxnAnswer
   commit_records = lock_records state.worker (places state) state.seen (length (places state)) [] >>= after_locks
 
--- the state at the commit's first verb
-abbrev pub committing : TxnState → TxnState
-committing state = record state { read = None; records = records_of state; held = []; counts = [] }
-
 module _ (shape : Shape) where
   abbrev pub commit_program : TxnState → Prog TxnAnswer
   commit_program state =

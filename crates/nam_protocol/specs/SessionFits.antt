@@ -20,7 +20,8 @@ use Rattle.nam_protocol.specs.declared.txn.TxnState.{TxnState}
 use Rattle.nam_protocol.specs.declared.txn.TxnPoint.{TxnPoint}
 use Rattle.nam_protocol.specs.declared.txn.TxnPoint.TheVariants.{Committing}
 use Rattle.nam_protocol.specs.declared.txn.CommitPoint.{CommitPoint}
-use Rattle.nam_protocol.specs.declared.txn.CommitPoint.TheVariants.{Returning}
+use Rattle.nam_protocol.specs.declared.txn.CommitPoint.TheVariants.{Returning, Clearing}
+use Rattle.nam_protocol.specs.declared.txn.Refusal.TheVariants as refusal
 use Rattle.nam_protocol.specs.declared.client.Answer.{Answer}
 use Rattle.nam_protocol.specs.declared.client.CallPoint.{CallPoint}
 use Rattle.nam_protocol.specs.declared.client.CallPoint.TheVariants.{Beginning, InTxn, Scanning, Seeking, Moving}
@@ -41,6 +42,7 @@ use Rattle.nam_protocol.specs.Session.{session_verb, has_ended}
 -- where a commit gives its locks back, the record that was full is one that it writes
 abbrev pub FullIsWritten : TxnState → CommitPoint → Type 0
 FullIsWritten state (Returning given full) = writes_key state.writes (lock_key full) ≡ true
+FullIsWritten state (Clearing (refusal.Full full)) = writes_key state.writes (lock_key full) ≡ true
 FullIsWritten state _ = Unit {0}
 
 -- a transaction is open, whose keys are those of these operations

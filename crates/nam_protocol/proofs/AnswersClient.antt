@@ -1,10 +1,9 @@
 -- Each word that a client takes, and each call that it is asked, keeps what the client carries, and its answer tells.
 use Rattle.std.specs.Prelude.{IsSome, slice_index}
-use Rattle.std.proofs.Common.{◌≡◌, ◌≢◌, ℕ, ◌+◌, ◌<◌, ◌≤◌, true, false, List, [], ◌∷◌, ◌++◌, length, Option, Some, None}
-use Rattle.std.proofs.Common.{refl, sym, subst, ap, ◌∙◌, append-nil, arith}
+use Rattle.std.proofs.Common.{◌≡◌, ◌≢◌, ℕ, ◌+◌, ◌<◌, true, List, [], Option, Some, None}
+use Rattle.std.proofs.Common.{refl, sym, subst, arith}
 use Rattle.si_model.specs.declared.log.Lock.{Lock}
 use Rattle.si_model.specs.declared.log.Event.{Event}
-use Rattle.si_model.specs.declared.log.Event.TheVariants.{NoRoom}
 use Rattle.si_model.specs.declared.op.Op.TheVariants as op
 use Rattle.nam_verbs.specs.declared.now.Now.{Now}
 use Rattle.nam_verbs.specs.declared.now.Now.TheVariants.{At, Over}
@@ -13,7 +12,7 @@ use Rattle.nam_catalog.specs.declared.shape.Shape.{Shape}
 use Rattle.nam_header.specs.Stamp.{is_moved}
 use Rattle.nam_layout.specs.declared.field.Cells.{Cells}
 use Rattle.nam_layout.specs.declared.field.Place.{Place}
-use Rattle.nam_layout.specs.Place.{bucket_of, cells_by, place_of}
+use Rattle.nam_layout.specs.Place.{cells_by, place_of}
 use Rattle.nam_vector.specs.declared.snap.SnapEnd.{SnapEnd}
 use Rattle.nam_vector.specs.declared.snap.SnapPoint.{SnapPoint}
 use Rattle.nam_vector.specs.declared.snap.SnapPoint.TheVariants.{First, Second}
@@ -44,21 +43,21 @@ use Rattle.nam_protocol.specs.declared.txn.TxnPoint.TheVariants.{Claiming, Commi
 use Rattle.nam_protocol.specs.declared.txn.TxnState.{TxnState}
 use Rattle.nam_protocol.specs.AnswersLaw.{AnswerTells, AnswersLaw, AskTells, CarriesLaw, OpenAskTells, ScanTells}
 use Rattle.nam_protocol.specs.AnswersLaw.{TxnTells}
-use Rattle.nam_protocol.specs.Carries.{AttemptCarries, Carries, CollectCarries, NowCarries, OpenCarries, ScanCarries, Took}
-use Rattle.nam_protocol.specs.Carries.{headers_in}
+use Rattle.nam_protocol.specs.Carries.{AttemptCarries, Carries, CollectCarries, NowCarries, OpenCarries, ScanCarries}
+use Rattle.nam_protocol.specs.Carries.{Took}
+use Rattle.nam_protocol.specs.Carries.{HeldIn}
 use Rattle.nam_protocol.specs.Client.{abandon_open, after_call, ask_scan, ask_txn, call_after, client_abandon}
 use Rattle.nam_protocol.specs.Client.{client_after, client_ask, take_scan, take_txn, with_call}
-use Rattle.nam_protocol.specs.Log.{with_event}
-use Rattle.nam_protocol.specs.ClientFits.{CallPointFits, ClientFits, NowFits, OpenPointFits}
+use Rattle.nam_protocol.specs.ClientFits.{CallPointFits, ClientFits, NowFits, OpenCallFits, OpenPointFits}
 use Rattle.nam_protocol.specs.CutClient.{client_cut}
 use Rattle.nam_protocol.specs.Own.{MayAsk, Rests}
 use Rattle.nam_protocol.specs.Scan.{position_of}
 use Rattle.nam_protocol.specs.Session.{answer_now}
 use Rattle.nam_protocol.specs.Telling.{go, new_client}
-use Rattle.nam_protocol.specs.TxnFits.{ScanFits, TxnCallFits}
+use Rattle.nam_protocol.specs.TxnFits.{ScanFits}
 use Rattle.nam_protocol.proofs.AnswersCommit.{commit_asked, commit_good}
 use Rattle.nam_protocol.proofs.AnswersOps.{Good, TakesNone, TellsNow, asked_good, claiming_good, finding_good}
-use Rattle.nam_protocol.proofs.AnswersOps.{reading_good}
+use Rattle.nam_protocol.proofs.AnswersOps.{no_locks, none_took, reading_good}
 use Rattle.nam_protocol.proofs.AnswersScan.{after_says, scan_good}
 use Rattle.nam_protocol.proofs.GoesClient.{begin_goes, collect_goes, move_goes, seek_goes, snap_goes}
 use Rattle.nam_protocol.proofs.GoesParts.{claim_cell_goes, fill_goes}
@@ -71,16 +70,28 @@ abbrev IsBeside : Option (Now CallPoint Answer) → Type 0
 IsBeside (Some (At (InTxn at))) = ⊥
 IsBeside _ = Unit {0}
 
-beside_headers : (now : Option (Now CallPoint Answer)) → IsBeside now → (s : TxnState) → headers_in now s ≡ []
-beside_headers None is s = refl
-beside_headers (Some (Over end)) is s = refl
-beside_headers (Some (At (InTxn at))) is s = absurd is
-beside_headers (Some (At (Beginning txn nth at))) is s = refl
-beside_headers (Some (At (Scanning table low high at))) is s = refl
-beside_headers (Some (At (Seeking table key passed))) is s = refl
-beside_headers (Some (At (Moving table key position at))) is s = refl
-beside_headers (Some (At (Snapping bucket at))) is s = refl
-beside_headers (Some (At (Collecting bucket prefix seen at))) is s = refl
+-- it holds no lock
+none_beside : (now : Option (Now CallPoint Answer)) → IsBeside now → (held : List ℕ) → HeldIn now held → held ≡ []
+none_beside None is held h = h
+none_beside (Some (Over end)) is held h = h
+none_beside (Some (At (InTxn at))) is held h = absurd is
+none_beside (Some (At (Beginning txn nth at))) is held h = h
+none_beside (Some (At (Scanning table low high at))) is held h = h
+none_beside (Some (At (Seeking table key passed))) is held h = h
+none_beside (Some (At (Moving table key position at))) is held h = h
+none_beside (Some (At (Snapping bucket at))) is held h = h
+none_beside (Some (At (Collecting bucket prefix seen at))) is held h = h
+
+held_beside : (now : Option (Now CallPoint Answer)) → IsBeside now → (held : List ℕ) → held ≡ [] → HeldIn now held
+held_beside None is held h = h
+held_beside (Some (Over end)) is held h = h
+held_beside (Some (At (InTxn at))) is held h = absurd is
+held_beside (Some (At (Beginning txn nth at))) is held h = h
+held_beside (Some (At (Scanning table low high at))) is held h = h
+held_beside (Some (At (Seeking table key passed))) is held h = h
+held_beside (Some (At (Moving table key position at))) is held h = h
+held_beside (Some (At (Snapping bucket at))) is held h = h
+held_beside (Some (At (Collecting bucket prefix seen at))) is held h = h
 
 beside_now : (now : Option (Now CallPoint Answer)) → IsBeside now → (s : TxnState) → NowCarries s now
 beside_now None is s = tt
@@ -103,17 +114,21 @@ beside : (last : ℕ) (locks : List Lock) (now later : Option (Now CallPoint Ans
 beside last locks now later is stays None carries = tt
 beside last locks now later is stays (Some attempt) carries = record {
   last_is = carries.last_is;
-  took = subst (Took locks attempt)
-      (beside_headers now is attempt.state ∙ sym (beside_headers later stays attempt.state)) carries.took;
+  took = carries.took;
+  held = held_beside later stays attempt.state.held (none_beside now is attempt.state.held carries.held);
   point = beside_now later stays attempt.state;
 }
+
+takes_none_at : (client : ClientState) (attempt : Open) → attempt.state.last ≡ client.last
+    → Took client.log.locks attempt → attempt.state.held ≡ [] → TakesNone client attempt
+takes_none_at client attempt last took none =
+    record { last_is = last; locks = no_locks client.log.locks attempt took none; held = none }
 
 takes_none : (client : ClientState) (attempt : Open) (now : Option (Now CallPoint Answer)) → IsBeside now
     → AttemptCarries client.last client.log.locks now attempt → TakesNone client attempt
 takes_none client attempt now is carries =
-    let same = beside_headers now is attempt.state in
-    let took = subst (Took client.log.locks attempt) same carries.took in
-    record { last_is = carries.last_is; locks = took.number; held = took.held }
+    takes_none_at client attempt carries.last_is carries.took
+    (none_beside now is attempt.state.held carries.held)
 
 -- 2. What words of a snapshot and of a move say
 
@@ -166,9 +181,11 @@ module _ (shape : Shape) (word : ℕ) where
 
   module _ (client : ClientState) where
     -- it goes on, or is answered and listed or not; the transaction, if one is open, is the same
-    stays : (place : CallPoint) (events : List Event) (later : Option (Now CallPoint Answer)) → IsBeside (Some (At place))
-        → IsBeside later → ScanCarries client.scanned later → CollectCarries client.start client.log.snaps later
-        → Carries (go client place) → Carries (record client { log = record client.log { events = events }; call = later })
+    stays : (place : CallPoint) (events : List Event) (later : Option (Now CallPoint Answer))
+        → IsBeside (Some (At place)) → IsBeside later → ScanCarries client.scanned later
+        → CollectCarries client.start client.log.snaps later
+        → Carries (go client place)
+        → Carries (record client { log = record client.log { events = events }; call = later })
     stays place events later is next scanned collected carries = record {
       opened = beside client.last client.log.locks (Some (At place)) later is next client.txn carries.opened;
       scanned = scanned;
@@ -181,23 +198,23 @@ module _ (shape : Shape) (word : ℕ) where
         let place = Beginning txn nth at in
         begin_goes (GoodAt (go client place) place) shape (go client place) txn nth _
         (λ next e. (stays place client.log.events (Some (At (Beginning txn nth next))) tt tt tt tt carries, tt))
-        (λ seen e. (record {
-          opened = record {
-            last_is = refl;
-            took = record {
-              earlier = client.log.locks;
-              listed = sym (append-nil client.log.locks);
-              number = refl;
-              held = omega arith;
+        (λ seen e. (
+          record {
+            opened = record {
+              last_is = refl;
+              took = none_took _ _ refl refl;
+              held = refl;
+              point = tt;
             };
-            point = tt;
-          };
-          scanned = tt;
-          collected = tt;
-        }, record { seen = seen; snapshot = e; prefix_is = refl; log = refl; opened = refl }))
-        (λ worker first second e. let d = differs_in shape.workers at word worker first second e in
-        (stays place _ (Some (Over (answer.Again worker first second))) tt tt tt tt carries,
-        (record { again = e; second_is = d.0; differ = d.1 }, refl)))
+            scanned = tt;
+            collected = tt;
+          },
+          record { seen = seen; snapshot = e; prefix_is = refl; log = refl; opened = refl },
+        ))
+        (λ worker first second e. let d = differs_in shape.workers at word worker first second e in (
+          stays place _ (Some (Over (answer.Again worker first second))) tt tt tt tt carries,
+          (record { again = e; second_is = d.0; differ = d.1 }, refl),
+        ))
 
     seek_good : (table key passed : ℕ) → let place = Seeking table key passed in Carries (go client place)
         → GoodAt (go client place) place (call_after shape (go client place) place word)
@@ -219,14 +236,22 @@ module _ (shape : Shape) (word : ℕ) where
         let says = move_says there (cells_by shape there) at word in
         move_goes (GoodAt (go client place) place) shape (go client place) table key position _ _
         (λ next e. (stays place client.log.events (Some (At (Moving table key position next))) tt tt tt tt carries, tt))
-        (λ stamp e. (stays place _ (Some (Over answer.Moved)) tt tt tt tt carries,
-        record { stamp = stamp; claimed = subst Says e says; log = refl }))
-        (λ stamp e. (stays place _ (Some (Over answer.Back)) tt tt tt tt carries,
-        record { stamp = stamp; claimed = subst Says e says; log = refl }))
-        (λ e. (stays place client.log.events (Some (Over answer.Nothing)) tt tt tt tt carries,
-        (subst Says e says, refl)))
-        (λ full e. (stays place _ (Some (Over (answer.NoRoom full))) tt tt tt tt carries,
-        (subst Says e says, refl)))
+        (λ stamp e. (
+          stays place _ (Some (Over answer.Moved)) tt tt tt tt carries,
+          record { stamp = stamp; claimed = subst Says e says; log = refl },
+        ))
+        (λ stamp e. (
+          stays place _ (Some (Over answer.Back)) tt tt tt tt carries,
+          record { stamp = stamp; claimed = subst Says e says; log = refl },
+        ))
+        (λ e. (
+          stays place client.log.events (Some (Over answer.Nothing)) tt tt tt tt carries,
+          (subst Says e says, refl),
+        ))
+        (λ full e. (
+          stays place _ (Some (Over (answer.NoRoom full))) tt tt tt tt carries,
+          (subst Says e says, refl),
+        ))
 
     snap_good : (bucket : ℕ) (at : SnapPoint) → let place = Snapping bucket at in Carries (go client place)
         → GoodAt (go client place) place (call_after shape (go client place) place word)
@@ -234,14 +259,18 @@ module _ (shape : Shape) (word : ℕ) where
         let place = Snapping bucket at in
         snap_goes (GoodAt (go client place) place) shape (go client place) bucket _
         (λ next e. (stays place client.log.events (Some (At (Snapping bucket next))) tt tt tt tt carries, tt))
-        (λ seen e. (record {
-          opened = beside client.last client.log.locks (Some (At place)) _ tt tt client.txn carries.opened;
-          scanned = tt;
-          collected = (refl, (client.log.snaps, refl));
-        }, tt))
-        (λ worker first second e. let d = differs_in shape.workers at word worker first second e in
-        (stays place _ (Some (Over (answer.Again worker first second))) tt tt tt tt carries,
-        (record { again = e; second_is = d.0; differ = d.1 }, refl)))
+        (λ seen e. (
+          record {
+            opened = beside client.last client.log.locks (Some (At place)) _ tt tt client.txn carries.opened;
+            scanned = tt;
+            collected = (refl, (client.log.snaps, refl));
+          },
+          tt,
+        ))
+        (λ worker first second e. let d = differs_in shape.workers at word worker first second e in (
+          stays place _ (Some (Over (answer.Again worker first second))) tt tt tt tt carries,
+          (record { again = e; second_is = d.0; differ = d.1 }, refl),
+        ))
 
     collect_good : (bucket prefix : ℕ) (seen : List ℕ) (at : CollectPoint)
         → let place = Collecting bucket prefix seen at in Carries (go client place)
@@ -249,43 +278,54 @@ module _ (shape : Shape) (word : ℕ) where
     collect_good bucket prefix seen at carries =
         let place = Collecting bucket prefix seen at in
         collect_goes (GoodAt (go client place) place) shape (go client place) bucket prefix seen _
-        (λ next e. (stays place client.log.events (Some (At (Collecting bucket prefix seen next))) tt tt tt
-        carries.collected carries, tt))
-        (λ known e. (stays place _ (Some (Over (answer.Collected known))) tt tt tt tt carries, record {
-          prefix_is = carries.collected.0;
-          earlier = carries.collected.1.0;
-          snaps = carries.collected.1.1;
-          log = refl;
-        }))
+        (λ next e. (
+          stays place client.log.events (Some (At (Collecting bucket prefix seen next))) tt tt tt
+              carries.collected carries,
+          tt,
+        ))
+        (λ known e. (
+          stays place _ (Some (Over (answer.Collected known))) tt tt tt tt carries,
+          record {
+            prefix_is = carries.collected.0;
+            earlier = carries.collected.1.0;
+            snaps = carries.collected.1.1;
+            log = refl;
+          },
+        ))
 
   -- 4. A word of a transaction's call
 
   txn_good : (client : ClientState) (at : TxnPoint) (opened : Option Open)
       → let c = record client { call = Some (At (InTxn at)); txn = opened } in
       Carries c → OpenPointFits shape opened at
-      → Good (λ (after : ClientState) (end : Answer). TxnTells shape word c after opened at end) (take_txn shape c at opened word)
+      → Good (λ (after : ClientState) (end : Answer). TxnTells shape word c after opened at end)
+      (take_txn shape c at opened word)
   txn_good client at None carries fits = absurd fits
   txn_good client (Finding op passed) (Some attempt) carries fits =
       let c = record client { call = Some (At (InTxn (Finding op passed))); txn = Some attempt } in
-      let Tells = λ (after : ClientState) (end : Answer). TxnTells shape word c after (Some attempt) (Finding op passed) end in
+      let Tells = λ (after : ClientState) (end : Answer).
+      TxnTells shape word c after (Some attempt) (Finding op passed) end in
       let o = carries.opened in
-      finding_good shape c attempt record { last_is = o.last_is; locks = o.took.number; held = o.took.held } Tells op
+      finding_good shape c attempt (takes_none_at c attempt o.last_is o.took o.held) Tells op
       fits.0.1 passed word (λ after end told. told)
   txn_good client (Reading op position at) (Some attempt) carries fits =
       let c = record client { call = Some (At (InTxn (Reading op position at))); txn = Some attempt } in
-      let Tells = λ (after : ClientState) (end : Answer). TxnTells shape word c after (Some attempt) (Reading op position at) end in
+      let Tells = λ (after : ClientState) (end : Answer).
+      TxnTells shape word c after (Some attempt) (Reading op position at) end in
       let o = carries.opened in
-      reading_good shape c attempt record { last_is = o.last_is; locks = o.took.number; held = o.took.held } Tells op
+      reading_good shape c attempt (takes_none_at c attempt o.last_is o.took o.held) Tells op
       fits.0.1 position at word (λ after end told. told)
   txn_good client (Claiming op at) (Some attempt) carries fits =
       let c = record client { call = Some (At (InTxn (Claiming op at))); txn = Some attempt } in
-      let Tells = λ (after : ClientState) (end : Answer). TxnTells shape word c after (Some attempt) (Claiming op at) end in
+      let Tells = λ (after : ClientState) (end : Answer).
+      TxnTells shape word c after (Some attempt) (Claiming op at) end in
       let o = carries.opened in
-      claiming_good shape c attempt record { last_is = o.last_is; locks = o.took.number; held = o.took.held } Tells op
+      claiming_good shape c attempt (takes_none_at c attempt o.last_is o.took o.held) Tells op
       fits.0.1 at word o.point (λ after end told. told)
   txn_good client (Committing at) (Some attempt) carries fits =
       let c = record client { call = Some (At (InTxn (Committing at))); txn = Some attempt } in
-      let Tells = λ (after : ClientState) (end : Answer). TxnTells shape word c after (Some attempt) (Committing at) end in
+      let Tells = λ (after : ClientState) (end : Answer).
+      TxnTells shape word c after (Some attempt) (Committing at) end in
       let o = carries.opened in
       commit_good shape c attempt word Tells at record {
         last_is = o.last_is;
@@ -309,7 +349,7 @@ module _ (shape : Shape) (word : ℕ) where
       let c = record client { call = Some (At (Scanning table low high at)); txn = Some attempt } in
       let o = carries.opened in
       scan_good shape attempt table low high word c c refl
-      record { last_is = o.last_is; locks = o.took.number; held = o.took.held } carries.scanned.0 (position_of at)
+      (takes_none_at c attempt o.last_is o.took o.held) carries.scanned.0 (position_of at)
       carries.scanned.2 (scan_within table at fits) _
       (after_says shape table low high attempt.state.seen word at carries.scanned.1)
 
@@ -344,76 +384,75 @@ module _ (shape : Shape) where
   }
 
   txn_asked : (client : ClientState) (asked : TxnCall) (opened : Option Open) → Rests client.call
-      → OpenCarries client.last client.log.locks client.call opened → IsSome opened → TxnCallFits shape asked
+      → OpenCarries client.last client.log.locks client.call opened → OpenCallFits shape opened asked
       → Good (λ after end. OpenAskTells shape client after asked opened end) (ask_txn shape client asked opened)
-  txn_asked client asked None rests carries some fits = absurd (cc)
-  txn_asked client (Get t k) (Some attempt) rests carries some fits =
+  txn_asked client asked None rests carries fits = absurd fits
+  txn_asked client (Get t k) (Some attempt) rests carries fits =
       let rest = takes_none client attempt client.call (rests_beside client.call rests) carries in
       asked_good shape client (with_call attempt (Get t k))
       record { last_is = rest.last_is; locks = rest.locks; held = rest.held }
       (λ after end. OpenAskTells shape client after (Get t k) (Some attempt) end) (op.Get t k) refl
       (λ writes after end told. (writes, told))
-  txn_asked client (Put t k v) (Some attempt) rests carries some fits =
+  txn_asked client (Put t k v) (Some attempt) rests carries fits =
       let rest = takes_none client attempt client.call (rests_beside client.call rests) carries in
       asked_good shape client (with_call attempt (Put t k v))
       record { last_is = rest.last_is; locks = rest.locks; held = rest.held }
       (λ after end. OpenAskTells shape client after (Put t k v) (Some attempt) end) (op.Put t k v) refl
       (λ writes after end told. (writes, told))
-  txn_asked client (Add t k f up by) (Some attempt) rests carries some fits =
+  txn_asked client (Add t k f up by) (Some attempt) rests carries fits =
       let rest = takes_none client attempt client.call (rests_beside client.call rests) carries in
       asked_good shape client (with_call attempt (Add t k f up by))
       record { last_is = rest.last_is; locks = rest.locks; held = rest.held }
       (λ after end. OpenAskTells shape client after (Add t k f up by) (Some attempt) end) (op.Add t k f up by) refl
       (λ writes after end told. (writes, told))
-  txn_asked client (Del t k) (Some attempt) rests carries some fits =
+  txn_asked client (Del t k) (Some attempt) rests carries fits =
       let rest = takes_none client attempt client.call (rests_beside client.call rests) carries in
       asked_good shape client (with_call attempt (Del t k))
       record { last_is = rest.last_is; locks = rest.locks; held = rest.held }
       (λ after end. OpenAskTells shape client after (Del t k) (Some attempt) end) (op.Del t k) refl
       (λ writes after end told. (writes, told))
-  txn_asked client (Need t k f least) (Some attempt) rests carries some fits =
+  txn_asked client (Need t k f least) (Some attempt) rests carries fits =
       let rest = takes_none client attempt client.call (rests_beside client.call rests) carries in
       asked_good shape client (with_call attempt (Need t k f least))
       record { last_is = rest.last_is; locks = rest.locks; held = rest.held }
       (λ after end. OpenAskTells shape client after (Need t k f least) (Some attempt) end) (op.Need t k f least) refl
       (λ writes after end told. (writes, told))
-  txn_asked client (Guard t k) (Some attempt) rests carries some fits =
+  txn_asked client (Guard t k) (Some attempt) rests carries fits =
       let rest = takes_none client attempt client.call (rests_beside client.call rests) carries in
       asked_good shape client (with_call attempt (Guard t k))
       record { last_is = rest.last_is; locks = rest.locks; held = rest.held }
       (λ after end. OpenAskTells shape client after (Guard t k) (Some attempt) end) (op.Guard t k) refl
       (λ writes after end told. (writes, told))
-  txn_asked client Commit (Some attempt) rests carries some fits =
+  txn_asked client Commit (Some attempt) rests carries fits =
       let rest = takes_none client attempt client.call (rests_beside client.call rests) carries in
-      commit_asked shape client attempt 0 (λ after end. OpenAskTells shape client after Commit (Some attempt) end) rest (λ after end told. told)
+      commit_asked shape client attempt 0 (λ after end. OpenAskTells shape client after Commit (Some attempt) end)
+      rest (λ after end told. told)
 
   scan_asked : (client : ClientState) (table low high : ℕ) (opened : Option Open) → Rests client.call
       → OpenCarries client.last client.log.locks client.call opened → IsSome opened
       → Good (λ after end. ⊥) (ask_scan shape client table low high opened)
   scan_asked client table low high None rests carries some = absurd (cc)
   scan_asked client table low high (Some attempt) rests carries some =
-      let rest = takes_none client attempt client.call (rests_beside client.call rests) carries in
-      (record {
-        opened = record {
-          last_is = rest.last_is;
-          took = record {
-            earlier = client.log.locks;
-            listed = sym (append-nil client.log.locks);
-            number = rest.locks;
+      let rest = takes_none client attempt client.call (rests_beside client.call rests) carries in (
+        record {
+          opened = record {
+            last_is = rest.last_is;
+            took = none_took _ _ rest.held rest.locks;
             held = rest.held;
+            point = tt;
           };
-          point = tt;
-        };
-        scanned = (tt, tt, omega arith);
-        collected = tt;
-      }, tt)
+          scanned = (tt, tt, omega arith);
+          collected = tt;
+        },
+        tt,
+      )
 
   ask_good : (client : ClientState) (asked : Call) → MayAsk shape client asked → Carries client
       → Good (λ after end. AskTells shape client after asked end) (client_ask shape client asked)
   ask_good client (call.Begin txn nth) may carries =
       (begins client (Beginning txn nth snap_begin) may.rests tt tt tt carries, tt)
   ask_good client (call.Txn asked) may carries =
-      txn_asked client asked client.txn may.rests carries.opened may.fits.0 may.fits.1
+      txn_asked client asked client.txn may.rests carries.opened may.fits
   ask_good client (call.Scan table low high) may carries =
       scan_asked client table low high client.txn may.rests carries.opened may.fits.0
   ask_good client (call.Tidy table key) may carries =

@@ -1,5 +1,5 @@
 -- Each word of an operation keeps what its client carries, and its answer tells.
-use Rattle.std.proofs.Common.{◌≡◌, ℕ, ◌+◌, ◌-◌, ◌≤◌, ◌<◌, true, false, List, [], ◌∷◌, ◌++◌, length, drop, Option, Some, None}
+use Rattle.std.proofs.Common.{◌≡◌, ℕ, ◌+◌, ◌-◌, ◌≤◌, ◌<◌, true, false, List, [], ◌++◌, length, Option, Some, None}
 use Rattle.std.proofs.Common.{refl, sym, subst, ap, ◌∙◌, append-nil, arith}
 use Rattle.std.specs.Prelude.{nat_lt, slice_index}
 use Rattle.std.proofs.lemmas.List.{drop_all}
@@ -16,22 +16,18 @@ use Rattle.si_model.specs.EvaluationLaws.{is_scan}
 use Rattle.si_model.specs.Operations.{op_reads, op_claims}
 use Rattle.si_model.specs.declared.log.Outcome.TheVariants as outcome
 use Rattle.nam_verbs.specs.declared.now.Now.{Now}
-use Rattle.nam_verbs.specs.declared.now.Now.TheVariants.{At, Over}
+use Rattle.nam_verbs.specs.declared.now.Now.TheVariants.{Over}
 use Rattle.nam_verbs.proofs.TestLemmas.{by_test, by_equal}
 use Rattle.nam_catalog.specs.declared.shape.Shape.{Shape}
 use Rattle.nam_catalog.specs.Tables.{widths_of}
-use Rattle.nam_calls.specs.declared.horizon.OldEnd.{OldEnd}
-use Rattle.nam_calls.specs.declared.horizon.OldEnd.TheVariants as old_end
 use Rattle.nam_calls.specs.declared.index.ClaimKeyPoint.{ClaimKeyPoint}
 use Rattle.nam_calls.specs.declared.reading.ReadPoint.{ReadPoint}
 use Rattle.nam_calls.specs.declared.reading.ReadPoint.TheVariants.{ReadCurrent, ReadUnsure, ReadRecheck, ReadRing}
 use Rattle.nam_calls.specs.declared.reading.ReadPoint.TheVariants.{ReadCells, ReadHorizon}
 use Rattle.nam_calls.specs.declared.reading.ReadingEnd.{ReadingEnd}
 use Rattle.nam_calls.specs.declared.reading.Sight.{Sight}
-use Rattle.nam_calls.specs.Index.{claim_key_begin, find_after}
-use Rattle.nam_calls.specs.Horizon.{old_after}
+use Rattle.nam_calls.specs.Index.{claim_key_begin}
 use Rattle.nam_calls.specs.Reading.{on_horizon, read_after, read_begin, sight_of}
-use Rattle.nam_calls.specs.declared.index.FindEnd.TheVariants as found_key
 use Rattle.nam_calls.specs.declared.reading.ReadingEnd.TheVariants as read_end
 use Rattle.nam_protocol.specs.declared.client.Answer.{Answer}
 use Rattle.nam_protocol.specs.declared.client.CallPoint.{CallPoint}
@@ -42,17 +38,17 @@ use Rattle.nam_protocol.specs.declared.txn.TxnPoint.{TxnPoint}
 use Rattle.nam_protocol.specs.declared.txn.TxnPoint.TheVariants.{Finding, Reading, Claiming, Committing}
 use Rattle.nam_protocol.specs.declared.txn.TxnState.{TxnState}
 use Rattle.nam_protocol.specs.AnswersLaw.{IsOn, OpTells, OwnTells}
-use Rattle.nam_protocol.specs.Carries.{Carries, IsDecided, PointCarries}
+use Rattle.nam_protocol.specs.Carries.{Carries, IsDecided, PointCarries, Took}
 use Rattle.nam_protocol.specs.Log.{with_event, with_locks, with_reads, attempt_of}
-use Rattle.nam_protocol.specs.Operations.{op_path, holding, own_value, read_of, value_in, answer_of}
+use Rattle.nam_protocol.specs.Operations.{holding, own_value, read_of, value_in, answer_of}
 use Rattle.nam_protocol.specs.Plain.{IsOperation}
-use Rattle.nam_protocol.specs.Telling.{with_answer, with_read, read_listed, items_of, locks_from, new_locks, on_answer}
+use Rattle.nam_protocol.specs.Telling.{call_listed, with_answer, with_read, items_of, locks_from, on_answer}
+use Rattle.nam_protocol.specs.Telling.{unread}
 use Rattle.nam_protocol.specs.Telling.{on_call, stepped}
-use Rattle.nam_protocol.specs.Told.{OpPassed, OpDeclined, IsTooOld}
-use Rattle.nam_protocol.specs.Txn.{Stepped, at, over, with_op, after_claim, on_decision, on_value, on_find, on_read}
-use Rattle.nam_protocol.specs.Txn.{on_claim, ask_op}
-use Rattle.nam_protocol.specs.TxnCalls.{taken_now, txn_after}
-use Rattle.nam_protocol.specs.TxnFits.{OpStands, TxnPointFits}
+use Rattle.nam_protocol.specs.Told.{OpPassed, OpDeclined}
+use Rattle.nam_protocol.specs.Txn.{Stepped, at, over, with_op, after_claim, on_value}
+use Rattle.nam_protocol.specs.Txn.{ask_op}
+use Rattle.nam_protocol.specs.TxnCalls.{txn_after}
 use Rattle.nam_protocol.proofs.GoesParts.{current_goes, unsure_goes, recheck_goes, ring_goes, cells_goes}
 use Rattle.nam_protocol.proofs.GoesTxn.{ask_goes, decided_goes, knowing, on_find_goes, on_read_goes, on_claim_goes}
 use Rattle.nam_protocol.specs.declared.client.Answer.TheVariants as client_answer
@@ -116,15 +112,15 @@ passes_read (Guard t k) value one = refl
 passes_read (Scan t low high) value one = absurd (false≢true (sym one))
 
 -- one that reads nothing passes
-unread : (op : Op) (value : Option (List ℕ)) → is_scan op ≡ false → op_reads op ≡ false
+reads_none : (op : Op) (value : Option (List ℕ)) → is_scan op ≡ false → op_reads op ≡ false
     → (passes op (holding value) ≡ true) × (found op (holding value) ≡ [])
-unread (Get t k) value one none = absurd (false≢true (sym none))
-unread (Put t k v) value one none = (refl, refl)
-unread (Add t k f up by) value one none = absurd (false≢true (sym none))
-unread (Del t k) value one none = (refl, refl)
-unread (Need t k f least) value one none = absurd (false≢true (sym none))
-unread (Guard t k) value one none = absurd (false≢true (sym none))
-unread (Scan t low high) value one none = absurd (false≢true (sym one))
+reads_none (Get t k) value one none = absurd (false≢true (sym none))
+reads_none (Put t k v) value one none = (refl, refl)
+reads_none (Add t k f up by) value one none = absurd (false≢true (sym none))
+reads_none (Del t k) value one none = (refl, refl)
+reads_none (Need t k f least) value one none = absurd (false≢true (sym none))
+reads_none (Guard t k) value one none = absurd (false≢true (sym none))
+reads_none (Scan t low high) value one none = absurd (false≢true (sym one))
 
 -- one that claims no position changes neither the write set nor the guards
 unclaimed : (widths : List ℕ) (op : Op) (copy : Rows) (writes : List Item) (guards : List Key)
@@ -141,7 +137,7 @@ unclaimed widths (Scan t low high) copy writes guards none = (refl, refl)
 -- the answer of one that passes leaves the transaction open
 passed_answer : (Q : ClientState → TxnAnswer → Type 0) (client : ClientState) (attempt : Open) (op : Op)
     (value : Option (List ℕ))
-    → Q (read_listed client attempt (items_of attempt.state.read)) (answer_of op value)
+    → Q (call_listed client attempt) (answer_of op value)
     → Q (on_answer client attempt (answer_of op value)) (answer_of op value)
 passed_answer Q client attempt (Get t k) value q = q
 passed_answer Q client attempt (Put t k v) value q = q
@@ -187,7 +183,18 @@ passed_facts sight seen place word worker entry horizon e =
 pub record TakesNone (client : ClientState) (attempt : Open) : Type 0 where
   pub last_is : attempt.state.last ≡ client.last
   pub locks : attempt.locks ≡ 0
-  pub held : length attempt.state.held ≤ 0
+  pub held : attempt.state.held ≡ []
+
+-- one that holds no lock has taken none
+pub no_locks : (locks : List Lock) (attempt : Open) → Took locks attempt → attempt.state.held ≡ [] → attempt.locks ≡ 0
+no_locks locks attempt took none = took.number ∙ ap (λ (hs : List ℕ). length hs) none
+
+pub none_took : (locks : List Lock) (attempt : Open) → attempt.state.held ≡ [] → attempt.locks ≡ 0 → Took locks attempt
+none_took locks attempt none number = record {
+  earlier = locks;
+  listed = sym (append-nil locks) ∙ ap (λ hs. locks ++ locks_from attempt.state 0 hs) (sym none);
+  number = let e : length attempt.state.held ≡ 0 = ap (λ (hs : List ℕ). length hs) none in omega arith;
+}
 
 -- a step of an operation leaves these
 pub record SameHeld (s t : TxnState) : Type 0 where
@@ -199,53 +206,54 @@ module _ (shape : Shape) (client : ClientState) (attempt : Open) (rest : TakesNo
   abbrev Steps : Stepped → Type 0
   Steps step = Good Tells (stepped client attempt 0 step)
 
+  -- so after the step
+  none_taken : (s : TxnState) → SameHeld attempt.state s → s.held ≡ []
+  none_taken s same = same.held ∙ rest.held
+
   held_in : (s : TxnState) → SameHeld attempt.state s → length s.held ≤ 0
-  held_in s same = subst (λ held. length held ≤ 0) (sym same.held) rest.held
+  held_in s same = let e : length s.held ≡ 0 = ap (λ (hs : List ℕ). length hs) (none_taken s same) in omega arith
 
   stays : (s : TxnState) (place : TxnPoint) → SameHeld attempt.state s → IsOperation place → PointCarries s place
       → Steps (at s place)
-  stays s (Finding op passed) same is carries = (record {
-    opened = record {
-      last_is = same.last ∙ rest.last_is;
-      took = record {
-        earlier = client.log.locks;
-        listed = refl;
-        number = (let l = rest.locks in omega arith);
-        held = held_in s same;
+  stays s (Finding op passed) same is carries = (
+    record {
+      opened = record {
+        last_is = same.last ∙ rest.last_is;
+        took = none_took _ _ (none_taken s same) (let l = rest.locks in omega arith);
+        held = none_taken s same;
+        point = tt;
       };
-      point = tt;
-    };
-    scanned = tt;
-    collected = tt;
-  }, tt)
-  stays s (Reading op position place) same is carries = (record {
-    opened = record {
-      last_is = same.last ∙ rest.last_is;
-      took = record {
-        earlier = client.log.locks;
-        listed = refl;
-        number = (let l = rest.locks in omega arith);
-        held = held_in s same;
+      scanned = tt;
+      collected = tt;
+    },
+    tt,
+  )
+  stays s (Reading op position place) same is carries = (
+    record {
+      opened = record {
+        last_is = same.last ∙ rest.last_is;
+        took = none_took _ _ (none_taken s same) (let l = rest.locks in omega arith);
+        held = none_taken s same;
+        point = tt;
       };
-      point = tt;
-    };
-    scanned = tt;
-    collected = tt;
-  }, tt)
-  stays s (Claiming op place) same is carries = (record {
-    opened = record {
-      last_is = same.last ∙ rest.last_is;
-      took = record {
-        earlier = client.log.locks;
-        listed = refl;
-        number = (let l = rest.locks in omega arith);
-        held = held_in s same;
+      scanned = tt;
+      collected = tt;
+    },
+    tt,
+  )
+  stays s (Claiming op place) same is carries = (
+    record {
+      opened = record {
+        last_is = same.last ∙ rest.last_is;
+        took = none_took _ _ (none_taken s same) (let l = rest.locks in omega arith);
+        held = none_taken s same;
+        point = carries;
       };
-      point = carries;
-    };
-    scanned = tt;
-    collected = tt;
-  }, tt)
+      scanned = tt;
+      collected = tt;
+    },
+    tt,
+  )
   stays s (Committing place) same is carries = absurd is
 
   answered : (s : TxnState) (end : TxnAnswer) → SameHeld attempt.state s
@@ -265,43 +273,41 @@ module _ (shape : Shape) (client : ClientState) (attempt : Open) (rest : TakesNo
         → Steps (over s (answer_of op value))
     passed pass writes guards tells =
         answered s (answer_of op value) same
-        (passed_answer (λ c end. Good Tells (with_answer c (client_answer.Txn end))) client later op value
-        (record {
-          opened = record {
-            last_is = same.last ∙ rest.last_is;
-            took = record {
-              earlier = client.log.locks;
-              listed = sym (append-nil client.log.locks);
-              number = rest.locks;
-              held = held_in s same;
+        (passed_answer (λ c end. Good Tells (with_answer c (client_answer.Txn end))) client later op value (
+          record {
+            opened = record {
+              last_is = same.last ∙ rest.last_is;
+              took = none_took _ _ (none_taken s same) rest.locks;
+              held = none_taken s same;
+              point = tt;
             };
-            point = tt;
-          };
-          scanned = tt;
-          collected = tt;
-        },
-        tells (with_answer (read_listed client later (items_of s.read)) (client_answer.Txn (answer_of op value))) record {
-          passes = pass;
-          answer = refl;
-          log = ap (with_reads client.log) read;
-          state = s;
-          opened = ap (λ items. Some (with_read later items)) read;
-          writes = writes;
-          guards = guards;
-        }))
+            scanned = tt;
+            collected = tt;
+          },
+          tells (with_answer (call_listed client later) (client_answer.Txn (answer_of op value))) record {
+            passes = pass;
+            answer = refl;
+            log = ap (with_reads client.log) read;
+            state = record s { read = None };
+            opened = ap (λ items. Some (with_read (unread later) items)) read;
+            writes = writes;
+            guards = guards;
+          },
+        ))
 
     declined : passes op (holding value) ≡ false
         → ((after : ClientState) → OpDeclined client after attempt op value
         → Tells after (client_answer.Txn txn_answer.Declined))
         → Steps (over s txn_answer.Declined)
     declined fails tells =
-        answered s txn_answer.Declined same
-        (record { opened = tt; scanned = tt; collected = tt },
-        tells _ record {
-          declines = fails;
-          log = ap (λ items. with_event (with_reads client.log items)
-              (attempt_of (with_read attempt items) (outcome.Declined attempt.ops) 0)) read;
-        })
+        answered s txn_answer.Declined same (
+          record { opened = tt; scanned = tt; collected = tt },
+          tells _ record {
+            declines = fails;
+            log = ap (λ items. with_event (with_reads client.log items)
+                (attempt_of (with_read attempt items) (outcome.Declined attempt.ops) 0)) read;
+          },
+        )
 
 -- 6. What one that passes tells
 
@@ -384,10 +390,11 @@ module _ (shape : Shape) (client : ClientState) (attempt : Open) (rest : TakesNo
       (λ next e. stays shape client attempt rest Tells state (Reading op position next) same_held tt tt)
       (λ value e. valued word (Reading op position at) tells value e)
       (λ worker entry horizon e. let facts = passed_facts sight state.seen at word worker entry horizon e in
-      answered shape client attempt rest Tells state (txn_answer.TooOld worker entry horizon) same_held
-      (record { opened = tt; scanned = tt; collected = tt },
-      tells _ (txn_answer.TooOld worker entry horizon)
-      record { entry_is = facts.0; horizon_is = facts.1; above = facts.2; log = refl }))
+      answered shape client attempt rest Tells state (txn_answer.TooOld worker entry horizon) same_held (
+        record { opened = tt; scanned = tt; collected = tt },
+        tells _ (txn_answer.TooOld worker entry horizon)
+            record { entry_is = facts.0; horizon_is = facts.1; above = facts.2; log = refl },
+      ))
       (λ e. answered shape client attempt rest Tells state txn_answer.Astray same_held
       (record { opened = tt; scanned = tt; collected = tt }, tells _ txn_answer.Astray refl))
 
@@ -397,14 +404,19 @@ module _ (shape : Shape) (client : ClientState) (attempt : Open) (rest : TakesNo
       let value = value_in state.read in
       on_claim_goes shape OpSteps op state _
       (λ next e. stays shape client attempt rest Tells state (Claiming op next) same_held tt decided)
-      (λ e. answered shape client attempt rest Tells state (txn_answer.NoSpace (op_key op).table) same_held
-      (record { opened = tt; scanned = tt; collected = tt },
-      tells _ (txn_answer.NoSpace (op_key op).table) (value, refl, record {
-        passes = decided.passes;
-        table_is = refl;
-        log = ap (λ items. with_event (with_reads client.log items)
-            (attempt_of (with_read attempt items) (outcome.NoSpace (op_key op).table) 0)) decided.read;
-      })))
+      (λ e. answered shape client attempt rest Tells state (txn_answer.NoSpace (op_key op).table) same_held (
+        record { opened = tt; scanned = tt; collected = tt },
+        tells _ (txn_answer.NoSpace (op_key op).table) (
+          value,
+          refl,
+          record {
+            passes = decided.passes;
+            table_is = refl;
+            log = ap (λ items. with_event (with_reads client.log items)
+                (attempt_of (with_read attempt items) (outcome.NoSpace (op_key op).table) 0)) decided.read;
+          },
+        ),
+      ))
       (λ position e. passed shape client attempt rest Tells (after_claim shape state op position) op value
       record { last = refl; held = refl } decided.read decided.passes refl refl
       (λ after told. tells after (answer_of op value)
@@ -426,6 +438,6 @@ module _ (shape : Shape) (client : ClientState) (attempt : Open) (rest : TakesNo
       (λ after told. tells writes after (answer_of op own) (own_told shape client after attempt op told)))
       (λ unwritten reads. stays shape client attempt rest Tells (record state { read = None }) (Finding op 0)
       record { last = refl; held = refl } tt tt)
-      (λ unwritten none. let free = unread op None one none in
+      (λ unwritten none. let free = reads_none op None one none in
       stays shape client attempt rest Tells (record state { read = None }) (Claiming op claim_key_begin)
       record { last = refl; held = refl } tt record { passes = free.0; read = sym free.1 })

@@ -1,10 +1,10 @@
 -- Each word of a scan keeps what its client carries, and its answer tells.
 use Rattle.std.specs.Prelude.{nat_le, nat_lt, slice_index}
-use Rattle.std.proofs.Common.{◌≡◌, ◌&&◌, ℕ, ◌+◌, ◌-◌, ◌<◌, ◌≤◌, true, false, List, [], ◌∷◌, ◌++◌, map, length, Option, Some, None}
-use Rattle.std.proofs.Common.{refl, sym, ap, append-nil, suc, arith}
+use Rattle.std.proofs.Common.{◌≡◌, ℕ, ◌+◌, ◌-◌, ◌<◌, ◌≤◌, true, List, [], ◌∷◌, ◌++◌, map, length, Option, Some, None}
+use Rattle.std.proofs.Common.{refl, ap, suc, arith}
 use Rattle.std.proofs.lemmas.List.{length-map, length_push}
 use Rattle.std.specs.List.{AllByRecursion}
-use Rattle.std.proofs.lemmas.Bool.{and_parts, cond_both}
+use Rattle.std.proofs.lemmas.Bool.{and_parts}
 use Rattle.std.proofs.lemmas.Bool.Decides.{nat_tests}
 use Rattle.si_model.specs.declared.row.Item.{Item}
 use Rattle.si_model.specs.Rows.{key_at, writes_key}
@@ -24,19 +24,16 @@ use Rattle.nam_protocol.specs.declared.scan.ScanAnswer.{ScanAnswer}
 use Rattle.nam_protocol.specs.declared.scan.ScanPoint.{ScanPoint}
 use Rattle.nam_protocol.specs.declared.scan.ScanPoint.TheVariants.{ScanKey, ScanRead}
 use Rattle.nam_protocol.specs.AnswersLaw.{ScanTells}
-use Rattle.nam_protocol.specs.Carries.{AreBetween, Carries, IsBetween, KeyBetween, Took}
+use Rattle.nam_protocol.specs.Carries.{AreBetween, IsBetween, KeyBetween}
 use Rattle.nam_protocol.specs.Log.{with_event, with_reads, attempt_of}
 use Rattle.nam_protocol.specs.Operations.{own_value}
-use Rattle.nam_protocol.specs.Scan.{in_range, scan_after, scan_read, scan_skip, position_of}
-use Rattle.nam_protocol.specs.ScanCall.{inserted, item_of, on_key, on_scan, on_skip, scanned_items, sorted_onto}
+use Rattle.nam_protocol.specs.Scan.{in_range, scan_after, scan_skip, position_of}
+use Rattle.nam_protocol.specs.ScanCall.{inserted, item_of, on_scan, on_skip, scanned_items, sorted_onto}
 use Rattle.nam_protocol.specs.ScanCall.{with_gathered, scan_listed}
 use Rattle.nam_protocol.specs.Telling.{go}
-use Rattle.nam_protocol.specs.Told.{HasScanned, IsTooOld}
-use Rattle.nam_protocol.proofs.AnswersOps.{Good, TakesNone, passed_facts}
+use Rattle.nam_protocol.proofs.AnswersOps.{Good, TakesNone, none_took, passed_facts}
 use Rattle.nam_protocol.proofs.GoesParts.{scan_read_goes}
-use Rattle.nam_protocol.specs.declared.client.Answer.TheVariants as client_answer
 use Rattle.nam_protocol.specs.declared.scan.ScanAnswer.TheVariants as scan_answer
-use Rattle.nam_protocol.specs.declared.txn.TxnAnswer.TheVariants as txn_answer
 
 -- 1. The rows, sorted
 
@@ -90,10 +87,12 @@ module _ (shape : Shape) (table low high : ℕ) (seen : List ℕ) (word : ℕ) w
 
   skip_says : (position : ℕ) → Says position (scan_skip shape table position)
   skip_says position =
-      by_equal (Says position) (position + 1) (capacity_of shape table) (Over scan_answer.Done) (At (ScanKey (position + 1)))
+      by_equal (Says position) (position + 1) (capacity_of shape table) (Over scan_answer.Done)
+      (At (ScanKey (position + 1)))
       (λ e. tt) (λ e. (tt, omega arith))
 
-  pub after_says : (at : ScanPoint) → KeyBetween low high at → Says (position_of at) (scan_after shape table low high seen at word)
+  pub after_says : (at : ScanPoint) → KeyBetween low high at
+      → Says (position_of at) (scan_after shape table low high seen at word)
   after_says (ScanKey position) between =
       by_test (Says position) (in_range low high word) _ _
       (λ e. let ends = and_parts (nat_le (low + 1) word) (nat_le word (high + 1)) e in
@@ -117,41 +116,38 @@ module _ (shape : Shape) (attempt : Open) (table low high word : ℕ) (before : 
   opens client = record client { txn = Some attempt }
 
   goes_on : (client : ClientState) (place : ScanPoint) → TakesNone client attempt → AreBetween low high client.scanned
-      → length client.scanned ≤ position_of place → KeyBetween low high place → Good Tells (go (opens client) (Scanning table low high place))
-  goes_on client place rest rows few between = (record {
-    opened = record {
-      last_is = rest.last_is;
-      took = record {
-        earlier = client.log.locks;
-        listed = sym (append-nil client.log.locks);
-        number = rest.locks;
+      → length client.scanned ≤ position_of place → KeyBetween low high place
+      → Good Tells (go (opens client) (Scanning table low high place))
+  goes_on client place rest rows few between = (
+    record {
+      opened = record {
+        last_is = rest.last_is;
+        took = none_took _ _ rest.held rest.locks;
         held = rest.held;
+        point = tt;
       };
-      point = tt;
-    };
-    scanned = (rows, between, few);
-    collected = tt;
-  }, tt)
+      scanned = (rows, between, few);
+      collected = tt;
+    },
+    tt,
+  )
 
   lists : (client : ClientState) → client.log ≡ before.log → TakesNone client attempt
       → AreBetween low high client.scanned → length client.scanned ≤ capacity_of shape table
       → Good Tells (scan_listed (opens client) attempt table)
-  lists client log rest rows few =
-      (record {
-        opened = record {
-          last_is = rest.last_is;
-          took = record {
-            earlier = client.log.locks;
-            listed = sym (append-nil client.log.locks);
-            number = rest.locks;
-            held = rest.held;
-          };
-          point = tt;
-        };
-        scanned = tt;
-        collected = tt;
-      },
-      (record {
+  lists client log rest rows few = (
+    record {
+      opened = record {
+        last_is = rest.last_is;
+        took = none_took _ _ rest.held rest.locks;
+        held = rest.held;
+        point = tt;
+      };
+      scanned = tt;
+      collected = tt;
+    },
+    (
+      record {
         items = scanned_items table client.scanned;
         number_is = refl;
         between =
@@ -161,8 +157,10 @@ module _ (shape : Shape) (attempt : Open) (table low high word : ℕ) (before : 
         opened = refl;
       },
       (let sorted = length_sorted [] client.scanned in
-      let mapped = length-map (sorted_onto [] client.scanned) (item_of table) in
-      omega arith)))
+          let mapped = length-map (sorted_onto [] client.scanned) (item_of table) in
+          omega arith),
+    ),
+  )
 
   skips : (client : ClientState) → client.log ≡ before.log → TakesNone client attempt
       → AreBetween low high client.scanned → (position : ℕ) → length client.scanned ≤ position + 1
@@ -204,13 +202,16 @@ module _ (shape : Shape) (attempt : Open) (table low high word : ℕ) (before : 
       gathered client log rest rows position item.key few within says item.value
   scan_good client log rest rows position few within (Over scan_answer.Done) says =
       lists client log rest rows (omega arith)
-  scan_good client log rest rows position few within (Over (scan_answer.TooOld worker entry horizon)) says =
-      (record { opened = tt; scanned = tt; collected = tt }, record {
-        entry_is = says.0;
-        horizon_is = says.1;
-        above = says.2;
-        log = ap (λ l. with_event l (attempt_of attempt (outcome.TooOld worker entry horizon) 0)) log;
-      })
-  scan_good client log rest rows position few within (Over scan_answer.Astray) says =
-      (record { opened = tt; scanned = tt; collected = tt },
-      ap (λ l. with_event l (attempt_of attempt outcome.Left 0)) log)
+  scan_good client log rest rows position few within (Over (scan_answer.TooOld worker entry horizon)) says = (
+    record { opened = tt; scanned = tt; collected = tt },
+    record {
+      entry_is = says.0;
+      horizon_is = says.1;
+      above = says.2;
+      log = ap (λ l. with_event l (attempt_of attempt (outcome.TooOld worker entry horizon) 0)) log;
+    },
+  )
+  scan_good client log rest rows position few within (Over scan_answer.Astray) says = (
+    record { opened = tt; scanned = tt; collected = tt },
+    ap (λ l. with_event l (attempt_of attempt outcome.Left 0)) log,
+  )

@@ -1,6 +1,6 @@
 -- A driver asks an attempt's calls in their order.
-use Rattle.std.proofs.Common.{◌≡◌, ◌⊎◌, inl, inr, ⊎_elim, ℕ, zero, suc, ◌+◌, ◌≤◌, Bool, true, false, List, [], ◌∷◌, ◌++◌}
-use Rattle.std.proofs.Common.{map, length, drop, Option, Some, None, refl, sym, ap, subst, ◌∙◌, append-nil, arith}
+use Rattle.std.proofs.Common.{◌≡◌, ◌⊎◌, inl, inr, ⊎_elim, ℕ, zero, suc, ◌+◌, ◌≤◌, Bool, true, false, List, [], ◌∷◌}
+use Rattle.std.proofs.Common.{◌++◌, map, length, drop, Some, refl, sym, ap, subst, ◌∙◌, arith}
 use Rattle.std.proofs.Math.Numerals.{add-one}
 use Rattle.std.specs.Prelude.{if◌then◌else◌, slice_get}
 use Rattle.std.proofs.lemmas.Bool.{false≢true}
@@ -8,8 +8,7 @@ use Rattle.si_model.specs.declared.op.Op.{Op}
 use Rattle.si_model.specs.Lists.{IsFront}
 use Rattle.nam_protocol.specs.declared.client.Answer.{Answer}
 use Rattle.nam_protocol.specs.declared.client.Call.{Call}
-use Rattle.nam_protocol.specs.declared.session.DriverPoint.{DriverPoint}
-use Rattle.nam_protocol.specs.declared.session.DriverPoint.TheVariants.{ToBegin, ToAsk, ToTidy, ToCollect}
+use Rattle.nam_protocol.specs.declared.session.DriverPoint.TheVariants.{ToAsk}
 use Rattle.nam_protocol.specs.declared.session.DriverState.{DriverState}
 use Rattle.nam_protocol.specs.declared.session.Job.{Job}
 use Rattle.nam_protocol.specs.declared.txn.TxnAnswer.{TxnAnswer}
@@ -18,7 +17,7 @@ use Rattle.nam_protocol.specs.AskedLaw.{DriverAsksLaw, attempt_calls, calls_unti
 use Rattle.nam_protocol.specs.Driver.{call_of, driver_next, driver_take, job_call, on_ask, on_begin, on_txn, op_call}
 use Rattle.nam_protocol.specs.Driver.{place_call, place_taken}
 use Rattle.nam_protocol.specs.SessionKeeps.{is_asking}
-use Rattle.nam_protocol.proofs.EventsSession.{Rests, commit_rests, full_rests, retried_rests}
+use Rattle.nam_protocol.proofs.OpensDriver.{Rests, commit_rests, full_rests, retried_rests}
 use Rattle.nam_protocol.specs.declared.client.Answer.TheVariants as answer
 use Rattle.nam_protocol.specs.declared.client.Call.TheVariants as call
 use Rattle.nam_protocol.specs.declared.txn.TxnAnswer.TheVariants as txn_answer
@@ -99,7 +98,8 @@ module _ (jobs : List Job) (job : Job) where
   op_calls = map call_of job.ops ++ last_call
 
   -- the call, and those after it where the attempt goes on
-  front_of : (asked : Call) (next : DriverState) (more rest : List Call) → (is_asking next.place ≡ true → IsFront more rest)
+  front_of : (asked : Call) (next : DriverState) (more rest : List Call)
+      → (is_asking next.place ≡ true → IsFront more rest)
       → IsFront (asked ∷ (if is_asking next.place then more else [])) (asked ∷ rest)
   front_of asked next more rest front = by_place (is_asking next.place) front
     where
@@ -125,9 +125,11 @@ module _ (jobs : List Job) (job : Job) where
       → driver.place ≡ ToAsk nth → nth + length answers ≤ length job.ops
       → IsFront (calls_until_over jobs driver answers) (drop nth op_calls)
   asks_on [] driver nth here at l =
-      let n = next_is job.ops nth (omega arith) in
-      (n.0, ap (λ o. listed_call o ++ n.0)
-      (ap (job_call driver) here ∙ ap (λ place. Some (place_call job driver.nth place)) at) ∙ sym n.1)
+      let n = next_is job.ops nth (omega arith) in (
+        n.0,
+        ap (λ o. listed_call o ++ n.0)
+            (ap (job_call driver) here ∙ ap (λ place. Some (place_call job driver.nth place)) at) ∙ sym n.1,
+      )
   asks_on (end ∷ ends) driver nth here at l =
       let n = next_is job.ops nth (omega arith) in
       let next = driver_take jobs driver end in
@@ -143,9 +145,11 @@ module _ (jobs : List Job) (job : Job) where
       (λ rests. absurd (false≢true (sym rests ∙ asking))) goes)
 
 pub driver_asks : DriverAsksLaw
-driver_asks jobs driver job [] here at l =
-    (op_calls jobs job, ap (λ o. listed_call o ++ op_calls jobs job)
-    (ap (job_call driver) here ∙ ap (λ place. Some (place_call job driver.nth place)) at))
+driver_asks jobs driver job [] here at l = (
+  op_calls jobs job,
+  ap (λ o. listed_call o ++ op_calls jobs job)
+      (ap (job_call driver) here ∙ ap (λ place. Some (place_call job driver.nth place)) at),
+)
 driver_asks jobs driver job (end ∷ ends) here at l =
     let next = driver_take jobs driver end in
     let goes = subst (λ place. GoesTo driver 0 (place_taken jobs driver place end)) (sym at)

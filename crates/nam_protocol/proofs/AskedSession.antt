@@ -1,6 +1,6 @@
 -- The call that runs in a session is the one that its driver asks, and the open transaction is its driver's try.
-use Rattle.std.proofs.Common.{◌≡◌, ◌⊎◌, inl, inr, ⊎_elim, ℕ, zero, suc, ◌+◌, ◌≤◌, Bool, true, false, List, [], ◌∷◌, ◌++◌}
-use Rattle.std.proofs.Common.{length, take, Option, Some, None, refl, sym, ap, subst, ◌∙◌, arith}
+use Rattle.std.proofs.Common.{◌≡◌, inr, ⊎_elim, ℕ, zero, suc, ◌+◌, Bool, true, false, List, [], ◌∷◌}
+use Rattle.std.proofs.Common.{length, take, Option, Some, None, refl, sym, ap, subst, ◌∙◌}
 use Rattle.std.proofs.lemmas.Bool.{false≢true}
 use Rattle.std.proofs.Math.Numerals.{add-one}
 use Rattle.std.proofs.lemmas.List.{length_push}
@@ -23,29 +23,23 @@ use Rattle.nam_protocol.specs.declared.session.DriverPoint.TheVariants.{ToBegin,
 use Rattle.nam_protocol.specs.declared.session.DriverState.{DriverState}
 use Rattle.nam_protocol.specs.declared.session.Job.{Job}
 use Rattle.nam_protocol.specs.declared.session.SessionState.{SessionState}
-use Rattle.nam_protocol.specs.declared.txn.CommitPoint.{CommitPoint}
-use Rattle.nam_protocol.specs.declared.txn.TxnCall.{TxnCall}
 use Rattle.nam_protocol.specs.declared.txn.TxnCall.TheVariants.{Get, Put, Add, Del, Need, Guard, Commit}
 use Rattle.nam_protocol.specs.declared.txn.TxnPoint.{TxnPoint}
 use Rattle.nam_protocol.specs.declared.txn.TxnPoint.TheVariants.{Finding, Reading, Claiming, Committing}
-use Rattle.nam_protocol.specs.AskedLaw.{IsTry, RunsAsked, SessionAsksLaw, call_at, ops_asked}
-use Rattle.nam_protocol.specs.Client.{ask_scan, ask_txn, call_after, client_after, client_ask, take_scan, take_txn}
+use Rattle.nam_protocol.specs.AskedLaw.{IsTry, SessionAsksLaw, call_at, ops_asked}
+use Rattle.nam_protocol.specs.Client.{call_after, client_after, client_ask, take_scan, take_txn}
 use Rattle.nam_protocol.specs.Client.{after_call, with_call}
-use Rattle.nam_protocol.specs.ClientEvents.{NeedsOpen, NowLists, is_open_after}
+use Rattle.nam_protocol.specs.ClientEvents.{NowLists, is_open_after}
 use Rattle.nam_protocol.specs.ClientFits.{CallPointFits, NowFits}
-use Rattle.nam_protocol.specs.Commit.{ask_commit, commit_after, locks_taken}
-use Rattle.nam_protocol.specs.CutClient.{client_cut}
-use Rattle.nam_protocol.specs.Driver.{call_of, driver_take, job_call, on_tidy, op_call, place_call, place_taken}
-use Rattle.nam_protocol.specs.Session.{taken}
+use Rattle.nam_protocol.specs.Commit.{ask_commit}
+use Rattle.nam_protocol.specs.Driver.{call_of, driver_take, job_call, op_call, place_call, place_taken}
 use Rattle.nam_protocol.specs.SessionFits.{NowRuns, PlaceRuns, SessionFits, is_running, ops_of}
 use Rattle.nam_protocol.specs.SessionKeeps.{OpensAsked, is_asking}
 use Rattle.nam_protocol.specs.Telling.{stepped}
 use Rattle.nam_protocol.specs.Txn.{Stepped, ask_op}
 use Rattle.nam_protocol.specs.TxnCalls.{txn_after}
 use Rattle.nam_protocol.proofs.AskedDriver.{GoesTo, ask_goes_to, begin_goes_to}
-use Rattle.nam_protocol.proofs.EndsDriver.{AsksFrom}
-use Rattle.nam_protocol.proofs.EndsSession.{is_open}
-use Rattle.nam_protocol.proofs.EventsSession.{Rests, asks_after, needs_open, tidying_rests}
+use Rattle.nam_protocol.proofs.OpensDriver.{asks_after, tidying_rests}
 use Rattle.nam_protocol.proofs.GoesClient.{begin_goes, collect_goes, move_goes, on_answer_goes, scan_goes, seek_goes}
 use Rattle.nam_protocol.proofs.GoesClient.{snap_goes, step_lists, step_opens, stepped_goes}
 use Rattle.nam_protocol.proofs.GoesCommit.{ask_commit_goes, commit_goes}
@@ -57,11 +51,11 @@ use Rattle.nam_protocol.specs.declared.client.Call.TheVariants as call
 
 -- 1. A call stays itself while it runs
 
-abbrev NowOf : Call → Option (Now CallPoint Answer) → Type 0
+abbrev pub NowOf : Call → Option (Now CallPoint Answer) → Type 0
 NowOf asked (Some (At place)) = call_at place ≡ asked
 NowOf asked _ = Unit {0}
 
-abbrev IsOf : Call → ClientState → Type 0
+abbrev pub IsOf : Call → ClientState → Type 0
 IsOf asked client = NowOf asked client.call
 
 module _ (shape : Shape) where
@@ -78,7 +72,7 @@ module _ (shape : Shape) where
       (λ next e. refl) (λ e. tt) (λ position e end s f. tt)
   txn_word_of client (Committing at) attempt before found =
       commit_goes (λ step. IsOf (call.Txn Commit) (stepped client attempt before step)) attempt.state at found
-      (λ next to. refl) (λ place headers e. refl) (λ place count next e to. refl) (λ end ends. tt)
+      (λ next to. refl) (λ header next e to. refl) (λ place count next e to. refl) (λ end ends. tt)
 
   take_txn_of : (client : ClientState) (place : TxnPoint) (opened : Option Open) (found : ℕ) → IsSome opened
       → IsOf (call_at (InTxn place)) (take_txn shape client place opened found)
@@ -149,7 +143,7 @@ module _ (shape : Shape) where
 
 -- 3. The try of a job
 
-abbrev OpenTry : Job → ℕ → ℕ → Option Open → Type 0
+abbrev pub OpenTry : Job → ℕ → ℕ → Option Open → Type 0
 OpenTry job nth asked None = Unit {0}
 OpenTry job nth asked (Some attempt) = IsTry job nth asked attempt
 
@@ -227,7 +221,8 @@ module _ (shape : Shape) (job : Job) (try : ℕ) (ops : List Op) (nth : ℕ) whe
 
   asked_try : (client : ClientState) (o : Option Op) (opened : Option Open) → slice_get ops nth ≡ o → IsSome opened
       → OpenTry job try (length (take nth ops)) opened
-      → OnTry shape job try (length (take (nth + 1) ops)) (client_ask shape (record client { txn = opened }) (op_call o))
+      → OnTry shape job try (length (take (nth + 1) ops))
+      (client_ask shape (record client { txn = opened }) (op_call o))
   asked_try client o None here some is = absurd (cc)
   asked_try client None (Some attempt) here some is =
       stepped_try shape job try (length (take (nth + 1) ops)) (record client { txn = Some attempt }) attempt 0
@@ -260,7 +255,7 @@ module _ (shape : Shape) (job : Job) (try : ℕ) (ops : List Op) (nth : ℕ) whe
 -- 4. A session
 
 -- so many operations were asked, with the one that runs, if one does
-abbrev asked_now : List Op → DriverPoint → Bool → ℕ
+abbrev pub asked_now : List Op → DriverPoint → Bool → ℕ
 asked_now ops place true = ops_asked ops place
 asked_now ops (ToAsk nth) false = length (take nth ops)
 asked_now ops _ false = 0
@@ -403,7 +398,8 @@ module _ (shape : Shape) where
       let try = subst (OnTry shape job driver.nth n) same
       (word_try shape job driver.nth n client place found needs
       (begins_try job driver.nth driver.place client.txn place runs is) on) in
-      let of = subst (λ c. IsOf c after) is (subst (IsOf (call_at place)) same (word_of shape client place found needs)) in
+      let of = subst (λ c. IsOf c after) is
+      (subst (IsOf (call_at place)) same (word_of shape client place found needs)) in
       next_asks session job s.here asks.opened after try after.call refl of s.does s.lists
 
   -- 7. A call
@@ -424,7 +420,7 @@ module _ (shape : Shape) where
   place_try client job nth (ToTidy keys k again retry) opened try = try
   place_try client job nth (ToCollect bucket keys k retry) opened try = try
 
-  session_asks : SessionKeeps shape AsksSo
+  pub session_asks : SessionKeeps shape AsksSo
   session_asks = record {
     word = λ session place found job fits uncut e asks s. word_asks session place found job fits e asks s;
     asked = λ session job ready uncut asks s.
@@ -441,13 +437,13 @@ module _ (shape : Shape) where
 
 -- 8. The law
 
-job_is : (o : Option Job) → is_some o ≡ true → (job : Job) × (o ≡ Some job)
+pub job_is : (o : Option Job) → is_some o ≡ true → (job : Job) × (o ≡ Some job)
 job_is None e = absurd (false≢true e)
 job_is (Some job) e = (job, refl)
 
 pub session_runs_asked : SessionAsksLaw
-session_runs_asked shape limits worker start jobs policy is fit least session reached place e =
-    let s = reached_kept shape limits AsksSo (session_asks shape) worker start jobs policy is fit least
+session_runs_asked shape limits worker start jobs policy is number fit least session reached place e =
+    let s = reached_kept shape limits AsksSo (session_asks shape) worker start jobs policy is number fit least
     record { opened = refl; attempt = λ job h. tt; call = λ job h. tt } session reached in
     let driver = session.driver in
     let job = job_is (slice_get session.jobs driver.job) (sym s.0.stands ∙ ap is_running e) in

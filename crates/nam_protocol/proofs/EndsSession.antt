@@ -131,6 +131,27 @@ module _ (shape : Shape) where
   is_open ops None asked = absurd asked
   is_open ops (Some attempt) asked = refl
 
+  module _ (ops : List Op) (nth : ℕ) (o : Op) (here : slice_get ops nth ≡ Some o) (fit : OpsFit shape ops) where
+    op_is : OpFits (widths_of shape.tables) o
+    op_is = nth_holds (OpFits (widths_of shape.tables)) ops nth o fit.fit here
+
+    -- the operation of a scan is on a table
+    pub on_table : (table low high : ℕ) → o ≡ op.Scan table low high → IsTableOf shape table
+    on_table table low high is =
+        let e = length-map shape.tables (λ (t : Table). t.width) in
+        let l = (subst (OpFits (widths_of shape.tables)) is op_is).0 in
+        omega arith
+
+    -- an operation on one key
+    pub on_key : is_scan o ≡ false → (attempt : Open) → StateFits shape attempt.state
+        → HasAsked attempt.state (take nth ops) → OpStands shape attempt.state.claims o
+    on_key one attempt f a = (
+      op_is,
+      one,
+      nth_holds (λ op. IsWord (key_word (op_key op).key)) ops nth o fit.keys here,
+      op_has_room shape attempt.state ops nth f a o here fit.few,
+    )
+
   module _ (limits : FitsLimits shape) (client : ClientState) (fits : ClientFits shape client) (ops : List Op) where
     -- the client after the call: it fits, with no more verbs to come than the call takes
     pub record Asked (place : DriverPoint) (calls : ℕ) (after : ClientState) : Type 0 where
@@ -223,46 +244,30 @@ module _ (shape : Shape) where
             few = few_any ops (ToAsk nth) calls _ few;
           }
 
-      module _ (o : Op) (here : slice_get ops nth ≡ Some o) (fit : OpsFit shape ops) where
-        op_is : OpFits (widths_of shape.tables) o
-        op_is = nth_holds (OpFits (widths_of shape.tables)) ops nth o fit.fit here
-
-        -- an operation on one key
-        on_key : is_scan o ≡ false → (attempt : Open) → StateFits shape attempt.state
-            → HasAsked attempt.state (take nth ops) → OpStands shape attempt.state.claims o
-        on_key one attempt f a = (
-          op_is,
-          one,
-          nth_holds (λ op. IsWord (key_word (op_key op).key)) ops nth o fit.keys here,
-          op_has_room shape attempt.state ops nth f a o here fit.few,
-        )
-
       asks_op : (o : Op) → slice_get ops nth ≡ Some o → OpsFit shape ops
           → Asked (ToAsk nth) calls (client_ask shape client (call_of o))
       asks_op (op.Get t k) here f =
-          asks_txn (op.Get t k) (Get t k) here (on_key (op.Get t k) here f refl) (λ attempt. omega arith)
+          asks_txn (op.Get t k) (Get t k) here (on_key ops nth (op.Get t k) here f refl) (λ attempt. omega arith)
           (λ attempt a. does_op (op.Get t k) here attempt (with_call attempt (Get t k)) a)
       asks_op (op.Put t k v) here f =
-          asks_txn (op.Put t k v) (Put t k v) here (on_key (op.Put t k v) here f refl) (λ attempt. omega arith)
+          asks_txn (op.Put t k v) (Put t k v) here (on_key ops nth (op.Put t k v) here f refl) (λ attempt. omega arith)
           (λ attempt a. does_op (op.Put t k v) here attempt (with_call attempt (Put t k v)) a)
       asks_op (op.Add t k i up by) here f =
-          asks_txn (op.Add t k i up by) (Add t k i up by) here (on_key (op.Add t k i up by) here f refl)
+          asks_txn (op.Add t k i up by) (Add t k i up by) here (on_key ops nth (op.Add t k i up by) here f refl)
           (λ attempt. omega arith)
           (λ attempt a. does_op (op.Add t k i up by) here attempt (with_call attempt (Add t k i up by)) a)
       asks_op (op.Del t k) here f =
-          asks_txn (op.Del t k) (Del t k) here (on_key (op.Del t k) here f refl) (λ attempt. omega arith)
+          asks_txn (op.Del t k) (Del t k) here (on_key ops nth (op.Del t k) here f refl) (λ attempt. omega arith)
           (λ attempt a. does_op (op.Del t k) here attempt (with_call attempt (Del t k)) a)
       asks_op (op.Need t k i least) here f =
-          asks_txn (op.Need t k i least) (Need t k i least) here (on_key (op.Need t k i least) here f refl)
+          asks_txn (op.Need t k i least) (Need t k i least) here (on_key ops nth (op.Need t k i least) here f refl)
           (λ attempt. omega arith)
           (λ attempt a. does_op (op.Need t k i least) here attempt (with_call attempt (Need t k i least)) a)
       asks_op (op.Guard t k) here f =
-          asks_txn (op.Guard t k) (Guard t k) here (on_key (op.Guard t k) here f refl) (λ attempt. omega arith)
+          asks_txn (op.Guard t k) (Guard t k) here (on_key ops nth (op.Guard t k) here f refl) (λ attempt. omega arith)
           (λ attempt a. does_op (op.Guard t k) here attempt (with_call attempt (Guard t k)) a)
       asks_op (op.Scan t low high) here f =
-          let e = length-map shape.tables (λ (t : Table). t.width) in
-          let l = (op_is (op.Scan t low high) here f).0 in
-          asks_scan t low high here (omega arith)
+          asks_scan t low high here (on_table ops nth (op.Scan t low high) here f t low high refl)
 
       asks_next : (o : Option Op) → slice_get ops nth ≡ o → OpsFit shape ops
           → Asked (ToAsk nth) calls (client_ask shape client (op_call o))
@@ -418,13 +423,14 @@ module _ (shape : Shape) where
     )
     next_ends calls session ready few later (Some job) here =
         let driver = session.driver in
-        let a = asks limits session.client ready.client job.ops job.txn driver.nth driver.policy.tries driver.place calls
-        ready.driver.2
+        let a = asks limits session.client ready.client job.ops job.txn driver.nth driver.policy.tries driver.place
+        calls ready.driver.2
         (subst (λ o. AsksFrom shape driver.place (ops_of o) session.client.txn) here ready.asks)
         (nth_holds (JobFits shape) session.jobs driver.job job ready.jobs here)
         (subst (λ o. calls_from shape (ops_of o) driver.place ≤ suc calls) here few) in
         let client = client_ask shape session.client (place_call job driver.nth driver.place) in
-        let g = goes_on session ready.jobs ready.driver job here client calls later a.stands client.call refl a.does a.few in
+        let g = goes_on session ready.jobs ready.driver job here client calls later a.stands client.call refl a.does
+        a.few in
         let d = drop_from session.jobs driver.job job here in
         let same = ap (rest_bound shape driver) d in
         let all = ap (pending shape driver) d in
@@ -507,7 +513,8 @@ module _ (shape : Shape) where
         let runs_here = subst (λ o. NowRuns driver.place (ops_of o) session.client.txn (Some (At at))) some.1 runs in
         let after : call_after shape session.client at found ≡ client_after shape session.client found =
         ap (λ (now : Option (Now CallPoint Answer)). after_call shape session.client now found) (sym is) in
-        let does = word_does shape limits some.0.ops session.client fits.client.1 found driver.place at place runs_here in
+        let does = word_does shape limits some.0.ops session.client fits.client.1 found driver.place at place
+        runs_here in
         record {
           at = at;
           is = is;

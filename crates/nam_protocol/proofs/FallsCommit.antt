@@ -315,20 +315,23 @@ module _ (shape : Shape) (limits : FitsLimits shape) (state : TxnState) (fits : 
 
 -- 5. The listing
 
-one_listed : (written nth : ℕ) (xs : List Place) → nth < length xs
-    → listed_most (written - nth) (drop nth xs)
-    ≡ (if nat_lt nth written then (nth_place xs nth).width + 2 else 2) + listed_most (written - suc nth) (drop (suc nth) xs)
-one_listed written nth [] l = absurd (omega arith)
-one_listed zero zero (x ∷ xs) l = refl
-one_listed (suc written) zero (x ∷ xs) l = refl
-one_listed zero (suc nth) (x ∷ xs) l = one_listed zero nth xs (omega arith)
-one_listed (suc written) (suc nth) (x ∷ xs) l = one_listed written nth xs (omega arith)
+guard_listed : (nth : ℕ) (xs : List Place) → nth < length xs
+    → listed_most 0 (drop nth xs) ≡ 2 + listed_most 0 (drop (suc nth) xs)
+guard_listed nth [] l = absurd (omega arith)
+guard_listed zero (x ∷ xs) l = refl
+guard_listed (suc nth) (x ∷ xs) l = guard_listed nth xs (omega arith)
+
+value_listed : (rest nth : ℕ) (xs : List Place) → nth < length xs
+    → listed_most (suc rest) (drop nth xs) ≡ (nth_place xs nth).width + 2 + listed_most rest (drop (suc nth) xs)
+value_listed rest nth [] l = absurd (omega arith)
+value_listed rest zero (x ∷ xs) l = refl
+value_listed rest (suc nth) (x ∷ xs) l = value_listed rest nth xs (omega arith)
 
 module _ (shape : Shape) (limits : FitsLimits shape) (state : TxnState) (fits : StateFits shape state)
     (are : state.records ≡ records_of state)
     (some : 1 ≤ length state.writes) (room : state.last < greatest_number shape.form) where
   abbrev ListFalls : ℕ → Now ListPoint (Unit {0}) → Type 0
-  ListFalls n now = Falls (ListFits state) (λ done. Unit {0}) (list_left state) n now
+  ListFalls n now = Falls (ListFits shape state) (λ done. Unit {0}) (list_left state) n now
 
   list_next_falls : (nth n : ℕ) → nth < length state.records → listed_from state (nth + 1) + 2 < n
       → ListFalls n (list_next state nth)
@@ -345,21 +348,47 @@ module _ (shape : Shape) (limits : FitsLimits shape) (state : TxnState) (fits : 
   kind_falls nth n (Some value) l m =
       let w = (nth_is shape limits state fits are some room nth l).least_width in ((l, omega arith), omega arith)
 
-  list_falls : (at : ListPoint) → ListFits state at → ListFalls (list_left state at) (list_after state at)
+  from_next : (k : ℕ) → listed_from state (suc k) ≡ listed_from state (k + 1)
+  from_next k = ap (listed_from state) (next_is k)
+    where
+      next_is : (k : ℕ) → suc k ≡ k + 1
+      next_is k = omega arith
+
+  guard_from : (nth : ℕ) → nth < length state.records → length state.writes ≤ nth
+      → listed_from state nth ≡ 2 + listed_from state (nth + 1)
+  guard_from nth l m =
+      let e = as_many shape limits state fits are some room in
+      let here = ap (λ k. listed_most k (drop nth (places state))) (none_left nth m) in
+      let next = ap (λ k. listed_most k (drop (suc nth) (places state))) (none_left (suc nth) (omega arith)) in
+      let one = guard_listed nth (places state) (omega arith) in
+      let same = from_next nth in
+      omega arith
+    where
+      none_left : (k : ℕ) → length state.writes ≤ k → length state.writes - k ≡ 0
+      none_left k m = omega arith
+
+  value_from : (nth : ℕ) → nth < length state.records → nth < length state.writes
+      → listed_from state nth ≡ (record_place state nth).width + 2 + listed_from state (nth + 1)
+  value_from nth l m =
+      let e = as_many shape limits state fits are some room in
+      let here = ap (λ k. listed_most k (drop nth (places state))) (one_left nth m) in
+      let one = value_listed (length state.writes - suc nth) nth (places state) (omega arith) in
+      let same = from_next nth in
+      omega arith
+    where
+      one_left : (k : ℕ) → k < length state.writes → length state.writes - k ≡ suc (length state.writes - suc k)
+      one_left k m = omega arith
+
+  list_falls : (at : ListPoint) → ListFits shape state at → ListFalls (list_left state at) (list_after state at)
   list_falls (ListRow nth) l = (l, omega arith)
   list_falls (ListKind nth) l =
-      let e = as_many shape limits state fits are some room in
-      let next : suc nth ≡ nth + 1 = omega arith in
-      let same = ap (λ m. listed_most (length state.writes - m) (drop m (places state))) next in
-      let one = one_listed (length state.writes) nth (places state) (omega arith) in
       by_test (λ kind. ListFalls (list_left state (ListKind nth)) (list_kind_after state nth kind))
       (nat_lt nth (length state.writes)) (kind_of (value_at state nth)) Guard
       (λ t. let m : nth < length state.writes = grind (arith, nat_tests) in
-      let o = one ∙ ap (λ (b : Bool). (if b then (nth_place (places state) nth).width + 2 else 2)
-      + listed_most (length state.writes - suc nth) (drop (suc nth) (places state))) t in
+      let f = value_from nth l m in
       kind_falls nth _ (value_at state nth) m (omega arith))
-      (λ t. let o = one ∙ ap (λ (b : Bool). (if b then (nth_place (places state) nth).width + 2 else 2)
-      + listed_most (length state.writes - suc nth) (drop (suc nth) (places state))) t in
+      (λ t. let m : length state.writes ≤ nth = grind (arith, nat_tests) in
+      let f = guard_from nth l m in
       list_next_falls nth _ l (omega arith))
   list_falls (ListData nth word) l =
       let w = within shape limits state fits are some room in

@@ -180,7 +180,8 @@ module _ (shape : Shape) (limits : FitsLimits shape) where
       (over (with_op shape state op value) (answer_of op value))
       (fits, tt) (
         own_fits shape state.worker state.last state.seen state.claims state.writes state.guards fits op value stands.0
-            (own_claimed shape state.worker state.last state.seen state.claims state.writes state.guards fits (op_key op) e)
+            (own_claimed shape state.worker state.last state.seen state.claims state.writes state.guards fits
+            (op_key op) e)
             wide,
         answer_fits shape.form op value,
       )

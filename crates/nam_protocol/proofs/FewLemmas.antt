@@ -1,5 +1,5 @@
 -- How many keys, records, headers and counts a transaction has that fits.
-use Rattle.std.proofs.Common.{◌≡◌, ◌≤◌, List, length, ap, arith, true}
+use Rattle.std.proofs.Common.{◌≡◌, ℕ, ◌≤◌, List, length, ap, arith, true}
 use Rattle.std.specs.List.{AllByRecursion}
 use Rattle.std.specs.Set.{is_member}
 use Rattle.std.proofs.lemmas.List.{length-map}
@@ -7,6 +7,9 @@ use Rattle.si_model.specs.declared.row.Key.{Key}
 use Rattle.si_model.specs.Rows.{same_key}
 use Rattle.si_model.proofs.ListLemmas.{All-map}
 use Rattle.nam_catalog.specs.declared.shape.Shape.{Shape}
+use Rattle.nam_calls.specs.declared.lock.LockPoint.{LockPoint}
+use Rattle.nam_calls.specs.declared.lock.LockPoint.TheVariants.{Peek, Seize, GiveBack}
+use Rattle.nam_calls.specs.Fits.{LockFits}
 use Rattle.nam_protocol.specs.declared.txn.CommitPoint.{CommitPoint}
 use Rattle.nam_protocol.specs.declared.txn.CommitPoint.TheVariants.{Locking, Checking, Returning, Saving, Copying}
 use Rattle.nam_protocol.specs.declared.txn.CommitPoint.TheVariants.{Installing, Publishing, Freeing}
@@ -72,16 +75,16 @@ module _ (shape : Shape) (state : TxnState) (fits : StateFits shape state) where
         records = omega arith;
       }
 
-  held_within : {records : ℕ} {held : List ℕ} (at : LockPoint) → LockFits records held at → length held ≤ records
-  held_within Peek l = omega arith
-  held_within (Seize header) l = omega arith
-  held_within (GiveBack given found) l = let m = l.0 in omega arith
+  held_within : (records : ℕ) (held : List ℕ) (at : LockPoint) → LockFits records held at → length held ≤ records
+  held_within records held Peek l = omega arith
+  held_within records held (Seize header) l = omega arith
+  held_within records held (GiveBack given found) l = let m = l.0 in omega arith
 
   -- the headers and the counts are no more than the records
   places_within : (at : CommitPoint) → length state.writes ≤ length state.records → CommitPointFits shape state at
       → (length state.held ≤ length state.records) × (length state.counts ≤ length state.records)
   places_within (Listing at) w c = let h = c.0 in let n = c.1 in (omega arith, omega arith)
-  places_within (Locking at) w c = let n = c.1 in (held_within at c.0, omega arith)
+  places_within (Locking at) w c = let n = c.1 in (held_within (length state.records) state.held at c.0, omega arith)
   places_within (Checking at) w c = let h = c.0 in let n = c.1 in (omega arith, omega arith)
   places_within (Returning given full) w c = let h = c.0 in let n = c.2 in (omega arith, omega arith)
   places_within (Counting nth) w c = let h = c.0 in let n = c.1 in (omega arith, omega arith)

@@ -114,10 +114,10 @@ number_refused fits = let last = fits.last_is in omega arith
 abbrev commit_state : ℕ → TxnState
 commit_state last = record (state_with 16) { last = last; records = records_of (state_with 16) }
 
-commit_fits : CommitFits wide (commit_state 4294967294) (Locking (Peek []))
-commit_fits = (refl, omega arith, (omega arith, refl, omega arith), omega arith)
+commit_fits : CommitFits wide (commit_state 4294967294) (Locking Peek)
+commit_fits = (refl, omega arith, (omega arith, refl), omega arith)
 
-spent_refused : CommitFits wide (commit_state 4294967295) (Locking (Peek [])) → ⊥
+spent_refused : CommitFits wide (commit_state 4294967295) (Locking Peek) → ⊥
 spent_refused fits = let room = fits.3 in omega arith
 
 -- 3. What is asked

@@ -1,25 +1,18 @@
 -- Where a session goes on. For any property of sessions: if each word of its client keeps it, and each call that its
 -- driver asks, and a stop, then it holds of each session that occurs.
-use Rattle.std.proofs.Common.{◌≡◌, ℕ, zero, suc, ◌+◌, ◌≤◌, List, [], ◌∷◌, length, take, refl, sym, ◌∙◌, ap, subst, arith}
-use Rattle.std.proofs.Common.{Bool, true, false, ◌<◌, Option, Some, None}
-use Rattle.std.specs.Prelude.{slice_get, is_some, IsSome}
+use Rattle.std.proofs.Common.{◌≡◌, ℕ, zero, suc, ◌≤◌, List, length, refl, ◌∙◌, subst, arith}
+use Rattle.std.proofs.Common.{false, Option, Some, None}
+use Rattle.std.specs.Prelude.{slice_get, is_some}
 use Rattle.std.specs.List.{AllByRecursion}
-use Rattle.std.proofs.lemmas.Bool.{false≢true}
-use Rattle.std.proofs.lemmas.List.{length-map}
-use Rattle.si_model.specs.declared.op.Op.{Op}
 use Rattle.si_model.specs.declared.op.Policy.{Policy}
-use Rattle.si_model.specs.Rows.{key_at}
-use Rattle.si_model.specs.Evaluation.{OpFits}
-use Rattle.si_model.specs.declared.op.Op.TheVariants as op
 use Rattle.nam_verbs.specs.declared.now.Now.{Now}
 use Rattle.nam_verbs.specs.declared.now.Now.TheVariants.{At, Over}
 use Rattle.nam_verbs.specs.VerbAt.{VerbAt}
 use Rattle.nam_catalog.specs.declared.shape.Shape.{Shape}
-use Rattle.nam_catalog.specs.declared.shape.Table.{Table}
 use Rattle.nam_catalog.specs.Fits.{FitsLimits}
-use Rattle.nam_catalog.specs.Tables.{widths_of}
+use Rattle.nam_catalog.specs.Greatest.{greatest_number}
 use Rattle.nam_layout.specs.declared.field.Field.{Field}
-use Rattle.nam_calls.specs.Fits.{IsOf, IsTableOf}
+use Rattle.nam_calls.specs.Fits.{IsOf}
 use Rattle.nam_calls.proofs.FallsTests.{either}
 use Rattle.nam_protocol.specs.declared.client.Answer.{Answer}
 use Rattle.nam_protocol.specs.declared.client.Call.{Call}
@@ -29,38 +22,31 @@ use Rattle.nam_protocol.specs.declared.client.CallPoint.TheVariants.{Seeking, Sn
 use Rattle.nam_protocol.specs.declared.client.ClientState.{ClientState}
 use Rattle.nam_protocol.specs.declared.client.Open.{Open}
 use Rattle.nam_protocol.specs.declared.scan.ScanPoint.{ScanPoint}
-use Rattle.nam_protocol.specs.declared.session.DriverPoint.{DriverPoint}
-use Rattle.nam_protocol.specs.declared.session.DriverPoint.TheVariants.{ToBegin, ToAsk, ToTidy, ToCollect}
 use Rattle.nam_protocol.specs.declared.session.Job.{Job}
 use Rattle.nam_protocol.specs.declared.session.SessionState.{SessionState}
 use Rattle.nam_protocol.specs.declared.txn.TxnCall.{TxnCall}
 use Rattle.nam_protocol.specs.declared.txn.TxnPoint.{TxnPoint}
 use Rattle.nam_protocol.specs.Client.{after_call, ask_scan, ask_txn, call_after, client_after, client_ask, take_scan}
 use Rattle.nam_protocol.specs.Client.{take_txn, with_call}
-use Rattle.nam_protocol.specs.ClientEvents.{ClientLists, NowLists, is_open_after}
-use Rattle.nam_protocol.specs.ClientFits.{CallFits, ClientFits}
+use Rattle.nam_protocol.specs.ClientEvents.{ClientLists}
+use Rattle.nam_protocol.specs.ClientFits.{ClientFits}
 use Rattle.nam_protocol.specs.CutClient.{client_cut}
-use Rattle.nam_protocol.specs.Driver.{job_call, new_driver, op_call, place_call}
+use Rattle.nam_protocol.specs.Driver.{job_call, new_driver, place_call}
 use Rattle.nam_protocol.specs.EventsLaw.{IsReached, by_cut, by_word, is_new}
-use Rattle.nam_protocol.specs.Own.{MayAsk, Rests}
 use Rattle.nam_protocol.specs.Session.{answer_now, calls_at_most, has_ended, new_session, session_after, session_cut}
 use Rattle.nam_protocol.specs.Session.{session_verb, settle, taken}
-use Rattle.nam_protocol.specs.SessionFits.{DriverFits, DriverPointFits, JobFits, SessionFits, is_running, ops_of}
-use Rattle.nam_protocol.specs.SessionKeeps.{ClientKeeps, OpensAsked, SessionKeepsLaw, is_asking}
+use Rattle.nam_protocol.specs.SessionFits.{DriverFits, JobFits, SessionFits, ops_of}
 use Rattle.nam_protocol.specs.Telling.{new_client, stepped}
 use Rattle.nam_protocol.specs.Txn.{Stepped}
 use Rattle.nam_protocol.proofs.EndsDriver.{AsksFrom, calls_from}
-use Rattle.nam_protocol.proofs.EndsSession.{IsReady, asks, is_open, new_ready, new_session_ends, nth_holds}
+use Rattle.nam_protocol.proofs.EndsSession.{IsReady, asks, new_ready, new_session_ends, nth_holds}
 use Rattle.nam_protocol.proofs.EndsSession.{session_cut_ends, session_word, taken_ready, takes_word}
 use Rattle.nam_protocol.proofs.EventsClient.{ask_lists, word_lists}
-use Rattle.nam_protocol.proofs.EventsSession.{asks_after, needs_open}
-use Rattle.nam_protocol.proofs.FallsKeys.{all_at}
+use Rattle.nam_protocol.proofs.OpensDriver.{needs_open}
 use Rattle.nam_protocol.proofs.GoesClient.{begin_goes, collect_goes, move_goes, on_answer_goes, scan_goes, seek_goes}
 use Rattle.nam_protocol.proofs.GoesClient.{snap_goes, step_lists, step_opens, stepped_goes}
 use Rattle.nam_protocol.proofs.RunsClient.{ClientDoes, NowDoes}
-use Rattle.nam_protocol.specs.declared.client.Answer.TheVariants as client_answer
 use Rattle.nam_protocol.specs.declared.client.Call.TheVariants as call
-use Rattle.nam_protocol.specs.Telling as telling
 
 -- 1. Only a stop cuts a client
 
@@ -237,18 +223,20 @@ module _ (shape : Shape) (limits : FitsLimits shape) (P : SessionState → Type 
   -- 4. The sessions that occur
 
   module _ (worker start : ℕ) (jobs : List Job) (policy : Policy) (is : IsOf shape.workers worker)
-      (fit : AllByRecursion (JobFits shape) jobs) (least : 1 ≤ policy.tries) where
+      (number : start ≤ greatest_number shape.form) (fit : AllByRecursion (JobFits shape) jobs)
+      (least : 1 ≤ policy.tries) where
     abbrev unasked : SessionState
     unasked = record { client = new_client worker start; driver = new_driver policy; jobs = jobs }
 
     pub new_kept : P unasked → P (new_session shape (new_client worker start) jobs policy)
     new_kept p =
-        settle_kept (calls_at_most jobs) unasked (new_ready shape limits worker start jobs policy is fit least) refl p
+        settle_kept (calls_at_most jobs) unasked
+        (new_ready shape limits worker start jobs policy is number fit least) refl p
 
     pub reached_kept : P unasked → (session : SessionState) → IsReached shape worker start jobs policy session
         → SessionFits shape session × P session
     reached_kept p session is_new =
-        ((new_session_ends shape limits worker start jobs policy is fit least).0, new_kept p)
+        ((new_session_ends shape limits worker start jobs policy is number fit least).0, new_kept p)
     reached_kept p session (by_word before verb found reached e) =
         let s = reached_kept p before reached in
         ((session_word shape limits before verb found s.0 e).0, word_kept before verb found s.0 e s.1)

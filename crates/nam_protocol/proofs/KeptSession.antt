@@ -1,106 +1,106 @@
 -- Whatever each word of a client and each call that it may be asked keep, its session keeps.
-use Rattle.std.proofs.Common.{◌≡◌, ℕ, zero, suc, ◌+◌, ◌≤◌, List, [], ◌∷◌, length, take, refl, sym, ◌∙◌, ap, subst, arith}
-use Rattle.std.proofs.Common.{Bool, true, false, ◌<◌, Option, Some, None}
+use Rattle.std.proofs.Common.{take, subst, ◌≡◌, ℕ, ◌≤◌, List, length, refl, sym, ◌∙◌, ap}
+use Rattle.std.proofs.Common.{true, false, Option, Some, None}
 use Rattle.std.specs.Prelude.{slice_get, is_some, IsSome}
 use Rattle.std.specs.List.{AllByRecursion}
 use Rattle.std.proofs.lemmas.Bool.{false≢true}
-use Rattle.std.proofs.lemmas.List.{length-map}
 use Rattle.si_model.specs.declared.op.Op.{Op}
 use Rattle.si_model.specs.declared.op.Policy.{Policy}
 use Rattle.si_model.specs.Rows.{key_at}
-use Rattle.si_model.specs.Evaluation.{OpFits}
 use Rattle.si_model.specs.declared.op.Op.TheVariants as op
 use Rattle.nam_verbs.specs.declared.now.Now.{Now}
 use Rattle.nam_verbs.specs.declared.now.Now.TheVariants.{At, Over}
 use Rattle.nam_verbs.specs.VerbAt.{VerbAt}
 use Rattle.nam_catalog.specs.declared.shape.Shape.{Shape}
-use Rattle.nam_catalog.specs.declared.shape.Table.{Table}
 use Rattle.nam_catalog.specs.Fits.{FitsLimits}
-use Rattle.nam_catalog.specs.Tables.{widths_of}
+use Rattle.nam_catalog.specs.Greatest.{greatest_number}
 use Rattle.nam_layout.specs.declared.field.Field.{Field}
-use Rattle.nam_calls.specs.Fits.{IsOf, IsTableOf}
-use Rattle.nam_calls.proofs.FallsTests.{either}
+use Rattle.nam_calls.specs.Fits.{IsOf}
 use Rattle.nam_protocol.specs.declared.client.Answer.{Answer}
-use Rattle.nam_protocol.specs.declared.client.Call.{Call}
 use Rattle.nam_protocol.specs.declared.client.CallPoint.{CallPoint}
-use Rattle.nam_protocol.specs.declared.client.CallPoint.TheVariants.{Beginning, Collecting, InTxn, Moving, Scanning}
-use Rattle.nam_protocol.specs.declared.client.CallPoint.TheVariants.{Seeking, Snapping}
 use Rattle.nam_protocol.specs.declared.client.ClientState.{ClientState}
 use Rattle.nam_protocol.specs.declared.client.Open.{Open}
-use Rattle.nam_protocol.specs.declared.scan.ScanPoint.{ScanPoint}
 use Rattle.nam_protocol.specs.declared.session.DriverPoint.{DriverPoint}
 use Rattle.nam_protocol.specs.declared.session.DriverPoint.TheVariants.{ToBegin, ToAsk, ToTidy, ToCollect}
 use Rattle.nam_protocol.specs.declared.session.Job.{Job}
 use Rattle.nam_protocol.specs.declared.session.SessionState.{SessionState}
-use Rattle.nam_protocol.specs.declared.txn.TxnCall.{TxnCall}
-use Rattle.nam_protocol.specs.declared.txn.TxnPoint.{TxnPoint}
-use Rattle.nam_protocol.specs.Client.{after_call, ask_scan, ask_txn, call_after, client_after, client_ask, take_scan}
-use Rattle.nam_protocol.specs.Client.{take_txn, with_call}
-use Rattle.nam_protocol.specs.ClientEvents.{ClientLists, NowLists, is_open_after}
-use Rattle.nam_protocol.specs.ClientFits.{CallFits, ClientFits}
-use Rattle.nam_protocol.specs.CutClient.{client_cut}
-use Rattle.nam_protocol.specs.Driver.{job_call, new_driver, op_call, place_call}
-use Rattle.nam_protocol.specs.EventsLaw.{IsReached, by_cut, by_word, is_new}
+use Rattle.nam_protocol.specs.Client.{client_after, client_ask}
+use Rattle.nam_protocol.specs.ClientEvents.{NowLists, is_open_after}
+use Rattle.nam_protocol.specs.ClientFits.{CallFits, OpenFits}
+use Rattle.nam_protocol.specs.Driver.{op_call, place_call}
+use Rattle.nam_protocol.specs.EventsLaw.{IsReached}
 use Rattle.nam_protocol.specs.Own.{MayAsk, Rests}
-use Rattle.nam_protocol.specs.Session.{answer_now, calls_at_most, has_ended, new_session, session_after, session_cut}
-use Rattle.nam_protocol.specs.Session.{session_verb, settle, taken}
-use Rattle.nam_protocol.specs.SessionFits.{DriverFits, DriverPointFits, JobFits, SessionFits, is_running, ops_of}
+use Rattle.nam_protocol.specs.Session.{new_session, session_after, session_cut}
+use Rattle.nam_protocol.specs.Session.{session_verb}
+use Rattle.nam_protocol.specs.SessionFits.{DriverPointFits, JobFits, OpenAsked, OpsFit, SessionFits, is_running, ops_of}
+use Rattle.nam_protocol.specs.TxnFits.{IsKeyOf}
 use Rattle.nam_protocol.specs.AnswersLaw.{SessionCarriesLaw}
 use Rattle.nam_protocol.specs.Carries.{Carries}
 use Rattle.nam_protocol.specs.Own.{OpenClient, OwnOk, StageClient}
 use Rattle.nam_protocol.specs.SessionKeeps.{ClientKeeps, OpensAsked, SessionKeepsLaw, is_asking}
 use Rattle.nam_protocol.proofs.AnswersClient.{asked_carries, cut_carries, new_carries, word_carries}
-use Rattle.nam_protocol.proofs.GoesSession.{NextHolds, SessionKeeps, Steps, cut_kept, new_kept, reached_kept, word_kept}
+use Rattle.nam_protocol.proofs.GoesSession.{NextHolds, SessionKeeps, cut_kept, new_kept, reached_kept, word_kept}
 use Rattle.nam_protocol.proofs.OpenLemmas.{open_asked, open_cut, open_word}
 use Rattle.nam_protocol.proofs.OwnLemmas.{own_asked, own_cut, own_word}
 use Rattle.nam_protocol.proofs.StageLemmas.{stage_asked, stage_cut, stage_word}
-use Rattle.nam_protocol.specs.Telling.{new_client, stepped}
-use Rattle.nam_protocol.specs.Txn.{Stepped}
-use Rattle.nam_protocol.proofs.EndsDriver.{AsksFrom, calls_from}
-use Rattle.nam_protocol.proofs.EndsSession.{IsReady, asks, is_open, new_ready, new_session_ends, nth_holds}
-use Rattle.nam_protocol.proofs.EndsSession.{session_cut_ends, session_word, taken_ready, takes_word}
-use Rattle.nam_protocol.proofs.EventsClient.{ask_lists, word_lists}
-use Rattle.nam_protocol.proofs.EventsSession.{asks_after, needs_open}
+use Rattle.nam_protocol.specs.Telling.{new_client}
+use Rattle.nam_protocol.proofs.EndsSession.{IsReady, nth_holds, on_key, on_table}
+use Rattle.nam_protocol.proofs.EndsDriver.{AsksFrom}
+use Rattle.nam_protocol.proofs.OpensDriver.{asks_after}
 use Rattle.nam_protocol.proofs.FallsKeys.{all_at}
-use Rattle.nam_protocol.proofs.GoesClient.{begin_goes, collect_goes, move_goes, on_answer_goes, scan_goes, seek_goes}
-use Rattle.nam_protocol.proofs.GoesClient.{snap_goes, step_lists, step_opens, stepped_goes}
-use Rattle.nam_protocol.proofs.RunsClient.{IsAnswered, NowDoes}
-use Rattle.nam_protocol.specs.declared.client.Answer.TheVariants as client_answer
-use Rattle.nam_protocol.specs.declared.client.Call.TheVariants as call
-use Rattle.nam_protocol.specs.Telling as telling
+use Rattle.nam_protocol.proofs.RunsClient.{NowDoes}
 
 module _ (shape : Shape) where
   -- 1. The driver's calls may be asked
 
-  scan_table : (table : ℕ) → table < length (widths_of shape.tables) → IsTableOf shape table
-  scan_table table is = let e = length-map shape.tables (λ (t : Table). t.width) in omega arith
-
-  op_fits : (opened : Option Open) (o : Option Op) → IsSome opened
-      → ((op : Op) → o ≡ Some op → OpFits (widths_of shape.tables) op) → CallFits shape opened (op_call o)
-  op_fits opened None some fits = (some, tt)
-  op_fits opened (Some (op.Get t k)) some fits = (some, (fits (op.Get t k) refl, refl))
-  op_fits opened (Some (op.Put t k v)) some fits = (some, (fits (op.Put t k v) refl, refl))
-  op_fits opened (Some (op.Add t k f up by)) some fits = (some, (fits (op.Add t k f up by) refl, refl))
-  op_fits opened (Some (op.Del t k)) some fits = (some, (fits (op.Del t k) refl, refl))
-  op_fits opened (Some (op.Need t k f least)) some fits = (some, (fits (op.Need t k f least) refl, refl))
-  op_fits opened (Some (op.Guard t k)) some fits = (some, (fits (op.Guard t k) refl, refl))
-  op_fits opened (Some (op.Scan t low high)) some fits = (some, scan_table t (fits (op.Scan t low high) refl).0)
+  op_fits : (opened : Option Open) (ops : List Op) (nth : ℕ) (o : Option Op) → slice_get ops nth ≡ o
+      → OpenFits shape opened → OpenAsked opened (take nth ops) → OpsFit shape ops → IsSome opened
+      → CallFits shape opened (op_call o)
+  op_fits None ops nth o here f a fit some = absurd a
+  op_fits (Some attempt) ops nth None here f a fit some = tt
+  op_fits (Some attempt) ops nth (Some (op.Get t k)) here f a fit some =
+      on_key shape ops nth (op.Get t k) here fit refl attempt f a
+  op_fits (Some attempt) ops nth (Some (op.Put t k v)) here f a fit some =
+      on_key shape ops nth (op.Put t k v) here fit refl attempt f a
+  op_fits (Some attempt) ops nth (Some (op.Add t k i up by)) here f a fit some =
+      on_key shape ops nth (op.Add t k i up by) here fit refl attempt f a
+  op_fits (Some attempt) ops nth (Some (op.Del t k)) here f a fit some =
+      on_key shape ops nth (op.Del t k) here fit refl attempt f a
+  op_fits (Some attempt) ops nth (Some (op.Need t k i least)) here f a fit some =
+      on_key shape ops nth (op.Need t k i least) here fit refl attempt f a
+  op_fits (Some attempt) ops nth (Some (op.Guard t k)) here f a fit some =
+      on_key shape ops nth (op.Guard t k) here fit refl attempt f a
+  op_fits (Some attempt) ops nth (Some (op.Scan t low high)) here f a fit some =
+      (some, on_table shape ops nth (op.Scan t low high) here fit t low high refl)
 
   place_fits : (opened : Option Open) (ops : List Op) (txn try tries : ℕ) (place : DriverPoint)
-      → DriverPointFits shape tries try place → AllByRecursion (OpFits (widths_of shape.tables)) ops
-      → is_some opened ≡ is_asking place
+      → DriverPointFits shape tries try place → OpenFits shape opened → AsksFrom shape place ops opened
+      → OpsFit shape ops → is_some opened ≡ is_asking place
       → CallFits shape opened (place_call record { txn = txn; ops = ops } try place)
-  place_fits opened ops txn try tries ToBegin d fit is = is
-  place_fits opened ops txn try tries (ToAsk nth) d fit is =
-      op_fits opened (slice_get ops nth) is (λ op here. nth_holds (OpFits (widths_of shape.tables)) ops nth op fit here)
-  place_fits opened ops txn try tries (ToTidy keys nth again retry) d fit is =
-      (is, all_at (λ k. IsTableOf shape k.table) (key_at 0 0) keys nth d.0 d.1)
-  place_fits opened ops txn try tries (ToCollect bucket keys nth retry) d fit is = (is, d.0)
+  place_fits opened ops txn try tries ToBegin d f a fit is = is
+  place_fits opened ops txn try tries (ToAsk nth) d f a fit is =
+      op_fits opened ops nth (slice_get ops nth) refl f a fit is
+  place_fits opened ops txn try tries (ToTidy keys nth again retry) d f a fit is =
+      (is, all_at (IsKeyOf shape) (key_at 0 0) keys nth d.0 d.1)
+  place_fits opened ops txn try tries (ToCollect bucket keys nth retry) d f a fit is = (is, d.0)
 
   rests_now : (now : Option (Now CallPoint Answer)) → is_running now ≡ false → Rests now
   rests_now None e = tt
   rests_now (Some (At place)) e = absurd (false≢true (sym e))
   rests_now (Some (Over end)) e = tt
+
+  -- the call that its driver asks may be asked
+  pub may_ask : (session : SessionState) (job : Job) → IsReady shape session → session.client.cut ≡ false
+      → OpensAsked session → slice_get session.jobs session.driver.job ≡ Some job
+      → MayAsk shape session.client (place_call job session.driver.nth session.driver.place)
+  may_ask session job ready uncut opened here = record {
+    runs = uncut;
+    rests = rests_now session.client.call ready.rests;
+    fits = place_fits session.client.txn job.ops job.txn session.driver.nth session.driver.policy.tries
+        session.driver.place ready.driver.2 ready.client.1
+        (subst (λ j. AsksFrom shape session.driver.place (ops_of j) session.client.txn) here ready.asks)
+        (nth_holds (JobFits shape) session.jobs session.driver.job job ready.jobs here) opened;
+  }
 
 -- 2. A session
 
@@ -121,18 +121,6 @@ module _ (shape : Shape) (limits : FitsLimits shape) (P : ClientState → Type 0
       let asks = asks_after shape session.jobs session.driver job.ops client.txn session.driver.place end does in
       record { opened = lists.1 ∙ ap (λ was. is_open_after was end) holds.opened ∙ sym asks; client = p }
 
-  -- the call that its driver asks may be asked
-  pub may_ask : (session : SessionState) (job : Job) → IsReady shape session → session.client.cut ≡ false
-      → OpensAsked session → slice_get session.jobs session.driver.job ≡ Some job
-      → MayAsk shape session.client (place_call job session.driver.nth session.driver.place)
-  may_ask session job ready uncut opened here = record {
-    runs = uncut;
-    rests = rests_now shape session.client.call ready.rests;
-    fits = place_fits shape session.client.txn job.ops job.txn session.driver.nth session.driver.policy.tries
-        session.driver.place ready.driver.2
-        (nth_holds (JobFits shape) session.jobs session.driver.job job ready.jobs here) opened;
-  }
-
   pub session_holds : SessionKeeps shape Holds
   session_holds = record {
     word = λ session place found job fits uncut e holds s.
@@ -143,7 +131,8 @@ module _ (shape : Shape) (limits : FitsLimits shape) (P : ClientState → Type 0
         let c = place_call job session.driver.nth session.driver.place in
         let client = client_ask shape session.client c in
         next_holds session job client holds
-        (keeps.asked session.client c ready.client (may_ask session job ready uncut holds.opened s.here) holds.client)
+        (keeps.asked session.client c ready.client (may_ask shape session job ready uncut holds.opened s.here)
+        holds.client)
         client.call s.does s.lists;
     cut = λ session holds. record { opened = holds.opened; client = keeps.cut session.client holds.client };
   }
@@ -157,24 +146,25 @@ module _ (shape : Shape) (limits : FitsLimits shape) (P : ClientState → Type 0
   cut_holds = cut_kept shape limits Holds session_holds
 
   module _ (worker start : ℕ) (jobs : List Job) (policy : Policy) (is : IsOf shape.workers worker)
-      (fit : AllByRecursion (JobFits shape) jobs) (least : 1 ≤ policy.tries) where
+      (number : start ≤ greatest_number shape.form) (fit : AllByRecursion (JobFits shape) jobs)
+      (least : 1 ≤ policy.tries) where
     pub new_holds : P (new_client worker start) → Holds (new_session shape (new_client worker start) jobs policy)
     new_holds p =
-        new_kept shape limits Holds session_holds worker start jobs policy is fit least
+        new_kept shape limits Holds session_holds worker start jobs policy is number fit least
         record { opened = refl; client = p }
 
     pub reached_holds : P (new_client worker start) → (session : SessionState)
         → IsReached shape worker start jobs policy session → SessionFits shape session × Holds session
     reached_holds p =
-        reached_kept shape limits Holds session_holds worker start jobs policy is fit least
+        reached_kept shape limits Holds session_holds worker start jobs policy is number fit least
         record { opened = refl; client = p }
 
 -- 3. Tests, and what is known of clients
 
 pub session_keeps : SessionKeepsLaw
-session_keeps shape limits worker start jobs policy is fit least test keeps new session reached =
-    (reached_holds shape limits (λ client. test client ≡ true) keeps worker start jobs policy is fit least new session
-    reached).1.client
+session_keeps shape limits worker start jobs policy is number fit least test keeps new session reached =
+    (reached_holds shape limits (λ client. test client ≡ true) keeps worker start jobs policy is number fit least new
+    session reached).1.client
 
 pub carries_keeps : (shape : Shape) → ClientKeeps shape Carries
 carries_keeps shape = record {
@@ -205,6 +195,6 @@ open_keeps shape = record {
 }
 
 pub session_carries : SessionCarriesLaw
-session_carries shape limits worker start jobs policy is fit least session reached =
-    (reached_holds shape limits Carries (carries_keeps shape) worker start jobs policy is fit least
+session_carries shape limits worker start jobs policy is number fit least session reached =
+    (reached_holds shape limits Carries (carries_keeps shape) worker start jobs policy is number fit least
     (new_carries worker start) session reached).1.client

@@ -11,6 +11,7 @@ mod RareExample
 mod PolicyExample
 mod ClientExample
 mod BoundsExample
+mod HeldExample
 mod AnswersExample
 mod WorldExample
 mod FitsExample
@@ -38,6 +39,7 @@ pub mod EndsSession
 pub mod EndsWorld
 pub mod RoomDriver
 pub mod EventsClient
+pub mod OpensDriver
 pub mod EventsSession
 pub mod GoesParts
 pub mod GoesTxn
@@ -69,3 +71,4 @@ pub mod KeptSession
 pub mod AskedDriver
 pub mod AskedSession
 pub mod ListsClient
+pub mod ListsSession

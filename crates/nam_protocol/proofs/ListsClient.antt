@@ -1,6 +1,6 @@
 -- How long the lists of a client's log grow with a word and with a call.
-use Rattle.std.proofs.Common.{◌≡◌, ℕ, ◌+◌, ◌≤◌, Bool, true, false, List, [], ◌∷◌, ◌++◌, length, Option, Some, None, refl}
-use Rattle.std.proofs.Common.{sym, ap, subst, ◌∙◌, append-nil, length-append, arith}
+use Rattle.std.proofs.Common.{◌≡◌, ℕ, ◌+◌, ◌≤◌, Bool, true, false, List, length, Option, Some, None, refl}
+use Rattle.std.proofs.Common.{sym, subst, ◌∙◌, length-append, arith}
 use Rattle.std.specs.Prelude.{IsSome, is_some}
 use Rattle.std.proofs.lemmas.Bool.{false≢true}
 use Rattle.std.proofs.lemmas.List.{length_push}
@@ -8,7 +8,6 @@ use Rattle.si_model.specs.declared.row.Item.{Item}
 use Rattle.si_model.specs.declared.op.Op.{Op}
 use Rattle.si_model.specs.declared.op.Op.TheVariants as op
 use Rattle.si_model.specs.declared.log.Event.{Event}
-use Rattle.si_model.specs.declared.log.Lock.{Lock}
 use Rattle.si_model.specs.declared.log.Log.{Log}
 use Rattle.si_model.specs.Evaluation.{found}
 use Rattle.si_model.specs.EvaluationLaws.{is_scan}
@@ -30,11 +29,11 @@ use Rattle.nam_protocol.specs.declared.txn.TxnCall.TheVariants.{Get, Put, Add, D
 use Rattle.nam_protocol.specs.declared.txn.TxnPoint.{TxnPoint}
 use Rattle.nam_protocol.specs.declared.txn.TxnPoint.TheVariants.{Finding, Reading, Claiming, Committing}
 use Rattle.nam_protocol.specs.AnswersLaw.{AnswerTells, AskTells, CommitAskTells, CommitTells, OpTells, OpenAskTells}
-use Rattle.nam_protocol.specs.AnswersLaw.{OwnTells, ScanTells, TxnTells, asked_op}
+use Rattle.nam_protocol.specs.AnswersLaw.{OwnTells, ScanTells, TxnTells}
 use Rattle.nam_protocol.specs.AskedLaw.{call_at, txn_call_at}
 use Rattle.nam_protocol.specs.AttemptLaw.{has_passed}
 use Rattle.nam_calls.specs.Words.{capacity_of}
-use Rattle.nam_protocol.specs.Client.{after_call, ask_scan, ask_txn, call_after, client_ask, take_scan, take_txn}
+use Rattle.nam_protocol.specs.Client.{ask_scan, ask_txn, call_after, client_ask, take_scan, take_txn}
 use Rattle.nam_protocol.specs.Client.{with_call}
 use Rattle.nam_protocol.specs.ClientEvents.{is_open_after}
 use Rattle.nam_protocol.specs.ClientFits.{CallFits, CallPointFits, OpenPointFits}
@@ -54,6 +53,7 @@ use Rattle.nam_protocol.specs.TxnCalls.{taken_now}
 use Rattle.nam_protocol.specs.declared.client.Answer.TheVariants as answer
 use Rattle.nam_protocol.specs.declared.client.Call.TheVariants as call
 use Rattle.nam_protocol.specs.declared.txn.TxnAnswer.TheVariants as txn_answer
+use Rattle.nam_protocol.proofs.FallsClient.{some_open}
 use Rattle.nam_protocol.proofs.GoesClient.{begin_goes, collect_goes, move_goes, scan_goes, seek_goes, snap_goes}
 use Rattle.nam_protocol.proofs.GoesClient.{stepped_goes}
 
@@ -193,8 +193,8 @@ module _ (shape : Shape) (word keys : ℕ) (before after : ClientState) where
       → CommitTells shape word before after attempt at end → Lists 0 (ended keys true (has_passed end)) 0
   commit_lists attempt at few (txn_answer.Committed number) told =
       writes_more 0 keys 0 before.log after.log _ attempt.state.writes few told.log
-  commit_lists attempt at few (txn_answer.Locked lock) told = event_more 0 keys 0 before.log after.log _ told.log
-  commit_lists attempt at few (txn_answer.Newer lock) told = event_more 0 keys 0 before.log after.log _ told.log
+  commit_lists attempt at few (txn_answer.Locked lock) told = event_more 0 keys 0 before.log after.log _ told.2.log
+  commit_lists attempt at few (txn_answer.Newer lock) told = event_more 0 keys 0 before.log after.log _ told.2.log
   commit_lists attempt at few (txn_answer.Full lock) told = event_more 0 keys 0 before.log after.log _ told.1
   commit_lists attempt at few _ told = absurd told
 
@@ -263,10 +263,14 @@ module _ (shape : Shape) (word : ℕ) (before after : ClientState) where
   op_locks : (attempt : Open) (at : TxnPoint) (op : Op) (end : TxnAnswer)
       → OpTells shape word before after attempt at op end → has_passed end ≡ true
       → KeepsLocks (Some attempt) after.txn
-  op_locks attempt at op (txn_answer.Value value) told e = subst (KeepsLocks (Some attempt)) (sym told.2.opened) (omega arith)
-  op_locks attempt at op txn_answer.Written told e = subst (KeepsLocks (Some attempt)) (sym told.2.opened) (omega arith)
-  op_locks attempt at op (txn_answer.Added n) told e = subst (KeepsLocks (Some attempt)) (sym told.2.opened) (omega arith)
-  op_locks attempt at op txn_answer.Met told e = subst (KeepsLocks (Some attempt)) (sym told.2.opened) (omega arith)
+  op_locks attempt at op (txn_answer.Value value) told e =
+      subst (KeepsLocks (Some attempt)) (sym told.2.opened) (omega arith)
+  op_locks attempt at op txn_answer.Written told e =
+      subst (KeepsLocks (Some attempt)) (sym told.2.opened) (omega arith)
+  op_locks attempt at op (txn_answer.Added n) told e =
+      subst (KeepsLocks (Some attempt)) (sym told.2.opened) (omega arith)
+  op_locks attempt at op txn_answer.Met told e =
+      subst (KeepsLocks (Some attempt)) (sym told.2.opened) (omega arith)
   op_locks attempt at op _ told e = absurd (false≢true e)
 
   commit_locks : (attempt : Open) (at : CommitPoint) (end : TxnAnswer)
@@ -485,7 +489,7 @@ module _ (shape : Shape) (keys : ℕ) (before after : ClientState) where
       txn_asked_locks asked before.txn end told (subst (λ was. is_open_after was end ≡ true) some e)
   asked_locks _ end told some e = absurd told
 
-rests_snap : (now : Option (Now CallPoint Answer)) → Rests now → collects_snap now ≡ 0
+pub rests_snap : (now : Option (Now CallPoint Answer)) → Rests now → collects_snap now ≡ 0
 rests_snap None rests = refl
 rests_snap (Some (Over end)) rests = refl
 rests_snap (Some (At place)) rests = absurd rests
@@ -522,7 +526,7 @@ module _ (shape : Shape) where
       let none = rests_snap client.call rests in
       record { reads = refl; writes = refl; locks = refl; snaps = omega arith }
   ask_same client (call.Txn asked) rests fits =
-      ask_txn_same client asked client.txn (rests_snap client.call rests) fits.0
+      ask_txn_same client asked client.txn (rests_snap client.call rests) (some_open shape client.txn asked fits)
   ask_same client (call.Scan table low high) rests fits =
       ask_scan_same client table low high client.txn (rests_snap client.call rests) fits.0
   ask_same client (call.Tidy table key) rests fits =

@@ -105,7 +105,7 @@ module _ (state : TxnState) where
   commit_stage (Checking at) found stage =
       on_slot_goes Stage state _ (λ next e. tt) (λ count e f t. tt) (λ count e f t. tt) (λ count e f. tt)
       (λ slot word e. tt)
-  commit_stage (Returning given full) found stage = 
+  commit_stage (Returning given full) found stage =
       on_return_goes Stage state full _ (λ next e. tt) (λ e f. tt) (λ e f. tt)
   commit_stage (Counting nth) found stage = next_count_goes Stage state (nth + 1) (λ e. tt) (λ e. tt)
   commit_stage Deciding found stage = tt

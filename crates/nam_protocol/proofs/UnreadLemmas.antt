@@ -14,12 +14,12 @@ use Rattle.nam_protocol.specs.declared.scan.ScanPoint.{ScanPoint}
 use Rattle.nam_protocol.specs.declared.txn.TxnAnswer.{TxnAnswer}
 use Rattle.nam_protocol.specs.declared.txn.TxnCall.{TxnCall}
 use Rattle.nam_protocol.specs.declared.txn.TxnPoint.{TxnPoint}
-use Rattle.nam_protocol.specs.Client.{abandon_open, after_call, ask_scan, ask_txn, call_after, client_abandon}
+use Rattle.nam_protocol.specs.Client.{abandon_open, after_call, ask_scan, ask_txn, call_after}
 use Rattle.nam_protocol.specs.Client.{client_after, client_ask, with_call, take_scan, take_txn}
 use Rattle.nam_protocol.specs.Own.{IsUnread, Rests, UnreadIn, UnreadClient}
 use Rattle.nam_protocol.specs.Telling.{go, on_answer, stepped, with_answer}
 use Rattle.nam_protocol.specs.Txn.{Stepped}
-use Rattle.nam_protocol.specs.UnreadLaw.{KeepsUnread, UnreadLaw}
+use Rattle.nam_protocol.specs.UnreadLaw.{UnreadLaw}
 use Rattle.nam_protocol.proofs.GoesClient.{begin_goes, seek_goes, move_goes, snap_goes, collect_goes, scan_goes}
 use Rattle.nam_protocol.proofs.GoesClient.{on_answer_goes, step_lists, step_opens, stepped_goes}
 use Rattle.nam_protocol.specs.declared.client.Answer.TheVariants as client_answer

@@ -1,14 +1,10 @@
 -- What each answer tells: it follows from its call's read, lock or snapshot, as the log lists it.
-use Rattle.std.specs.Prelude.{◌≡◌, ◌≢◌, ℕ, ◌+◌, ◌-◌, ◌<◌, ◌≤◌, Bool, true, false, List, [], length, slice_index, Option}
+use Rattle.std.specs.Prelude.{◌≡◌, ℕ, ◌<◌, ◌≤◌, true, false, List, length, Option}
 use Rattle.std.specs.Prelude.{Some, None}
 use Rattle.std.specs.List.{AllByRecursion}
-use Rattle.si_model.specs.declared.row.Item.{Item}
 use Rattle.si_model.specs.declared.op.Op.{Op}
-use Rattle.si_model.specs.declared.log.Lock.{Lock}
-use Rattle.si_model.specs.declared.log.Log.{Log}
-use Rattle.si_model.specs.declared.log.Outcome.{Outcome}
 use Rattle.si_model.specs.Rows.{writes_key}
-use Rattle.si_model.specs.Evaluation.{passes, found, op_key, writes_after, guards_after}
+use Rattle.si_model.specs.Evaluation.{op_key}
 use Rattle.si_model.specs.declared.op.Op.TheVariants as op
 use Rattle.si_model.specs.declared.log.Event.TheVariants as event
 use Rattle.si_model.specs.declared.log.MoveEnd.TheVariants as moved
@@ -16,20 +12,15 @@ use Rattle.si_model.specs.declared.log.Outcome.TheVariants as outcome
 use Rattle.nam_verbs.specs.declared.now.Now.TheVariants.{At, Over}
 use Rattle.nam_catalog.specs.declared.shape.Shape.{Shape}
 use Rattle.nam_catalog.specs.Greatest.{greatest_number}
-use Rattle.nam_catalog.specs.Tables.{widths_of}
-use Rattle.nam_header.specs.Stamp.{is_locked, is_moved}
+use Rattle.nam_header.specs.Stamp.{is_moved}
 use Rattle.nam_layout.specs.Place.{place_of, bucket_of}
 use Rattle.nam_vector.specs.declared.snap.SnapPoint.{SnapPoint}
-use Rattle.nam_vector.specs.Snap.{snap_after}
-use Rattle.nam_vector.specs.declared.snap.SnapEnd.TheVariants as snap_end
 use Rattle.nam_calls.specs.declared.lock.LockPoint.TheVariants.{GiveBack}
 use Rattle.nam_calls.specs.declared.mover.MovePoint.{MovePoint}
 use Rattle.nam_calls.specs.Words.{capacity_of, path_of}
 use Rattle.nam_calls.specs.Index.{find_after}
-use Rattle.nam_calls.specs.Mover.{move_claimed}
 use Rattle.nam_calls.specs.Reading.{sight_of, read_after}
 use Rattle.nam_calls.specs.declared.index.FindEnd.TheVariants as found_key
-use Rattle.nam_calls.specs.declared.mover.MovePoint.TheVariants as move
 use Rattle.nam_calls.specs.declared.reading.ReadingEnd.TheVariants as read_end
 use Rattle.nam_protocol.specs.declared.txn.TxnCall.{TxnCall}
 use Rattle.nam_protocol.specs.declared.txn.TxnCall.TheVariants.{Get, Put, Add, Del, Need, Guard, Commit}
@@ -40,7 +31,7 @@ use Rattle.nam_protocol.specs.declared.txn.TxnAnswer.{TxnAnswer}
 use Rattle.nam_protocol.specs.declared.txn.TxnAnswer.TheVariants.{Committed, ReadOnly, TooOld, NoSpace, Declined}
 use Rattle.nam_protocol.specs.declared.txn.TxnAnswer.TheVariants.{Spent, Locked, Newer, Full, Astray}
 use Rattle.nam_protocol.specs.declared.txn.CommitPoint.{CommitPoint}
-use Rattle.nam_protocol.specs.declared.txn.CommitPoint.TheVariants.{Locking}
+use Rattle.nam_protocol.specs.declared.txn.CommitPoint.TheVariants.{Locking, Clearing}
 use Rattle.nam_protocol.specs.declared.client.Call.{Call}
 use Rattle.nam_protocol.specs.declared.client.Answer.{Answer}
 use Rattle.nam_protocol.specs.declared.client.CallPoint.{CallPoint}
@@ -48,13 +39,11 @@ use Rattle.nam_protocol.specs.declared.client.CallPoint.TheVariants.{Beginning, 
 use Rattle.nam_protocol.specs.declared.client.CallPoint.TheVariants.{Snapping, Collecting}
 use Rattle.nam_protocol.specs.declared.client.Open.{Open}
 use Rattle.nam_protocol.specs.declared.client.ClientState.{ClientState}
-use Rattle.nam_protocol.specs.Operations.{op_path, holding, own_value, value_in, answer_of}
-use Rattle.nam_protocol.specs.Commit.{lock_at, record_place}
-use Rattle.nam_protocol.specs.Log.{with_event, with_reads, with_writes, with_snap, prefix_of, unbegun, attempt_of}
-use Rattle.nam_protocol.specs.Telling.{new_attempt, new_client, with_read}
+use Rattle.nam_protocol.specs.Operations.{op_path, own_value, value_in}
+use Rattle.nam_protocol.specs.Log.{with_event, unbegun}
+use Rattle.nam_protocol.specs.Telling.{new_client}
 use Rattle.nam_protocol.specs.Client.{with_call, client_ask, client_after, client_abandon}
 use Rattle.nam_protocol.specs.CutClient.{client_cut}
-use Rattle.nam_protocol.specs.Commit.{locks_taken}
 use Rattle.nam_protocol.specs.ClientFits.{ClientFits}
 use Rattle.nam_protocol.specs.Own.{MayAsk}
 use Rattle.nam_protocol.specs.Session.{answer_now}
@@ -83,10 +72,11 @@ module _ (shape : Shape) (word : ℕ) where
   IsOn state (Claiming op at) value = value ≡ value_in state.read
   IsOn state (Committing at) value = ⊥
 
--- the word that was found in the way of a lock: while locks are given back, an earlier one
-abbrev pub word_in_way : ℕ → CommitPoint → ℕ
-word_in_way word (Locking (GiveBack held given earlier)) = earlier
-word_in_way word _ = word
+-- the word that was found in the way of a lock: an earlier one while locks are given back, or the intent is cleared
+abbrev pub IsWordInWay : ℕ → CommitPoint → ℕ → Type 0
+IsWordInWay word (Locking (GiveBack given earlier)) found = found ≡ earlier
+IsWordInWay word (Clearing refusal) found = Unit {0}
+IsWordInWay word _ found = found ≡ word
 
 module _ (shape : Shape) (word : ℕ) (before after : ClientState) where
   abbrev pub OpTells : Open → TxnPoint → Op → TxnAnswer → Type 0
@@ -103,14 +93,15 @@ module _ (shape : Shape) (word : ℕ) (before after : ClientState) where
   OpTells attempt at op Declined =
       (value : Option (List ℕ)) × IsOn shape word attempt.state at value × OpDeclined before after attempt op value
   OpTells attempt at op end =
-      (value : Option (List ℕ)) × IsOn shape word attempt.state at value × OpPassed shape before after attempt op value end
+      (value : Option (List ℕ)) × IsOn shape word attempt.state at value
+      × OpPassed shape before after attempt op value end
 
   abbrev pub CommitTells : Open → CommitPoint → TxnAnswer → Type 0
   CommitTells attempt at (Committed number) = HasCommitted before after attempt number
   CommitTells attempt at (Locked lock) =
-      LockMissed before after attempt (locks_taken attempt.state at) (word_in_way word at) lock true (outcome.Locked lock)
+      (found : ℕ) × IsWordInWay word at found × LockMissed before after attempt found lock true (outcome.Locked lock)
   CommitTells attempt at (Newer lock) =
-      LockMissed before after attempt (locks_taken attempt.state at) (word_in_way word at) lock false (outcome.Newer lock)
+      (found : ℕ) × IsWordInWay word at found × LockMissed before after attempt found lock false (outcome.Newer lock)
   CommitTells attempt at (Full lock) = IsFullAt attempt.state lock × Ends before after attempt (outcome.Full lock)
   CommitTells attempt at _ = ⊥
 
@@ -248,5 +239,6 @@ AnswersLaw = (shape : Shape) → AnswersTell shape
 abbrev pub SessionCarriesLaw : Type 0
 SessionCarriesLaw =
     (shape : Shape) → FitsLimits shape → (worker start : ℕ) (jobs : List Job) (policy : Policy)
-    → IsOf shape.workers worker → AllByRecursion (JobFits shape) jobs → 1 ≤ policy.tries → (session : SessionState)
+    → IsOf shape.workers worker → start ≤ greatest_number shape.form → AllByRecursion (JobFits shape) jobs
+    → 1 ≤ policy.tries → (session : SessionState)
     → IsReached shape worker start jobs policy session → Carries session.client

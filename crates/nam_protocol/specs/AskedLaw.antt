@@ -1,6 +1,6 @@
 -- Which calls are asked in an attempt.
-use Rattle.std.specs.Prelude.{◌≡◌, ℕ, ◌+◌, ◌≤◌, if◌then◌else◌, List, [], ◌∷◌, ◌++◌, map, take, length, slice_get, Option}
-use Rattle.std.specs.Prelude.{Some, None}
+use Rattle.std.specs.Prelude.{◌≡◌, ℕ, ◌+◌, ◌≤◌, if◌then◌else◌, List, [], ◌∷◌, ◌++◌, map, take, length, slice_get}
+use Rattle.std.specs.Prelude.{Option, Some, None}
 use Rattle.std.specs.List.{AllByRecursion}
 use Rattle.si_model.specs.declared.op.Op.{Op}
 use Rattle.si_model.specs.declared.op.Policy.{Policy}
@@ -8,6 +8,7 @@ use Rattle.si_model.specs.Lists.{IsFront}
 use Rattle.nam_verbs.specs.declared.now.Now.TheVariants.{At}
 use Rattle.nam_catalog.specs.declared.shape.Shape.{Shape}
 use Rattle.nam_catalog.specs.Fits.{FitsLimits}
+use Rattle.nam_catalog.specs.Greatest.{greatest_number}
 use Rattle.nam_calls.specs.Fits.{IsOf}
 use Rattle.nam_protocol.specs.declared.client.Answer.{Answer}
 use Rattle.nam_protocol.specs.declared.client.Call.{Call}
@@ -92,6 +93,7 @@ pub record RunsAsked (session : SessionState) (place : CallPoint) : Type 0 where
 abbrev pub SessionAsksLaw : Type 0
 SessionAsksLaw =
     (shape : Shape) → FitsLimits shape → (worker start : ℕ) (jobs : List Job) (policy : Policy)
-    → IsOf shape.workers worker → AllByRecursion (JobFits shape) jobs → 1 ≤ policy.tries → (session : SessionState)
+    → IsOf shape.workers worker → start ≤ greatest_number shape.form → AllByRecursion (JobFits shape) jobs
+    → 1 ≤ policy.tries → (session : SessionState)
     → IsReached shape worker start jobs policy session → (place : CallPoint) → session.client.call ≡ Some (At place)
     → RunsAsked session place

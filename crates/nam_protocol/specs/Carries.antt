@@ -1,5 +1,5 @@
 -- What a client has kept of the call that runs, since it began: what was read, locked, gathered, and found in the way.
-use Rattle.std.specs.Prelude.{◌≡◌, ◌≢◌, ◌⊎◌, ℕ, ◌<◌, ◌≤◌, true, false, List, [], ◌∷◌, ◌++◌, length, Option, Some, None}
+use Rattle.std.specs.Prelude.{◌≡◌, ◌≢◌, ◌⊎◌, ℕ, ◌<◌, ◌≤◌, Bool, true, false, List, [], ◌∷◌, ◌++◌, length, Option, Some, None}
 use Rattle.std.specs.List.{AllByRecursion}
 use Rattle.si_model.specs.declared.op.Op.{Op}
 use Rattle.si_model.specs.declared.log.Lock.{Lock}
@@ -14,7 +14,9 @@ use Rattle.nam_protocol.specs.declared.txn.TxnState.{TxnState}
 use Rattle.nam_protocol.specs.declared.txn.TxnPoint.{TxnPoint}
 use Rattle.nam_protocol.specs.declared.txn.TxnPoint.TheVariants.{Claiming, Committing}
 use Rattle.nam_protocol.specs.declared.txn.CommitPoint.{CommitPoint}
-use Rattle.nam_protocol.specs.declared.txn.CommitPoint.TheVariants.{Locking, Returning}
+use Rattle.nam_protocol.specs.declared.txn.CommitPoint.TheVariants.{Locking, Returning, Clearing}
+use Rattle.nam_protocol.specs.declared.txn.Refusal.{Refusal}
+use Rattle.nam_protocol.specs.declared.txn.Refusal.TheVariants as refusal
 use Rattle.nam_protocol.specs.declared.client.Answer.{Answer}
 use Rattle.nam_protocol.specs.declared.client.CallPoint.{CallPoint}
 use Rattle.nam_protocol.specs.declared.client.CallPoint.TheVariants.{InTxn, Scanning, Collecting}
@@ -24,7 +26,6 @@ use Rattle.nam_protocol.specs.declared.client.ClientState.{ClientState}
 use Rattle.nam_protocol.specs.Operations.{holding, value_in}
 use Rattle.nam_protocol.specs.Commit.{lock_at, record_place}
 use Rattle.nam_protocol.specs.Scan.{position_of}
-use Rattle.nam_protocol.specs.TxnCalls.{taken_at}
 use Rattle.nam_protocol.specs.Log.{prefix_of}
 use Rattle.nam_protocol.specs.Telling.{items_of, locks_from}
 
@@ -35,10 +36,10 @@ pub record IsDecided (state : TxnState) (op : Op) : Type 0 where
   pub passes : passes op (holding (value_in state.read)) ≡ true
   pub read : items_of state.read ≡ found op (holding (value_in state.read))
 
--- the word found at a record of the commit is locked or not seen, or is another than the header to be exchanged
-abbrev pub IsInTheWay : TxnState → ℕ → ℕ → Type 0
-IsInTheWay state nth word =
-    let form = (record_place state nth).form in
+-- the word found at the record whose lock is next is locked or not seen, or is another than the header to be exchanged
+abbrev pub IsInTheWay : TxnState → ℕ → Type 0
+IsInTheWay state word =
+    let form = (record_place state (length state.held)).form in
     (is_locked form word ≡ true)
     ⊎ ((sees form state.seen word ≡ false) ⊎ ((header : ℕ) × (sees form state.seen header ≡ true) × (word ≢ header)))
 
@@ -50,11 +51,25 @@ pub record IsFullAt (state : TxnState) (full : Lock) : Type 0 where
   pub lock : full ≡ lock_at state nth head
   pub not_moved : is_moved (record_place state nth).form head ≡ false
 
+-- the word found in the way of the next lock is locked or isn't
+pub record IsMissed (state : TxnState) (word : ℕ) (lock : Lock) (locked : Bool) : Type 0 where
+  pub within : length state.held < length state.records
+  pub lock_is : lock ≡ lock_at state (length state.held) word
+  pub locked_is : is_locked (record_place state (length state.held)).form word ≡ locked
+  pub way : IsInTheWay state word
+
+-- why a commit is refused
+abbrev pub IsRefused : TxnState → Refusal → Type 0
+IsRefused state (refusal.Locked lock) = (word : ℕ) × IsMissed state word lock true
+IsRefused state (refusal.Newer lock) = (word : ℕ) × IsMissed state word lock false
+IsRefused state (refusal.Full lock) = IsFullAt state lock
+
 abbrev pub CommitCarries : TxnState → CommitPoint → Type 0
-CommitCarries state (Locking (Seize held header)) =
-    sees (record_place state (length held)).form state.seen header ≡ true
-CommitCarries state (Locking (GiveBack held given word)) = IsInTheWay state (length held) word
+CommitCarries state (Locking (Seize header)) =
+    sees (record_place state (length state.held)).form state.seen header ≡ true
+CommitCarries state (Locking (GiveBack given word)) = IsInTheWay state word
 CommitCarries state (Returning given full) = IsFullAt state full
+CommitCarries state (Clearing refusal) = IsRefused state refusal
 CommitCarries state _ = Unit {0}
 
 abbrev pub PointCarries : TxnState → TxnPoint → Type 0
@@ -64,17 +79,16 @@ PointCarries state _ = Unit {0}
 
 -- 2. The open transaction: its number is its client's, and of the locks that the log lists the last are its own
 
--- it has taken the locks of these headers
-pub record Took (locks : List Lock) (attempt : Open) (headers : List ℕ) : Type 0 where
+-- it has taken the locks of the headers that it holds
+pub record Took (locks : List Lock) (attempt : Open) : Type 0 where
   pub earlier : List Lock
-  pub listed : locks ≡ earlier ++ locks_from attempt.state 0 headers
-  pub number : attempt.locks ≡ length headers
-  pub held : length attempt.state.held ≤ length headers
+  pub listed : locks ≡ earlier ++ locks_from attempt.state 0 attempt.state.held
+  pub number : attempt.locks ≡ length attempt.state.held
 
--- the headers of the locks that it holds
-abbrev pub headers_in : Option (Now CallPoint Answer) → TxnState → List ℕ
-headers_in (Some (At (InTxn at))) state = taken_at state at
-headers_in _ state = []
+-- only a commit holds headers
+abbrev pub HeldIn : Option (Now CallPoint Answer) → List ℕ → Type 0
+HeldIn (Some (At (InTxn (Committing at)))) held = Unit {0}
+HeldIn _ held = held ≡ []
 
 abbrev pub NowCarries : TxnState → Option (Now CallPoint Answer) → Type 0
 NowCarries state (Some (At (InTxn at))) = PointCarries state at
@@ -83,7 +97,8 @@ NowCarries state _ = Unit {0}
 pub record AttemptCarries (last : ℕ) (locks : List Lock) (call : Option (Now CallPoint Answer)) (attempt : Open)
     : Type 0 where
   pub last_is : attempt.state.last ≡ last
-  pub took : Took locks attempt (headers_in call attempt.state)
+  pub took : Took locks attempt
+  pub held : HeldIn call attempt.state.held
   pub point : NowCarries attempt.state call
 
 abbrev pub OpenCarries : ℕ → List Lock → Option (Now CallPoint Answer) → Option Open → Type 0

@@ -1,11 +1,12 @@
 -- Each list of a session's log is within the room for its jobs.
-use Rattle.std.specs.Prelude.{◌≡◌, ℕ, ◌+◌, ◌*◌, ◌≤◌, List, length}
+use Rattle.std.specs.Prelude.{ℕ, ◌+◌, ◌*◌, ◌≤◌, List, length}
 use Rattle.std.specs.List.{AllByRecursion}
 use Rattle.si_model.specs.declared.log.Log.{Log}
 use Rattle.si_model.specs.declared.op.Policy.{Policy}
 use Rattle.si_model.specs.Evaluation.{written_keys, guard_keys}
 use Rattle.nam_catalog.specs.declared.shape.Shape.{Shape}
 use Rattle.nam_catalog.specs.Fits.{FitsLimits}
+use Rattle.nam_catalog.specs.Greatest.{greatest_number}
 use Rattle.nam_calls.specs.Fits.{IsOf}
 use Rattle.nam_protocol.specs.declared.session.Job.{Job}
 use Rattle.nam_protocol.specs.declared.session.SessionState.{SessionState}
@@ -28,6 +29,7 @@ pub record ListsWithin (room : Room) (keys : ℕ) (log : Log) : Type 0 where
 abbrev pub ListsLaw : Type 0
 ListsLaw =
     (shape : Shape) → FitsLimits shape → (worker start : ℕ) (jobs : List Job) (policy : Policy)
-    → IsOf shape.workers worker → AllByRecursion (JobFits shape) jobs → 1 ≤ policy.tries → (keys : ℕ)
+    → IsOf shape.workers worker → start ≤ greatest_number shape.form → AllByRecursion (JobFits shape) jobs
+    → 1 ≤ policy.tries → (keys : ℕ)
     → KeysWithin keys jobs → (session : SessionState) → IsReached shape worker start jobs policy session
     → ListsWithin (room_for shape policy jobs) keys (session_log shape session)

@@ -5,6 +5,7 @@ use Rattle.si_model.specs.declared.op.Policy.{Policy}
 use Rattle.nam_verbs.specs.declared.now.Now.TheVariants.{At}
 use Rattle.nam_catalog.specs.declared.shape.Shape.{Shape}
 use Rattle.nam_catalog.specs.Fits.{FitsLimits}
+use Rattle.nam_catalog.specs.Greatest.{greatest_number}
 use Rattle.nam_calls.specs.Fits.{IsOf}
 use Rattle.nam_protocol.specs.declared.client.Call.{Call}
 use Rattle.nam_protocol.specs.declared.client.CallPoint.{CallPoint}
@@ -42,7 +43,8 @@ pub record ClientKeeps (shape : Shape) (Holds : ClientState → Type 0) : Type 0
 abbrev pub SessionKeepsLaw : Type 0
 SessionKeepsLaw =
     (shape : Shape) → FitsLimits shape → (worker start : ℕ) (jobs : List Job) (policy : Policy)
-    → IsOf shape.workers worker → AllByRecursion (JobFits shape) jobs → 1 ≤ policy.tries
+    → IsOf shape.workers worker → start ≤ greatest_number shape.form → AllByRecursion (JobFits shape) jobs
+    → 1 ≤ policy.tries
     → (test : ClientState → Bool) → ClientKeeps shape (λ client. test client ≡ true)
     → test (new_client worker start) ≡ true → (session : SessionState)
     → IsReached shape worker start jobs policy session → test session.client ≡ true

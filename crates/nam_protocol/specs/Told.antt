@@ -1,63 +1,35 @@
 -- What a call's answer tells of the log before and after it.
-use Rattle.std.specs.Prelude.{◌≡◌, ◌≢◌, ℕ, ◌+◌, ◌-◌, ◌<◌, Bool, true, false, List, [], ◌∷◌, ◌++◌, length, slice_index, Option}
-use Rattle.std.specs.Prelude.{Some, None}
+use Rattle.std.specs.Prelude.{◌≡◌, ◌≢◌, ℕ, ◌+◌, ◌-◌, ◌<◌, Bool, true, false, List, [], ◌∷◌, ◌++◌, length, slice_index}
+use Rattle.std.specs.Prelude.{Option, Some}
 use Rattle.std.specs.List.{AllByRecursion}
 use Rattle.si_model.specs.declared.row.Item.{Item}
 use Rattle.si_model.specs.declared.op.Op.{Op}
 use Rattle.si_model.specs.declared.log.Lock.{Lock}
 use Rattle.si_model.specs.declared.log.Stamp.{Stamp}
 use Rattle.si_model.specs.declared.log.MoveEnd.{MoveEnd}
-use Rattle.si_model.specs.declared.log.Log.{Log}
 use Rattle.si_model.specs.declared.log.Outcome.{Outcome}
-use Rattle.si_model.specs.Rows.{writes_key}
 use Rattle.si_model.specs.Evaluation.{passes, found, op_key, writes_after, guards_after}
-use Rattle.si_model.specs.declared.op.Op.TheVariants as op
 use Rattle.si_model.specs.declared.log.Event.TheVariants as event
-use Rattle.si_model.specs.declared.log.MoveEnd.TheVariants as moved
 use Rattle.si_model.specs.declared.log.Outcome.TheVariants as outcome
-use Rattle.nam_verbs.specs.declared.now.Now.TheVariants.{At, Over}
+use Rattle.nam_verbs.specs.declared.now.Now.TheVariants.{Over}
 use Rattle.nam_catalog.specs.declared.shape.Shape.{Shape}
-use Rattle.nam_catalog.specs.Greatest.{greatest_number}
 use Rattle.nam_catalog.specs.Tables.{widths_of}
-use Rattle.nam_header.specs.Stamp.{is_locked, is_moved}
+use Rattle.nam_header.specs.Stamp.{is_locked}
 use Rattle.nam_layout.specs.Place.{place_of, bucket_of}
 use Rattle.nam_vector.specs.declared.snap.SnapPoint.{SnapPoint}
 use Rattle.nam_vector.specs.Snap.{snap_after}
 use Rattle.nam_vector.specs.declared.snap.SnapEnd.TheVariants as snap_end
-use Rattle.nam_calls.specs.declared.lock.LockPoint.TheVariants.{GiveBack}
 use Rattle.nam_calls.specs.declared.mover.MovePoint.{MovePoint}
-use Rattle.nam_calls.specs.Words.{path_of}
-use Rattle.nam_calls.specs.Index.{find_after}
 use Rattle.nam_calls.specs.Mover.{move_claimed}
-use Rattle.nam_calls.specs.Reading.{sight_of, read_after}
-use Rattle.nam_calls.specs.declared.index.FindEnd.TheVariants as found_key
-use Rattle.nam_calls.specs.declared.mover.MovePoint.TheVariants as move
-use Rattle.nam_calls.specs.declared.reading.ReadingEnd.TheVariants as read_end
-use Rattle.nam_protocol.specs.declared.txn.TxnCall.{TxnCall}
-use Rattle.nam_protocol.specs.declared.txn.TxnCall.TheVariants.{Get, Put, Add, Del, Need, Guard, Commit}
 use Rattle.nam_protocol.specs.declared.txn.TxnState.{TxnState}
-use Rattle.nam_protocol.specs.declared.txn.TxnPoint.{TxnPoint}
-use Rattle.nam_protocol.specs.declared.txn.TxnPoint.TheVariants.{Finding, Reading, Claiming, Committing}
 use Rattle.nam_protocol.specs.declared.txn.TxnAnswer.{TxnAnswer}
-use Rattle.nam_protocol.specs.declared.txn.TxnAnswer.TheVariants.{Committed, ReadOnly, TooOld, NoSpace, Declined}
-use Rattle.nam_protocol.specs.declared.txn.TxnAnswer.TheVariants.{Spent, Locked, Newer, Full, Astray}
-use Rattle.nam_protocol.specs.declared.txn.CommitPoint.{CommitPoint}
-use Rattle.nam_protocol.specs.declared.txn.CommitPoint.TheVariants.{Locking}
-use Rattle.nam_protocol.specs.declared.client.Call.{Call}
-use Rattle.nam_protocol.specs.declared.client.Answer.{Answer}
-use Rattle.nam_protocol.specs.declared.client.CallPoint.{CallPoint}
-use Rattle.nam_protocol.specs.declared.client.CallPoint.TheVariants.{Beginning, InTxn, Scanning, Seeking, Moving}
-use Rattle.nam_protocol.specs.declared.client.CallPoint.TheVariants.{Snapping, Collecting}
 use Rattle.nam_protocol.specs.declared.client.Open.{Open}
 use Rattle.nam_protocol.specs.declared.client.ClientState.{ClientState}
-use Rattle.nam_protocol.specs.Operations.{op_path, holding, own_value, value_in, answer_of}
+use Rattle.nam_protocol.specs.Operations.{holding, answer_of}
 use Rattle.nam_protocol.specs.Commit.{lock_at, record_place}
-use Rattle.nam_protocol.specs.Log.{with_event, with_reads, with_writes, with_snap, prefix_of, unbegun, attempt_of}
-use Rattle.nam_protocol.specs.Telling.{new_attempt, new_client, with_read}
-use Rattle.nam_protocol.specs.Commit.{locks_taken}
-use Rattle.nam_protocol.specs.Carries.{IsBetween, IsInTheWay, Took}
-use Rattle.nam_protocol.specs.declared.client.Answer.TheVariants as answer
-use Rattle.nam_protocol.specs.declared.client.Call.TheVariants as call
+use Rattle.nam_protocol.specs.Log.{with_event, with_reads, with_writes, with_snap, prefix_of, attempt_of}
+use Rattle.nam_protocol.specs.Telling.{new_attempt, with_read}
+use Rattle.nam_protocol.specs.Carries.{IsBetween, IsMissed, Took}
 
 module _ (before after : ClientState) where
   -- 1. An operation on a value: what it reads is listed, and where it ends the attempt, that too
@@ -91,13 +63,9 @@ module _ (before after : ClientState) where
   -- 2. A commit
 
   -- the word in the way of the next lock is locked or isn't; the locks listed before it are those that were taken
-  pub record LockMissed (attempt : Open) (held : List ℕ) (word : ℕ) (lock : Lock) (locked : Bool) (how : Outcome)
-      : Type 0 where
-    pub within : length held < length attempt.state.records
-    pub lock_is : lock ≡ lock_at attempt.state (length held) word
-    pub locked_is : is_locked (record_place attempt.state (length held)).form word ≡ locked
-    pub way : IsInTheWay attempt.state (length held) word
-    pub took : Took before.log.locks attempt held
+  pub record LockMissed (attempt : Open) (word : ℕ) (lock : Lock) (locked : Bool) (how : Outcome) : Type 0 where
+    pub missed : IsMissed attempt.state word lock locked
+    pub took : Took before.log.locks attempt
     pub log : Ends attempt how
 
   -- the number is one more than the client's last and its last from now on; the write set is listed

@@ -14,7 +14,8 @@ ghost use Rattle.nam_protocol.specs.ListsLaw.{ListsLaw};
 /// are listed as their answers say.
 ///
 /// What this needs of a client, that it carries what its call has found, holds of each new client and is kept by each
-/// word, each call that may be asked, by giving up and by a stop; so it holds of the client of each session that occurs.
+/// word, each call that may be asked, by giving up and by a stop. So it holds of the client of each session that
+/// occurs.
 pub fn answers_tell()
     ensures carries { CarriesLaw }
     ensures sessions { SessionCarriesLaw }
@@ -29,10 +30,11 @@ pub fn session_keeps()
 {}
 
 /// Which calls are asked in an attempt: the begin of that try of the transaction, then its operations one after
-/// another, then the commit. Whatever the answers are, what a driver asks until its attempt is over is a front of these.
+/// another, then the commit. Whatever the answers are, what a driver asks until its attempt is over is a front of
+/// these.
 ///
-/// In each session that occurs the call that runs is the one that the driver asks. A transaction is open exactly for its
-/// operations and its commit, it is the driver's try of the job, and it counts the operations that were asked.
+/// In each session that occurs the call that runs is the one that the driver asks. A transaction is open exactly for
+/// its operations and its commit, it is the driver's try of the job, and it counts the operations that were asked.
 pub fn attempts_asked()
     ensures driver { DriverAsksLaw }
     ensures session { SessionAsksLaw }

@@ -10,9 +10,10 @@ pub fn step_law()
     ensures { StepLaw }
 {}
 
-/// What a call of a transaction has read is at hand only while that call runs. A client at rest, or in another call, has
-/// nothing of it at hand: a new one, and from then on after each call that it is asked at rest and each word that it
-/// takes, and when it has given its transaction up or was cut off.
+/// What a call of a transaction has read is at hand only while that call runs.
+///
+/// A client at rest, or in another call, has nothing of it at hand: a new one, and from then on after each call that it
+/// is asked at rest and each word that it takes, and when it has given its transaction up or was cut off.
 pub fn unread_law()
     ensures { UnreadLaw }
 {}

@@ -7,7 +7,8 @@
 //! attempt takes no more than the sum of these, that each verb is at the field of the layout that its place names, what
 //! each field has at the opening, what a step of the world does to the fields, that clients' and sessions' logs only
 //! grow, that a commit is one straight program, that words stay below 2^64, that sessions settle and each simulated run
-//! reaches its one end, and that the room for jobs suffices.
+//! reaches its one end, that the room for jobs suffices, that each answer follows from what its call has found, and
+//! which calls an attempt asks.
 #![tactic(auto)]
 
 mod client;

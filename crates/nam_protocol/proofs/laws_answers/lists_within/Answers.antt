@@ -1,5 +1,5 @@
-use Rattle.nam_protocol.proofs.ListsClient.{Listed}
+use Rattle.nam_protocol.proofs.ListsSession.{lists_within}
 use Rattle.nam_protocol.proofs.laws_answers.lists_within.Goals as goal
 
 pub returns : goal.returns
-returns c = ?
+returns c = lists_within

@@ -50,7 +50,8 @@ use Rattle.nam_protocol.specs.Client.{client_after, client_verb}
 use Rattle.nam_protocol.specs.Driver.{new_driver, call_of, op_call, key_number, place_call, job_call}
 use Rattle.nam_protocol.specs.Driver.{driver_take}
 use Rattle.nam_protocol.specs.Session.{answer_now, calls_at_most, taken, settle, new_session, session_verb}
-use Rattle.nam_protocol.specs.Session.{verb_by, after_by, call_taken, session_after, has_medic, treated}
+use Rattle.nam_protocol.specs.Commit.{has_intents}
+use Rattle.nam_protocol.specs.Session.{verb_by, after_by, call_taken, session_after, treated}
 use Rattle.nam_protocol.specs.Bound.{op_bound}
 use Rattle.nam_protocol.specs.Left.{left_of, client_left, commit_bound, try_bound, jobs_bound, after_call_bound}
 use Rattle.nam_protocol.specs.Left.{rest_bound, left_by, medic_room, session_left}
@@ -320,15 +321,15 @@ module _ (shape : Shape) where
   no_medic : (client : ClientState) → IsUncut client → MedicStands shape client.medic
   no_medic client uncut = subst (MedicStands shape) (sym uncut.1) tt
 
-  not_treated : (client : ClientState) → IsUncut client → is_some client.medic ≡ (client.cut && has_medic shape.form)
+  not_treated : (client : ClientState) → IsUncut client → is_some client.medic ≡ (client.cut && has_intents shape.form)
   not_treated client uncut =
       ap (λ (medic : Option (Now MedicPoint Finish)). is_some medic) uncut.1
-      ∙ sym (ap (λ cut. cut && has_medic shape.form) uncut.0)
+      ∙ sym (ap (λ cut. cut && has_intents shape.form) uncut.0)
 
   pub uncut_of : (session : SessionState) → SessionFits shape session → session.client.cut ≡ false
       → IsUncut session.client
   uncut_of session fits uncut =
-      (uncut, none_at session.client.medic (fits.treats ∙ ap (λ cut. cut && has_medic shape.form) uncut))
+      (uncut, none_at session.client.medic (fits.treats ∙ ap (λ cut. cut && has_intents shape.form) uncut))
 
   abbrev next_calls : SessionState → ℕ
   next_calls session =
@@ -588,7 +589,7 @@ module _ (shape : Shape) where
     -- 8. The word is the medic's
 
     pub treated_fits : (session : SessionState) (medic : Now MedicPoint Finish) → SessionFits shape session
-        → MedicStands shape (Some medic) → (session.client.cut && has_medic shape.form) ≡ true
+        → MedicStands shape (Some medic) → (session.client.cut && has_intents shape.form) ≡ true
         → SessionFits shape (treated session medic)
     treated_fits session medic fits stands is = record {
       client = fits.client;

@@ -28,7 +28,8 @@ use Rattle.nam_protocol.specs.Client.{client_verb}
 use Rattle.nam_protocol.specs.CutClient.{finish_of}
 use Rattle.nam_protocol.specs.Driver.{job_call, driver_next}
 use Rattle.nam_protocol.specs.Session.{session_verb}
-use Rattle.nam_protocol.specs.Session.{verb_by, jobs_over, has_medic, treated}
+use Rattle.nam_protocol.specs.Commit.{has_intents}
+use Rattle.nam_protocol.specs.Session.{verb_by, jobs_over, treated}
 use Rattle.nam_protocol.specs.Session.{stopped, cut_in}
 use Rattle.nam_protocol.specs.Left.{client_left}
 use Rattle.nam_protocol.specs.Left.{rest_bound, left_by, medic_room, session_left}
@@ -89,11 +90,11 @@ module _ (shape : Shape) (session : SessionState) (fits : SessionFits shape sess
 
 pub sessions_settle : SettlesLaw
 sessions_settle shape session fits =
-    settled_by shape session fits session.client.cut (has_medic shape.form) session.client.medic refl fits.treats
+    settled_by shape session fits session.client.cut (has_intents shape.form) session.client.medic refl fits.treats
 
 -- 2. A session is stopped
 
-held_of : (form : Form) → has_medic form ≡ true → form ≡ Held
+held_of : (form : Form) → has_intents form ≡ true → form ≡ Held
 held_of Held e = refl
 held_of Narrow e = absurd (false≢true e)
 held_of Wide e = absurd (false≢true e)
@@ -110,7 +111,7 @@ and_false : (a b : Bool) → b ≡ false → (a && b) ≡ false
 and_false true b e = e
 and_false false b e = refl
 
-no_room : (form : Form) → has_medic form ≡ false → medic_room form ≡ 0
+no_room : (form : Form) → has_intents form ≡ false → medic_room form ≡ 0
 no_room Held e = absurd (false≢true (sym e))
 no_room Narrow e = refl
 no_room Wide e = refl
@@ -134,10 +135,10 @@ module _ (shape : Shape) (limits : FitsLimits shape) (session : SessionState) (f
     within : session_left shape s ≤ session_left shape session
     falls : session.client.cut ≡ false → IsSome (session_verb shape session)
         → session_left shape s < session_left shape session
-    rests : has_medic shape.form ≡ false → (session_left shape s ≡ 0) × (session_verb shape s ≡ None)
+    rests : has_intents shape.form ≡ false → (session_left shape s ≡ 0) × (session_verb shape s ≡ None)
 
   -- it had ended, or was cut before
-  cut_rests : jobs_over session ≡ true → IsUncut session.client → has_medic shape.form ≡ false
+  cut_rests : jobs_over session ≡ true → IsUncut session.client → has_intents shape.form ≡ false
       → (session_left shape session ≡ 0) × (session_verb shape session ≡ None)
   cut_rests over uncut none =
       let r = ended_rests over in
@@ -146,7 +147,7 @@ module _ (shape : Shape) (limits : FitsLimits shape) (session : SessionState) (f
       (omega arith, ap (λ medic. verb_by shape session medic) uncut.1 ∙ ended_verb over)
 
   none_rests : (cut : Bool) → session.client.cut ≡ cut → (jobs_over session || cut) ≡ true
-      → has_medic shape.form ≡ false → (session_left shape session ≡ 0) × (session_verb shape session ≡ None)
+      → has_intents shape.form ≡ false → (session_left shape session ≡ 0) × (session_verb shape session ≡ None)
   none_rests false e is none =
       cut_rests (either_true (jobs_over session) false is refl) (uncut_of shape session fits e) none
   none_rests true e is none =
@@ -187,7 +188,7 @@ module _ (shape : Shape) (limits : FitsLimits shape) (session : SessionState) (f
       ∙ ap (λ (c : Bool). if c then 0 else client_left shape session.client
       + rest_bound shape session.driver (drop session.driver.job session.jobs) + medic_room shape.form) uncut.0
 
-  stopped_fits : (held : Bool) → has_medic shape.form ≡ held → IsUncut session.client
+  stopped_fits : (held : Bool) → has_intents shape.form ≡ held → IsUncut session.client
       → Stops (if held then treated (stopped session) (At medic_begin) else stopped session)
   stopped_fits true held uncut =
       let b = begins_law shape in
@@ -231,6 +232,6 @@ pub session_cut_ends : SessionCutLaw
 session_cut_ends shape limits session fits =
     let s = by_test (Stops shape limits session fits) (jobs_over session || session.client.cut) session
     (cut_in shape.form session) (unstopped shape limits session fits)
-    (λ e. stopped_fits shape limits session fits (has_medic shape.form) refl
+    (λ e. stopped_fits shape limits session fits (has_intents shape.form) refl
     (uncut_of shape session fits (either_false (jobs_over session) session.client.cut e))) in
     record { fits = s.stands; within = s.within; falls = s.falls; rests = s.rests }

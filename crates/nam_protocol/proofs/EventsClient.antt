@@ -33,7 +33,7 @@ use Rattle.nam_protocol.specs.Txn.{Stepped}
 use Rattle.nam_protocol.specs.declared.txn.TxnCall.{TxnCall}
 use Rattle.nam_protocol.specs.declared.txn.TxnPoint.{TxnPoint}
 use Rattle.nam_protocol.specs.declared.txn.TxnPoint.TheVariants.{Committing}
-use Rattle.nam_protocol.specs.declared.txn.CommitPoint.TheVariants.{Freeing}
+use Rattle.nam_protocol.specs.declared.txn.CommitPoint.TheVariants.{Freeing, Ending}
 use Rattle.nam_protocol.specs.declared.txn.TxnAnswer.{TxnAnswer}
 use Rattle.nam_protocol.specs.declared.scan.ScanPoint.{ScanPoint}
 use Rattle.nam_protocol.specs.declared.scan.ScanAnswer.{ScanAnswer}
@@ -257,6 +257,7 @@ one_more events a = one_event (length events) events a (omega arith)
 cut_in_txn_lists : (client : ClientState) (attempt : Open) (at : TxnPoint)
     → length (cut_in_txn client attempt at).log.events ≤ length client.log.events + 2
 cut_in_txn_lists client attempt (Committing (Freeing nth)) = two_events client.log.events _ _
+cut_in_txn_lists client attempt (Committing Ending) = two_events client.log.events _ _
 cut_in_txn_lists client attempt at = up_to_two client.log.events _
 
 cut_open_lists : (client : ClientState) (at : TxnPoint) (opened : Option Open)

@@ -28,7 +28,8 @@ use Rattle.nam_protocol.specs.ClientFits.{ClientFits}
 use Rattle.nam_protocol.specs.Driver.{job_call, new_driver, place_call}
 use Rattle.nam_protocol.specs.EventsLaw.{IsReached, by_cut, by_word, is_new}
 use Rattle.nam_protocol.specs.Session.{answer_now, calls_at_most, call_taken, treated, new_session, session_after}
-use Rattle.nam_protocol.specs.Session.{session_cut, session_verb, settle, taken, jobs_over, has_medic, stopped, cut_in}
+use Rattle.nam_protocol.specs.Commit.{has_intents}
+use Rattle.nam_protocol.specs.Session.{session_cut, session_verb, settle, taken, jobs_over, stopped, cut_in}
 use Rattle.nam_protocol.specs.SessionFits.{DriverFits, JobFits, SessionFits, ops_of}
 use Rattle.nam_protocol.specs.Telling.{new_client}
 use Rattle.nam_protocol.proofs.EndsDriver.{AsksFrom, calls_from}
@@ -153,7 +154,7 @@ module _ (shape : Shape) (limits : FitsLimits shape) (P : SessionState → Type 
   cut_kept session p =
       let stop = keeps.cut session p in
       either P (jobs_over session || session.client.cut) session (cut_in shape.form session) p
-      (either P (has_medic shape.form) (treated (stopped session) (At medic_begin)) (stopped session)
+      (either P (has_intents shape.form) (treated (stopped session) (At medic_begin)) (stopped session)
       (keeps.treated (stopped session) (At medic_begin) stop) stop)
 
   -- 3. The sessions that occur

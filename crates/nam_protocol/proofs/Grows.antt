@@ -30,7 +30,7 @@ use Rattle.nam_protocol.specs.Txn.{Stepped}
 use Rattle.nam_protocol.specs.declared.txn.TxnCall.{TxnCall}
 use Rattle.nam_protocol.specs.declared.txn.TxnPoint.{TxnPoint}
 use Rattle.nam_protocol.specs.declared.txn.TxnPoint.TheVariants.{Committing}
-use Rattle.nam_protocol.specs.declared.txn.CommitPoint.TheVariants.{Freeing}
+use Rattle.nam_protocol.specs.declared.txn.CommitPoint.TheVariants.{Freeing, Ending}
 use Rattle.nam_protocol.specs.declared.txn.TxnAnswer.{TxnAnswer}
 use Rattle.nam_protocol.specs.declared.scan.ScanPoint.{ScanPoint}
 use Rattle.nam_protocol.specs.declared.scan.ScanAnswer.{ScanAnswer}
@@ -325,6 +325,7 @@ tail_cut_grows client attempt =
 cut_in_txn_grows : (client : ClientState) (attempt : Open) (at : TxnPoint)
     → Grows client.log (cut_in_txn client attempt at).log
 cut_in_txn_grows client attempt (Committing (Freeing nth)) = tail_cut_grows client attempt
+cut_in_txn_grows client attempt (Committing Ending) = tail_cut_grows client attempt
 cut_in_txn_grows client attempt at = event_grows client.log _
 
 cut_open_grows : (client : ClientState) (at : TxnPoint) (txn : Option Open)

@@ -16,7 +16,8 @@ use Rattle.nam_protocol.specs.declared.session.SessionState.{SessionState}
 use Rattle.nam_protocol.specs.Client.{client_ask, client_after}
 use Rattle.nam_protocol.specs.Driver.{driver_next}
 use Rattle.nam_protocol.specs.Session.{answer_now, calls_at_most, taken, settle, call_taken, after_by, treated}
-use Rattle.nam_protocol.specs.Session.{jobs_over, has_medic, stopped, cut_in, session_cut}
+use Rattle.nam_protocol.specs.Commit.{has_intents}
+use Rattle.nam_protocol.specs.Session.{jobs_over, stopped, cut_in, session_cut}
 use Rattle.nam_protocol.specs.Grows.{Grows, SessionLogsGrow}
 use Rattle.nam_protocol.proofs.Grows.{grows_same, grows_trans, ask_grows, word_grows}
 
@@ -72,7 +73,7 @@ module _ (shape : Shape) where
   session_cut_is session =
       either (λ (s : SessionState). s.client.log ≡ session.client.log) (jobs_over session || session.client.cut) session
       (cut_in shape.form session) refl
-      (either (λ (s : SessionState). s.client.log ≡ session.client.log) (has_medic shape.form)
+      (either (λ (s : SessionState). s.client.log ≡ session.client.log) (has_intents shape.form)
       (treated (stopped session) (At medic_begin)) (stopped session) refl refl)
 
   pub session_logs_grow : SessionLogsGrow shape

@@ -34,7 +34,8 @@ use Rattle.nam_protocol.specs.Client.{client_after, client_ask}
 use Rattle.nam_protocol.specs.Driver.{call_of, driver_next, job_call, new_driver, op_call, place_call}
 use Rattle.nam_protocol.specs.HoldsWords.{CallHolds, JobHolds, SessionHolds, TreatmentHolds, WorldHolds, HoldsWords}
 use Rattle.nam_protocol.specs.Session.{answer_now, call_taken, after_by, verb_by, session_after, session_verb, settle, taken}
-use Rattle.nam_protocol.specs.Session.{calls_at_most, treated, jobs_over, has_medic, stopped, cut_in, session_cut}
+use Rattle.nam_protocol.specs.Commit.{has_intents}
+use Rattle.nam_protocol.specs.Session.{calls_at_most, treated, jobs_over, stopped, cut_in, session_cut}
 use Rattle.nam_protocol.specs.SessionFits.{MedicStands}
 use Rattle.nam_protocol.specs.WordsLaw.{SessionKeepsWords, WorkerFits, WorldKeepsLaw}
 use Rattle.nam_protocol.specs.World.{Step, Cut, World, session_of, step_by, step_of, cut_of}
@@ -131,7 +132,7 @@ module _ (shape : Shape) where
   session_cut_holds session h =
       let stop : Holds (stopped session) = (cut_holds shape session.client h.0, h.1, h.2) in
       either Holds (jobs_over session || session.client.cut) session (cut_in shape.form session) h
-      (either Holds (has_medic shape.form) (treated (stopped session) (At medic_begin)) (stopped session)
+      (either Holds (has_intents shape.form) (treated (stopped session) (At medic_begin)) (stopped session)
       (treated_holds (stopped session) (At medic_begin) stop tt) stop)
 
   pub session_keeps : SessionKeepsWords shape

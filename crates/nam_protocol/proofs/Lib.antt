@@ -11,6 +11,7 @@ mod RareExample
 mod PolicyExample
 mod ClientExample
 mod BoundsExample
+mod HeldExample
 mod AnswersExample
 mod WorldExample
 mod MedicExample

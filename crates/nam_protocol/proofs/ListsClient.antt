@@ -37,13 +37,14 @@ use Rattle.nam_protocol.specs.Client.{ask_scan, ask_txn, call_after, client_ask,
 use Rattle.nam_protocol.specs.Client.{with_call}
 use Rattle.nam_protocol.specs.ClientEvents.{is_open_after}
 use Rattle.nam_protocol.specs.ClientFits.{CallFits, CallPointFits, OpenPointFits}
-use Rattle.nam_protocol.specs.CutClient.{closed_call, cut_in_txn, cut_move, cut_open, left_open, has_committed}
+use Rattle.nam_protocol.specs.CutClient.{closed_call, cut_in_txn, cut_tail, cut_move, cut_open, left_open}
+use Rattle.nam_protocol.specs.CutClient.{has_committed}
 use Rattle.nam_protocol.specs.CutClient.{finished_in_txn, finished_call, closed_client}
 use Rattle.si_model.specs.declared.log.Finish.{Finish}
 use Rattle.si_model.specs.declared.log.Event.TheVariants.{Finished}
 use Rattle.si_model.specs.declared.log.Outcome.TheVariants as outcome
 use Rattle.nam_calls.proofs.FallsTests.{either}
-use Rattle.nam_protocol.specs.declared.txn.CommitPoint.TheVariants.{Freeing}
+use Rattle.nam_protocol.specs.declared.txn.CommitPoint.TheVariants.{Freeing, Ending}
 use Rattle.nam_layout.specs.Place.{bucket_of, place_of}
 use Rattle.nam_calls.specs.Mover.{move_claimed}
 use Rattle.si_model.specs.declared.log.Stamp.{Stamp}
@@ -199,8 +200,8 @@ module _ (shape : Shape) (word keys : ℕ) (before after : ClientState) where
       → CommitTells shape word before after attempt at end → Lists 0 (ended keys true (has_passed end)) 0
   commit_lists attempt at few (txn_answer.Committed number) told =
       writes_more 0 keys 0 before.log after.log _ attempt.state.writes few told.log
-  commit_lists attempt at few (txn_answer.Locked lock) told = event_more 0 keys 0 before.log after.log _ told.log
-  commit_lists attempt at few (txn_answer.Newer lock) told = event_more 0 keys 0 before.log after.log _ told.log
+  commit_lists attempt at few (txn_answer.Locked lock) told = event_more 0 keys 0 before.log after.log _ told.2.log
+  commit_lists attempt at few (txn_answer.Newer lock) told = event_more 0 keys 0 before.log after.log _ told.2.log
   commit_lists attempt at few (txn_answer.Full lock) told = event_more 0 keys 0 before.log after.log _ told.1
   commit_lists attempt at few _ told = absurd told
 
@@ -560,14 +561,19 @@ module _ (shape : Shape) (keys : ℕ) (client : ClientState) where
   ended_closed now None = no_more _ _ _ client.log client.log refl
   ended_closed now (Some attempt) = event_more _ _ _ client.log _ _ refl
 
-  commit_closed : (attempt : Open) (at : CommitPoint) → length attempt.state.writes ≤ keys
-      → Closed (Some (At (InTxn (Committing at)))) (cut_in_txn client attempt (Committing at))
-  commit_closed attempt (Freeing nth) few = record {
+  tail_closed : (attempt : Open) (at : CommitPoint) → length attempt.state.writes ≤ keys
+      → Closed (Some (At (InTxn (Committing at)))) (cut_tail client attempt)
+  tail_closed attempt at few = record {
     reads = omega arith;
     writes = (let l = length-append client.log.writes attempt.state.writes in omega arith);
     locks = refl;
     snaps = omega arith;
   }
+
+  commit_closed : (attempt : Open) (at : CommitPoint) → length attempt.state.writes ≤ keys
+      → Closed (Some (At (InTxn (Committing at)))) (cut_in_txn client attempt (Committing at))
+  commit_closed attempt (Freeing nth) few = tail_closed attempt (Freeing nth) few
+  commit_closed attempt Ending few = tail_closed attempt Ending few
   commit_closed attempt _ few = event_more _ _ _ client.log _ _ refl
 
   cut_closed : (at : TxnPoint) (opened : Option Open) → WritesWithin keys opened (InTxn at)

@@ -39,6 +39,7 @@ use Rattle.nam_protocol.specs.TxnFits.{CommitFits, CommitPointFits}
 use Rattle.nam_calls.specs.declared.lock.LockPoint.TheVariants.{GiveBack, Peek, Seize}
 use Rattle.nam_protocol.specs.declared.txn.CommitPoint.TheVariants.{Checking, Copying, Freeing, Installing, Locking}
 use Rattle.nam_protocol.specs.declared.txn.CommitPoint.TheVariants.{Publishing, Returning, Saving}
+use Rattle.nam_protocol.specs.declared.txn.CommitPoint.TheVariants.{Listing, Counting, Deciding, Clearing, Ending}
 use Rattle.nam_protocol.proofs.FallsAttempt.{guards_as_asked}
 use Rattle.nam_protocol.proofs.ListsClient.{WritesWithin, ended, open_locks}
 use Rattle.nam_protocol.proofs.RunsClient.{IsAnswered, NowDoes, take_past}
@@ -92,13 +93,18 @@ taken_within : (shape : Shape) (state : TxnState) (at : CommitPoint) → CommitP
 taken_within shape state (Locking Peek) fits = let l = fits.0 in omega arith
 taken_within shape state (Locking (Seize header)) fits = let l = fits.0 in omega arith
 taken_within shape state (Locking (GiveBack given found)) fits = let l = fits.0.0 in omega arith
+taken_within shape state (Listing at) fits = let l = fits.0 in omega arith
 taken_within shape state (Checking at) fits = let l = fits.0 in omega arith
 taken_within shape state (Returning given full) fits = let l = fits.0 in omega arith
+taken_within shape state (Counting nth) fits = let l = fits.0 in omega arith
+taken_within shape state Deciding fits = let l = fits.0 in omega arith
 taken_within shape state (Saving nth got) fits = let l = fits.0 in omega arith
 taken_within shape state (Copying nth old at) fits = let l = fits.0 in omega arith
 taken_within shape state (Installing nth at) fits = let l = fits.0 in omega arith
 taken_within shape state Publishing fits = let l = fits.0 in omega arith
 taken_within shape state (Freeing nth) fits = let l = fits.0 in omega arith
+taken_within shape state (Clearing refusal) fits = let l = fits.0 in omega arith
+taken_within shape state Ending fits = let l = fits.0 in omega arith
 
 -- a commit runs only after all operations
 all_asked : (ops : List Op) (nth : ℕ) (attempt : Open) (at : CommitPoint) (o : Option Op) → slice_get ops nth ≡ o

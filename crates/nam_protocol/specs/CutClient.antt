@@ -13,7 +13,7 @@ use Rattle.nam_catalog.specs.declared.shape.Shape.{Shape}
 use Rattle.nam_layout.specs.Place.{place_of, bucket_of}
 use Rattle.nam_calls.specs.declared.medic.MedicPoint.{MedicPoint}
 use Rattle.nam_calls.specs.Mover.{move_claimed}
-use Rattle.nam_protocol.specs.declared.txn.CommitPoint.TheVariants.{Freeing}
+use Rattle.nam_protocol.specs.declared.txn.CommitPoint.TheVariants.{Freeing, Ending}
 use Rattle.nam_protocol.specs.declared.txn.TxnPoint.{TxnPoint}
 use Rattle.nam_protocol.specs.declared.txn.TxnPoint.TheVariants.{Committing}
 use Rattle.nam_protocol.specs.declared.client.Answer.{Answer}
@@ -39,10 +39,13 @@ finish_of _ = None
 
 -- 1. The call that was stopped
 
--- a commit that has published is one, though the guards' locks stand
+-- a commit that has published is one, though the guards' locks stand, or the intent
+abbrev pub cut_tail : ClientState → Open → ClientState
+cut_tail client attempt = with_listed (with_commit client attempt (attempt.state.last + 1)) TailCut
+
 abbrev pub cut_in_txn : ClientState → Open → TxnPoint → ClientState
-cut_in_txn client attempt (Committing (Freeing nth)) = with_listed
-    (with_commit client attempt (attempt.state.last + 1)) TailCut
+cut_in_txn client attempt (Committing (Freeing nth)) = cut_tail client attempt
+cut_in_txn client attempt (Committing Ending) = cut_tail client attempt
 cut_in_txn client attempt _ = with_end client attempt outcome.Cut
 
 abbrev pub cut_open : ClientState → TxnPoint → Option Open → ClientState
@@ -83,6 +86,7 @@ has_rolled_on _ = false
 -- a commit is one where it has published or was rolled on
 abbrev pub has_committed : TxnPoint → Finish → Bool
 has_committed (Committing (Freeing nth)) how = true
+has_committed (Committing Ending) how = true
 has_committed (Committing at) how = has_rolled_on how
 has_committed at how = false
 

@@ -12,7 +12,8 @@ use Rattle.nam_calls.specs.Fits.{IsOf}
 use Rattle.nam_protocol.specs.declared.session.Job.{Job}
 use Rattle.nam_protocol.specs.declared.session.SessionState.{SessionState}
 use Rattle.nam_protocol.specs.Telling.{new_client}
-use Rattle.nam_protocol.specs.Session.{new_session, session_verb, session_after, session_cut, has_medic}
+use Rattle.nam_protocol.specs.Commit.{has_intents}
+use Rattle.nam_protocol.specs.Session.{new_session, session_verb, session_after, session_cut}
 use Rattle.nam_protocol.specs.World.{World, Turn, Step, Cut, session_of, is_cut, verb_in, after_turn}
 use Rattle.nam_protocol.specs.Schedule.{Run, Owned, Scenario, Simulated, all_jobs, run_to_end}
 use Rattle.nam_protocol.specs.Left.{jobs_bound, medic_room, session_left}
@@ -48,7 +49,7 @@ pub record StopsSession (shape : Shape) (session : SessionState) : Type 0 where
   pub within : session_left shape (session_cut shape.form session) ≤ session_left shape session
   pub falls : session.client.cut ≡ false → IsSome (session_verb shape session)
       → session_left shape (session_cut shape.form session) < session_left shape session
-  pub rests : has_medic shape.form ≡ false
+  pub rests : has_intents shape.form ≡ false
       → (session_left shape (session_cut shape.form session) ≡ 0)
       × (session_verb shape (session_cut shape.form session) ≡ None)
 

@@ -34,12 +34,13 @@ use Rattle.nam_protocol.specs.declared.session.DriverPoint.TheVariants.{ToBegin,
 use Rattle.nam_protocol.specs.declared.session.DriverState.{DriverState}
 use Rattle.nam_protocol.specs.declared.session.SessionState.{SessionState}
 use Rattle.nam_protocol.specs.Scan.{scan_left}
-use Rattle.nam_protocol.specs.Session.{has_medic}
-use Rattle.nam_protocol.specs.Bound.{txn_left, ops_bound, writes_bound, verb_bound, tidy_bound, collect_bound}
+use Rattle.nam_protocol.specs.Commit.{has_intents}
+use Rattle.nam_protocol.specs.Bound.{txn_left, ops_bound, writes_bound, intent_bound, verb_bound, tidy_bound}
+use Rattle.nam_protocol.specs.Bound.{collect_bound}
 
 -- what a medic may take
 abbrev pub medic_room : Form → ℕ
-medic_room form = if has_medic form then medic_most else 0
+medic_room form = if has_intents form then medic_most else 0
 
 module _ (shape : Shape) where
   -- 1. What is to come of a client's call
@@ -82,7 +83,9 @@ module _ (shape : Shape) where
 
   -- the commit after these operations
   abbrev pub commit_bound : List Op → ℕ
-  commit_bound ops = writes_bound shape (written_keys ops) + 3 * length (guard_keys ops) + 1
+  commit_bound ops =
+      writes_bound shape (written_keys ops) + 3 * length (guard_keys ops) + 1
+      + intent_bound shape (written_keys ops) (length (guard_keys ops))
 
   -- a try, with the tidying of each written key
   abbrev pub try_bound : List Op → ℕ

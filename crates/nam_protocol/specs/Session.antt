@@ -8,7 +8,6 @@ use Rattle.nam_verbs.specs.declared.now.Now.{Now}
 use Rattle.nam_verbs.specs.declared.now.Now.TheVariants.{At, Over}
 use Rattle.nam_verbs.specs.VerbAt.{VerbAt}
 use Rattle.nam_catalog.specs.declared.form.Form.{Form}
-use Rattle.nam_catalog.specs.declared.form.Form.TheVariants.{Held}
 use Rattle.nam_catalog.specs.declared.shape.Shape.{Shape}
 use Rattle.nam_layout.specs.declared.field.Field.{Field}
 use Rattle.nam_calls.specs.declared.medic.MedicPoint.{MedicPoint}
@@ -19,6 +18,7 @@ use Rattle.nam_protocol.specs.declared.client.ClientState.{ClientState}
 use Rattle.nam_protocol.specs.declared.session.Job.{Job}
 use Rattle.nam_protocol.specs.declared.session.SessionState.{SessionState}
 use Rattle.nam_protocol.specs.Client.{client_ask, client_verb, client_after}
+use Rattle.nam_protocol.specs.Commit.{has_intents}
 use Rattle.nam_protocol.specs.CutClient.{client_cut, client_treated, finish_of, into_log}
 use Rattle.nam_protocol.specs.Driver.{new_driver, driver_next, driver_take}
 
@@ -94,16 +94,12 @@ jobs_over session = not (is_some (driver_next session.jobs session.driver))
 abbrev pub has_ended : SessionState → Bool
 has_ended session = if session.client.cut then is_some (finish_of session.client.medic) else jobs_over session
 
--- in form Held a medic finishes each session that is cut
-abbrev pub has_medic : Form → Bool
-has_medic Held = true
-has_medic form = false
-
 abbrev pub stopped : SessionState → SessionState
 stopped session = record session { client = client_cut session.client }
 
+-- in the form that has intents a medic finishes each session that is cut
 abbrev pub cut_in : Form → SessionState → SessionState
-cut_in form session = if has_medic form then treated (stopped session) (At medic_begin) else stopped session
+cut_in form session = if has_intents form then treated (stopped session) (At medic_begin) else stopped session
 
 -- a session that has ended is not cut, nor one that was cut before
 abbrev pub session_cut : Form → SessionState → SessionState

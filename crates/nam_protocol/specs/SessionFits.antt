@@ -24,7 +24,8 @@ use Rattle.nam_protocol.specs.declared.txn.TxnState.{TxnState}
 use Rattle.nam_protocol.specs.declared.txn.TxnPoint.{TxnPoint}
 use Rattle.nam_protocol.specs.declared.txn.TxnPoint.TheVariants.{Committing}
 use Rattle.nam_protocol.specs.declared.txn.CommitPoint.{CommitPoint}
-use Rattle.nam_protocol.specs.declared.txn.CommitPoint.TheVariants.{Returning}
+use Rattle.nam_protocol.specs.declared.txn.CommitPoint.TheVariants.{Returning, Clearing}
+use Rattle.nam_protocol.specs.declared.txn.Refusal.TheVariants as refusal
 use Rattle.nam_protocol.specs.declared.client.Answer.{Answer}
 use Rattle.nam_protocol.specs.declared.client.CallPoint.{CallPoint}
 use Rattle.nam_protocol.specs.declared.client.CallPoint.TheVariants.{Beginning, InTxn, Scanning, Seeking, Moving}
@@ -38,13 +39,15 @@ use Rattle.nam_protocol.specs.declared.session.SessionState.{SessionState}
 use Rattle.nam_protocol.specs.AttemptLaw.{HasAsked, IsOfOp}
 use Rattle.nam_protocol.specs.TxnFits.{IsKeyOf}
 use Rattle.nam_protocol.specs.ClientFits.{ClientFits}
-use Rattle.nam_protocol.specs.Session.{session_verb, has_ended, has_medic}
+use Rattle.nam_protocol.specs.Commit.{has_intents}
+use Rattle.nam_protocol.specs.Session.{session_verb, has_ended}
 
 -- 1. The call that runs
 
 -- where a commit gives its locks back, the record that was full is one that it writes
 abbrev pub FullIsWritten : TxnState → CommitPoint → Type 0
 FullIsWritten state (Returning given full) = writes_key state.writes (lock_key full) ≡ true
+FullIsWritten state (Clearing (refusal.Full full)) = writes_key state.writes (lock_key full) ≡ true
 FullIsWritten state _ = Unit {0}
 
 -- a transaction is open, whose keys are those of these operations
@@ -139,10 +142,10 @@ module _ (shape : Shape) where
     pub runs : NowRuns session.driver.place (ops_of (slice_get session.jobs session.driver.job)) session.client.txn
         session.client.call
     pub medic : MedicStands session.client.medic
-    pub treats : is_some session.client.medic ≡ (session.client.cut && has_medic shape.form)
+    pub treats : is_some session.client.medic ≡ (session.client.cut && has_intents shape.form)
     pub stands : is_running session.client.call ≡ is_some (slice_get session.jobs session.driver.job)
 
   -- a verb is to come exactly where the session has neither ended nor is cut without a medic
   abbrev pub IsSettled : SessionState → Type 0
   IsSettled session = is_some (session_verb shape session)
-      ≡ not (has_ended session || (session.client.cut && not (has_medic shape.form)))
+      ≡ not (has_ended session || (session.client.cut && not (has_intents shape.form)))

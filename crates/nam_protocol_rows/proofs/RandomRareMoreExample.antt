@@ -1,6 +1,6 @@
 -- More random scripts in which rare events come, of a simulator of its own.
 use Rattle.std.proofs.Common.{◌≡◌, true, false, [], ◌∷◌, Some, None, refl}
-use Rattle.nam_catalog.specs.declared.form.Form.TheVariants.{Narrow, Wide, Held}
+use Rattle.nam_catalog.specs.declared.form.Form.TheVariants.{Narrow, Wide}
 use Rattle.si_model.specs.declared.op.Op.TheVariants.{Get, Put, Add, Del, Need, Guard, Scan}
 use Rattle.si_model.specs.declared.log.Outcome.TheVariants.{Commit, ReadOnly, Declined, NoSpace, Again, Locked, Newer}
 use Rattle.si_model.specs.declared.log.Outcome.TheVariants.{Full}
@@ -185,7 +185,7 @@ more_rare_5 = refl
 
 unfoldable of_more_rare_6 : Scenario
 of_more_rare_6 = record {
-  shape = shape Held 2 (table 2 3 1 ∷ []) 1 1 0;
+  shape = shape Narrow 2 (table 2 3 1 ∷ []) 1 1 0;
   rows = loaded 0 1 (5 ∷ 18446744073709551614 ∷ []) ∷ loaded 0 0 (1 ∷ 1 ∷ []) ∷ loaded 0 8 (1 ∷ 5 ∷ []) ∷ [];
   policy = record { tries = 1; tidy = true };
   txns = txn 1 (Add 0 1 2 false 3 ∷ Add 0 8 2 true 1 ∷ Put 0 8 (1 ∷ 0 ∷ []) ∷ Add 0 8 1 false 0 ∷ []) ∷

@@ -50,7 +50,7 @@ scans_1 = refl
 
 unfoldable of_scans_2 : Scenario
 of_scans_2 = record {
-  shape = shape Held 2 (table 1 3 1 ∷ []) 1 1 4294967294;
+  shape = shape Narrow 2 (table 1 3 1 ∷ []) 1 1 4294967294;
   rows = loaded 0 2 (18446744073709551614 ∷ []) ∷ loaded 0 3 (1 ∷ []) ∷ loaded 0 5 (18446744073709551614 ∷ []) ∷ [];
   policy = record { tries = 4; tidy = true };
   txns = txn 2 (Get 0 4 ∷ Add 0 5 1 true 0 ∷ []) ∷ txn 1 (Scan 0 0 5 ∷ Scan 0 0 18446744073709551614 ∷ []) ∷

@@ -405,7 +405,8 @@ module _ (shape : Shape) where
     )
     goes_on client calls later fits uncut (Some (Over end)) e does few =
         let g = answer_taken client end does in
-        let s = later (taken session client end) (taken_ready client end fits uncut e does) (let f = g.few in omega arith) in
+        let s = later (taken session client end) (taken_ready client end fits uncut e does)
+        (let f = g.few in omega arith) in
         let same = ap (rest_bound shape session.driver) (drop_from session.jobs session.driver.job job here) in
         (s.0, let l = s.1 in let m = g.left in omega arith)
 
@@ -467,8 +468,8 @@ module _ (shape : Shape) where
         let client = client_ask shape session.client (place_call job driver.nth driver.place) in
         let uncut = still_uncut session.client client
         (asked_stays shape session.client (place_call job driver.nth driver.place)) ready.uncut in
-        let g = goes_on session ready.jobs ready.driver job here client calls later a.stands uncut client.call refl a.does
-        a.few in
+        let g = goes_on session ready.jobs ready.driver job here client calls later a.stands uncut client.call refl
+        a.does a.few in
         let d = drop_from session.jobs driver.job job here in
         let same = ap (rest_bound shape driver) d in
         let all = ap (pending shape driver) d in
@@ -502,7 +503,8 @@ module _ (shape : Shape) where
         → start ≤ greatest_number shape.form
         → AllByRecursion (JobFits shape) jobs
         → 1 ≤ policy.tries
-        → FitsWithin shape (jobs_bound shape policy jobs + room) (new_session shape (new_client worker start) jobs policy)
+        → FitsWithin shape (jobs_bound shape policy jobs + room)
+        (new_session shape (new_client worker start) jobs policy)
     new_session_ends worker start jobs policy is number fit least =
         let session : SessionState =
         record { client = new_client worker start; driver = new_driver policy; jobs = jobs } in
@@ -583,7 +585,8 @@ module _ (shape : Shape) where
         let left : left_by shape session None ≡ client_left shape session.client
         + rest_bound shape driver (drop driver.job session.jobs) + room =
         ap (λ (cut : Bool). if cut then 0
-        else client_left shape session.client + rest_bound shape driver (drop driver.job session.jobs) + room) t.uncut.0 in
+        else client_left shape session.client + rest_bound shape driver (drop driver.job session.jobs) + room)
+        t.uncut.0 in
         (g.0, let l = g.1 in let m = t.falls.1 in omega arith)
 
     -- 8. The word is the medic's

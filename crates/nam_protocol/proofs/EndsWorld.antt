@@ -18,7 +18,8 @@ use Rattle.nam_protocol.specs.declared.session.Job.{Job}
 use Rattle.nam_protocol.specs.declared.session.SessionState.{SessionState}
 use Rattle.nam_protocol.specs.Session.{session_verb, session_after, session_cut}
 use Rattle.nam_protocol.specs.World.{World, Turn, Step, Cut, session_of, with_session, verb_in}
-use Rattle.nam_protocol.specs.World.{step_by, step_of, step, cut_of, cut, after_turn, is_cut, new_sessions, HasNoVerb, HasEnded}
+use Rattle.nam_protocol.specs.World.{step_by, step_of, step, cut_of, cut, after_turn, is_cut, new_sessions, HasNoVerb}
+use Rattle.nam_protocol.specs.World.{HasEnded}
 use Rattle.nam_protocol.specs.Schedule.{Run, Owned, Simulated, numbers_from, line_of, turn_by, turn_on, turn_of}
 use Rattle.nam_protocol.specs.Schedule.{after_workers, after_round, after_rounds, scheduled, jobs_of, all_jobs, opened}
 use Rattle.nam_protocol.specs.Schedule.{is_live, until_ended, run_to_end}
@@ -54,7 +55,8 @@ module _ (shape : Shape) where
 
   -- 2. A turn
 
-  -- a world follows another: it has as many sessions, which fit, and no more verbs to come; it has fewer where it turned
+  -- a world follows another: it has as many sessions, which fit, and no more verbs to come; it has fewer where it
+  -- turned
   record Follows (Turned : Type 0) (before after : World) : Type 0 where
     fits : WorldFits shape after
     many : length after.sessions ≡ length before.sessions
@@ -161,8 +163,9 @@ module _ (shape : Shape) (limits : FitsLimits shape) where
       let uncut = uncut_asks (is_cut session) (slice_get run.lines (worker - 1)) line e in
       either (Follows shape (HasVerb shape (verb_at run worker)) run.world) (refuses_next line)
       (cut shape run.world worker) (step shape run.world worker)
-      (follows_if shape (HasVerb shape (verb_at run worker)) (HasVerb shape (verb_at run worker) × (is_cut session ≡ false))
-      run.world (cut shape run.world worker) (λ some. (some, uncut))
+      (follows_if shape (HasVerb shape (verb_at run worker))
+      (HasVerb shape (verb_at run worker) × (is_cut session ≡ false)) run.world (cut shape run.world worker)
+      (λ some. (some, uncut))
       (cut_follows shape limits run.world fits worker session refl))
       (step_follows shape limits run.world fits worker session refl)
 

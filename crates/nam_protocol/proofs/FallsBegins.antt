@@ -1,5 +1,6 @@
 -- How many verbs a commit begins with, and what each call of a transaction begins with.
-use Rattle.std.proofs.Common.{◌≡◌, ◌+◌, ◌-◌, ◌*◌, ◌<◌, ◌≤◌, List, [], ◌∷◌, ◌++◌, length, take, refl, sym, ◌∙◌, ap, arith, true}
+use Rattle.std.proofs.Common.{◌≡◌, ◌+◌, ◌-◌, ◌*◌, ◌<◌, ◌≤◌, List, [], ◌∷◌, ◌++◌, length, take, refl, sym, ◌∙◌, ap}
+use Rattle.std.proofs.Common.{arith, true}
 use Rattle.std.proofs.Common.{None}
 use Rattle.std.specs.Prelude.{◌==◌, if◌then◌else◌, map, Bool, false, ℕ}
 use Rattle.std.specs.List.{AllByRecursion}
@@ -28,11 +29,14 @@ use Rattle.nam_protocol.specs.declared.txn.TxnPoint.TheVariants.{Committing}
 use Rattle.nam_protocol.specs.declared.txn.CommitPoint.TheVariants.{Listing, Locking}
 use Rattle.nam_protocol.specs.declared.txn.TxnAnswer.TheVariants.{ReadOnly, Spent}
 use Rattle.nam_protocol.specs.Txn.{at, over}
-use Rattle.nam_protocol.specs.Commit.{record_in, records_of, ask_commit, commit_begin, committing, list_begin, places, tells_intent}
+use Rattle.nam_protocol.specs.Commit.{record_in, records_of, ask_commit, commit_begin, committing, list_begin, places}
+use Rattle.nam_protocol.specs.Commit.{tells_intent}
 use Rattle.nam_protocol.specs.Commit.{has_intents}
 use Rattle.nam_protocol.specs.TxnCalls.{txn_ask}
-use Rattle.nam_protocol.specs.Bound.{installs_most, writes_bound, values_bound, intent_bound, commit_left, listed_from, listed_most, of_intent}
-use Rattle.nam_protocol.specs.TxnFits.{is_claimed, IsPlaced, StateFits, CommitPointFits, TxnCallFits, TxnBegins, commit_bound}
+use Rattle.nam_protocol.specs.Bound.{installs_most, writes_bound, values_bound, intent_bound, commit_left, listed_from}
+use Rattle.nam_protocol.specs.Bound.{listed_most, of_intent}
+use Rattle.nam_protocol.specs.TxnFits.{is_claimed, IsPlaced, StateFits, CommitPointFits, TxnCallFits, TxnBegins}
+use Rattle.nam_protocol.specs.TxnFits.{commit_bound}
 use Rattle.nam_protocol.specs.TxnFits.{txn_call_bound}
 use Rattle.nam_protocol.proofs.FallsKeys.{record_placed, records_length, tells_by_form}
 use Rattle.nam_protocol.proofs.FallsTxn.{op_begins}

@@ -34,7 +34,8 @@ use Rattle.nam_protocol.specs.declared.txn.Record.{Record}
 use Rattle.nam_protocol.specs.declared.txn.TxnState.{TxnState}
 use Rattle.nam_protocol.specs.Operations.{holding, own_value}
 use Rattle.nam_protocol.specs.Txn.{with_claim}
-use Rattle.nam_protocol.specs.Commit.{has_intents, tells_intent, record_in, commit_keys, records_of, places, record_place, no_record, record_at}
+use Rattle.nam_protocol.specs.Commit.{has_intents, tells_intent, record_in, commit_keys, records_of, places}
+use Rattle.nam_protocol.specs.Commit.{record_place, no_record, record_at}
 use Rattle.nam_protocol.specs.TxnFits.{is_claimed, is_used, IsPlaced, KeysFit, StateFits, OpStands}
 use Rattle.nam_protocol.proofs.KeyLemmas.{AreOnce, guarded_once, map_wrote, claimed_keys, map_claimed, claims_within}
 use Rattle.nam_protocol.proofs.KeyLemmas.{used_after, used_kept, used_now, all_filter}

@@ -1,5 +1,6 @@
 -- Each verb is at a field of the shape.
-use Rattle.std.proofs.Common.{true, ◌+◌, ◌*◌, ◌≤◌, ap, ◌≡◌, ℕ, ◌<◌, List, Option, Some, None, length, refl, sym, ◌∙◌, subst, arith}
+use Rattle.std.proofs.Common.{true, ◌+◌, ◌*◌, ◌≤◌, ap, ◌≡◌, ℕ, ◌<◌, List, Option, Some, None, length, refl, sym, ◌∙◌}
+use Rattle.std.proofs.Common.{subst, arith}
 use Rattle.std.specs.Prelude.{slice_index}
 use Rattle.std.proofs.lemmas.Bool.{false≢true}
 use Rattle.std.proofs.lemmas.Option.{none-some, same_Some}
@@ -72,7 +73,8 @@ use Rattle.nam_protocol.specs.TxnFits.{StateFits, CommitFits, TxnPointFits, Scan
 use Rattle.nam_protocol.specs.ClientFits.{OpenFits, OpenPointFits, CallPointFits, NowFits, ClientFits}
 use Rattle.nam_protocol.specs.FieldLaw.{IsAtField, IsRowPlace, TableFieldsLaw, CommitFieldsLaw, TxnFieldsLaw}
 use Rattle.nam_protocol.specs.FieldLaw.{CallFieldsLaw, ClientFieldsLaw, WithinLaw}
-use Rattle.nam_protocol.proofs.FallsKeys.{place_of_nth, op_table, writes_within, record_is_placed, nth_fits, tells_by_form}
+use Rattle.nam_protocol.proofs.FallsKeys.{place_of_nth, op_table, writes_within, record_is_placed, nth_fits}
+use Rattle.nam_protocol.proofs.FallsKeys.{tells_by_form}
 use Rattle.nam_protocol.proofs.FewLemmas.{few_keys}
 use Rattle.nam_protocol.specs.declared.txn.Record.{Record}
 

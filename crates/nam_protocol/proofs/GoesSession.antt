@@ -87,7 +87,8 @@ module _ (shape : Shape) (limits : FitsLimits shape) (P : SessionState → Type 
   goes_on session jobs driver job client s calls later uncut None e does p = absurd does
   goes_on session jobs driver job client s calls later uncut (Some (At at)) e does p = p
   goes_on session jobs driver job client s calls later uncut (Some (Over end)) e does p =
-      later (taken session client end) (taken_ready shape session jobs driver job s.here client end s.fits uncut e does) p
+      later (taken session client end)
+      (taken_ready shape session jobs driver job s.here client end s.fits uncut e does) p
 
   next_kept : (calls : ℕ) (session : SessionState) → IsReady shape session → P session
       → KeepsAsked calls → (o : Option Job) → slice_get session.jobs session.driver.job ≡ o
@@ -141,7 +142,8 @@ module _ (shape : Shape) (limits : FitsLimits shape) (P : SessionState → Type 
             (word_lists n shape session.client (omega arith) t.at found t.place);
       } in
       goes_on session fits.jobs fits.driver t.job client s (calls_at_most session.jobs)
-      (settle_kept (calls_at_most session.jobs)) (still_uncut session.client client (word_stays shape session.client found) t.uncut)
+      (settle_kept (calls_at_most session.jobs))
+      (still_uncut session.client client (word_stays shape session.client found) t.uncut)
       client.call refl t.does (keeps.word session t.at found t.job fits t.uncut.0 t.is p s)
 
   pub word_kept : (session : SessionState) (verb : VerbAt Field) (found : ℕ) → SessionFits shape session

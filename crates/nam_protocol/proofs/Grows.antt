@@ -46,7 +46,8 @@ use Rattle.nam_protocol.specs.Operations.{own_value}
 use Rattle.nam_protocol.specs.TxnCalls.{taken_now}
 use Rattle.nam_protocol.specs.Scan.{scan_skip, scan_read}
 use Rattle.nam_protocol.specs.Log.{with_event, with_reads, with_locks, with_writes, with_snap}
-use Rattle.nam_protocol.specs.Telling.{read_ended, items_of, new_locks, with_commit, on_answer, on_call, stepped, with_end}
+use Rattle.nam_protocol.specs.Telling.{read_ended, items_of, new_locks, with_commit, on_answer, on_call, stepped}
+use Rattle.nam_protocol.specs.Telling.{with_end}
 use Rattle.nam_protocol.specs.ScanCall.{with_gathered, on_skip, on_key, on_scan}
 use Rattle.nam_protocol.specs.Client.{with_call, ask_txn, ask_scan, client_ask, on_begin, on_seek, on_move, on_snap}
 use Rattle.nam_protocol.specs.Client.{on_collect, take_txn, take_scan, call_after, after_call, client_after}

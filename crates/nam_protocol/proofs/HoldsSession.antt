@@ -33,7 +33,8 @@ use Rattle.nam_protocol.specs.declared.session.SessionState.{SessionState}
 use Rattle.nam_protocol.specs.Client.{client_after, client_ask}
 use Rattle.nam_protocol.specs.Driver.{call_of, driver_next, job_call, new_driver, op_call, place_call}
 use Rattle.nam_protocol.specs.HoldsWords.{CallHolds, JobHolds, SessionHolds, TreatmentHolds, WorldHolds, HoldsWords}
-use Rattle.nam_protocol.specs.Session.{answer_now, call_taken, after_by, verb_by, session_after, session_verb, settle, taken}
+use Rattle.nam_protocol.specs.Session.{answer_now, call_taken, after_by, verb_by, session_after, session_verb, settle}
+use Rattle.nam_protocol.specs.Session.{taken}
 use Rattle.nam_protocol.specs.Commit.{has_intents}
 use Rattle.nam_protocol.specs.Session.{calls_at_most, treated, jobs_over, stopped, cut_in, session_cut}
 use Rattle.nam_protocol.specs.SessionFits.{MedicStands}
@@ -113,8 +114,10 @@ module _ (shape : Shape) where
 
   treated_holds : (session : SessionState) (medic : Now MedicPoint Finish) → Holds session
       → HoldsNow MedicHolds Any medic → Holds (treated session medic)
-  treated_holds session (At place) h m = (record { last_is = h.0.last_is; opened = h.0.opened; running = h.0.running }, h.1, m)
-  treated_holds session (Over how) h m = (record { last_is = h.0.last_is; opened = h.0.opened; running = h.0.running }, h.1, tt)
+  treated_holds session (At place) h m =
+      (record { last_is = h.0.last_is; opened = h.0.opened; running = h.0.running }, h.1, m)
+  treated_holds session (Over how) h m =
+      (record { last_is = h.0.last_is; opened = h.0.opened; running = h.0.running }, h.1, tt)
 
   session_word : (session : SessionState) (found : ℕ) → Holds session → IsWord found
       → Holds (session_after shape session found)

@@ -56,7 +56,8 @@ use Rattle.nam_protocol.specs.declared.txn.TxnPoint.{TxnPoint}
 use Rattle.nam_protocol.specs.declared.txn.TxnState.{TxnState}
 use Rattle.nam_protocol.specs.Client.{call_verb, open_verb, verb_of}
 use Rattle.nam_protocol.specs.ClientFits.{CallPointFits, ClientFits, NowFits, OpenFits, OpenPointFits}
-use Rattle.nam_protocol.specs.Commit.{commit_verb, kind_at, list_verb, no_item, own_stamp, places, record_place, value_at}
+use Rattle.nam_protocol.specs.Commit.{commit_verb, kind_at, list_verb, no_item, own_stamp, places, record_place}
+use Rattle.nam_protocol.specs.Commit.{value_at}
 use Rattle.nam_protocol.specs.FieldLaw.{IsRowPlace}
 use Rattle.nam_protocol.specs.HoldsWords.{CallPlaceHolds, CommitPlaceHolds, ItemHolds, OpHolds, OpenHolds, HoldsWords}
 use Rattle.nam_protocol.specs.HoldsWords.{OpenPlaceHolds, RunHolds, StateHolds, TxnPlaceHolds}

@@ -50,7 +50,8 @@ use Rattle.nam_protocol.proofs.ListsClient.{collects_snap}
 use Rattle.nam_protocol.proofs.ListsClient.{closing_writes, rests_snap, word_same}
 use Rattle.nam_protocol.proofs.AskedSession.{AsksSo, NowOf, job_is, session_asks}
 use Rattle.nam_protocol.proofs.AnswersOps.{no_locks}
-use Rattle.nam_protocol.proofs.AnswersClient.{treated_carries, answers_tell, asked_carries, cut_carries, new_carries, word_carries}
+use Rattle.nam_protocol.proofs.AnswersClient.{treated_carries, answers_tell, asked_carries, cut_carries, new_carries}
+use Rattle.nam_protocol.proofs.AnswersClient.{word_carries}
 use Rattle.nam_protocol.proofs.EndsSession.{IsReady, nth_holds}
 use Rattle.nam_protocol.proofs.OpensDriver.{asks_after, one, one_at_most}
 use Rattle.nam_protocol.proofs.GoesSession.{NextHolds, SessionKeeps, Steps, reached_kept}
@@ -466,7 +467,8 @@ module _ (shape : Shape) (whole : Room) (keys : ℕ) where
   closing_paid left b (Collecting bucket prefix seen at) opened stands e = omega arith
 
   log_rests : (session : SessionState) (now : Option (Now CallPoint Answer)) → session.client.call ≡ now → Rests now
-      → ListsSo shape whole keys session → ListsWithin whole keys (closed_client shape session.client (finish_of session.client.medic) now).log
+      → ListsSo shape whole keys session
+      → ListsWithin whole keys (closed_client shape session.client (finish_of session.client.medic) now).log
   log_rests session None e rests p =
       let l = log_lists shape keys session.client (finish_of session.client.medic) None tt in
       let m = rests_locks session.client.last session.client.log.locks None session.client.txn rests
@@ -498,7 +500,8 @@ module _ (shape : Shape) (whole : Room) (keys : ℕ) where
   log_runs : (session : SessionState) (place : CallPoint) (job : Job) → SessionFits shape session
       → session.client.call ≡ Some (At place) → slice_get session.jobs session.driver.job ≡ Some job
       → ListsSo shape whole keys session
-      → ListsWithin whole keys (closed_client shape session.client (finish_of session.client.medic) (Some (At place))).log
+      → ListsWithin whole keys
+      (closed_client shape session.client (finish_of session.client.medic) (Some (At place))).log
   log_runs session place job fits e here p =
       let driver = session.driver in
       let r = runs_of session place job fits e here p in

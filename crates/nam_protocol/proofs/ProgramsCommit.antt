@@ -42,12 +42,14 @@ use Rattle.nam_protocol.specs.declared.txn.CommitPoint.TheVariants.{Listing, Cou
 use Rattle.nam_protocol.specs.declared.txn.ListPoint.TheVariants.{ListRow, ListData, ListNumber}
 use Rattle.nam_protocol.specs.declared.txn.Refusal.{Refusal}
 use Rattle.nam_protocol.specs.declared.txn.Refusal.TheVariants as refusal
-use Rattle.nam_protocol.specs.Commit.{checked, commit_begin, committing, ended, kind_at, kind_of, list_kind_after, list_next}
+use Rattle.nam_protocol.specs.Commit.{checked, commit_begin, committing, ended, kind_at, kind_of, list_kind_after}
+use Rattle.nam_protocol.specs.Commit.{list_next}
 use Rattle.nam_protocol.specs.Commit.{on_list, refusal_answer, refused, tells_intent}
 use Rattle.nam_protocol.specs.Commit.{go, places, record_place, value_at, lock_at, records_of, commit_keys, record_in}
 use Rattle.nam_protocol.specs.Commit.{next_check, on_lock, on_slot, on_return, on_words, on_copy, on_install}
 use Rattle.nam_protocol.specs.ProgramCommit.{finish, kind_words, list_records, list_end, locked_records}
-use Rattle.nam_protocol.specs.ProgramCommit.{Checked, AllFree, NotFree, give_all_back, lock_records, check_slots, data_words}
+use Rattle.nam_protocol.specs.ProgramCommit.{Checked, AllFree, NotFree, give_all_back, lock_records, check_slots}
+use Rattle.nam_protocol.specs.ProgramCommit.{data_words}
 use Rattle.nam_protocol.specs.ProgramCommit.{replace_versions, publish, after_check, after_locks, commit_records}
 use Rattle.nam_protocol.specs.ProgramCommit.{txn_stands, txn_takes, CommitIsProgram}
 

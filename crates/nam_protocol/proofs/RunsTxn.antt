@@ -58,7 +58,8 @@ use Rattle.nam_protocol.specs.Operations.{holding, own_value, read_of, answer_of
 use Rattle.nam_protocol.specs.Txn.{Stepped, at, over, with_op, ask_op, on_value, on_find, on_read, on_claim}
 use Rattle.nam_protocol.specs.TxnCalls.{txn_after}
 use Rattle.nam_protocol.specs.Commit.{record_in, record_place, records_of, places, no_record}
-use Rattle.nam_protocol.specs.Commit.{lock_at, checked, committing, commit_begin, ended, list_after, list_begin, next_count, on_list}
+use Rattle.nam_protocol.specs.Commit.{lock_at, checked, committing, commit_begin, ended, list_after, list_begin}
+use Rattle.nam_protocol.specs.Commit.{next_count, on_list}
 use Rattle.nam_protocol.specs.Commit.{refusal_answer, refused, tells_intent}
 use Rattle.nam_protocol.specs.Commit.{ask_commit, go, on_lock, next_check, on_slot, on_return, on_words, on_copy}
 use Rattle.nam_protocol.specs.Commit.{on_install, next_free, commit_after}

@@ -30,7 +30,8 @@ use Rattle.nam_protocol.specs.declared.txn.TxnPoint.TheVariants.{Finding, Readin
 use Rattle.nam_protocol.specs.declared.txn.TxnState.{TxnState}
 use Rattle.nam_protocol.specs.Client.{client_abandon, client_after, client_ask}
 use Rattle.nam_protocol.specs.ClientFits.{ClientFits}
-use Rattle.nam_protocol.specs.Commit.{ask_commit, commit_after, on_install, on_lock, places, record_place, refused, value_at}
+use Rattle.nam_protocol.specs.Commit.{ask_commit, commit_after, on_install, on_lock, places, record_place, refused}
+use Rattle.nam_protocol.specs.Commit.{value_at}
 use Rattle.nam_protocol.specs.CutClient.{client_cut}
 use Rattle.nam_protocol.specs.Own.{MayAsk, Rests, StageAt, StageClient, StageIn, StageNow}
 use Rattle.nam_protocol.specs.Plain.{IsAside, Plain}

@@ -38,7 +38,8 @@ module _ (shape : Shape) where
   stepped_stays client attempt before step =
       stepped_goes (Stays client) client attempt before step (λ place e. (refl, refl))
       (λ end e. on_answer_goes (Stays client) (step_lists client before step)
-      (step_opens attempt before step) end (λ f. (refl, refl)) (λ how f. (refl, refl)) (λ how f. (refl, refl)) (λ number f. (refl, refl)))
+      (step_opens attempt before step) end (λ f. (refl, refl)) (λ how f. (refl, refl)) (λ how f. (refl, refl))
+      (λ number f. (refl, refl)))
 
   take_txn_stays : (client : ClientState) (at : TxnPoint) (opened : Option Open) (found : ℕ)
       → Stays client (take_txn shape client at opened found)
@@ -60,7 +61,8 @@ module _ (shape : Shape) where
   call_stays client (InTxn at) found = take_txn_stays client at client.txn found
   call_stays client (Scanning table low high at) found = take_scan_stays client table low high at client.txn found
   call_stays client (Seeking table key passed) found =
-      seek_goes (Stays client) shape client table key _ (λ next e. (refl, refl)) (λ position e. (refl, refl)) (λ e. (refl, refl))
+      seek_goes (Stays client) shape client table key _ (λ next e. (refl, refl)) (λ position e. (refl, refl))
+      (λ e. (refl, refl))
   call_stays client (Moving table key position at) found =
       move_goes (Stays client) shape client table key position _ _ (λ next e. (refl, refl)) (λ stamp e. (refl, refl))
       (λ stamp e. (refl, refl)) (λ e. (refl, refl)) (λ full e. (refl, refl))

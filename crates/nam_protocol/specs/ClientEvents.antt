@@ -56,8 +56,8 @@ NeedsOpen client call = Unit {0}
 abbrev pub event_if : Bool → ℕ
 event_if b = if b then 1 else 0
 
--- a call that was cut in its middle lists an event, and one that has published one more; so does an open transaction. How
--- the medic has finished the client is an event too, and a tail that was finished is none
+-- a call that was cut in its middle lists an event, and one that has published one more; so does an open transaction.
+-- How the medic has finished the client is an event too, and a tail that was finished is none
 abbrev pub closing : Option Finish → Option Open → Option (Now CallPoint Answer) → ℕ
 closing finish txn (Some (At (InTxn at))) = 2
 closing finish txn (Some (At place)) = 1 + event_if (is_some finish)

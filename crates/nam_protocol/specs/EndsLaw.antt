@@ -33,7 +33,8 @@ NewSessionLaw =
     (shape : Shape) → FitsLimits shape → (worker start : ℕ) (jobs : List Job) (policy : Policy)
     → IsOf shape.workers worker → start ≤ greatest_number shape.form → AllByRecursion (JobFits shape) jobs
     → 1 ≤ policy.tries
-    → FitsWithin shape (jobs_bound shape policy jobs + medic_room shape.form) (new_session shape (new_client worker start) jobs policy)
+    → FitsWithin shape (jobs_bound shape policy jobs + medic_room shape.form)
+    (new_session shape (new_client worker start) jobs policy)
 
 abbrev pub SessionWordLaw : Type 0
 SessionWordLaw =

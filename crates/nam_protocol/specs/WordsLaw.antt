@@ -47,7 +47,8 @@ ClientWritesLaw = (shape : Shape) → FitsLimits shape → (client : ClientState
 
 pub record SessionKeepsWords (shape : Shape) : Type 0 where
   pub new : (client : ClientState) (jobs : List Job) (policy : Policy) → HoldsWords shape client
-      → TreatmentHolds client.medic → AllByRecursion JobHolds jobs → SessionHolds shape (new_session shape client jobs policy)
+      → TreatmentHolds client.medic → AllByRecursion JobHolds jobs
+      → SessionHolds shape (new_session shape client jobs policy)
   pub word : (session : SessionState) (found : ℕ) → SessionHolds shape session → IsWord found
       → SessionHolds shape (session_after shape session found)
   pub cut : (session : SessionState) → SessionHolds shape session → SessionHolds shape (session_cut shape.form session)

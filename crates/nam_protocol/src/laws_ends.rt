@@ -3,9 +3,9 @@
 ghost use Rattle.nam_protocol.specs.EndsLaw.{SettlesLaw, NewSessionLaw, SessionWordLaw, SessionCutLaw, TurnLaw};
 ghost use Rattle.nam_protocol.specs.EndsLaw.{EndsLaw};
 
-/// A session that fits has a verb to come exactly where it has neither ended nor is cut without a medic: however many of
-/// its calls were answered without a verb, it has gone on to one that takes a verb. In form Held each session that is cut
-/// has a medic, and has ended exactly where the medic has answered.
+/// A session that fits has a verb to come exactly where it has neither ended nor is cut without a medic: however many
+/// of its calls were answered without a verb, it has gone on to one that takes a verb. In form Held each session that
+/// is cut has a medic, and has ended exactly where the medic has answered.
 ///
 /// A new session fits, with no more verbs to come than the bound of its jobs and, in form Held, its medic's. After each
 /// word it fits with fewer. A stop leaves no more of them, and fewer of a session that had one and was not cut before;

@@ -5,7 +5,9 @@ use Rattle.std.proofs.Common.{refl, sym, subst, arith}
 use Rattle.si_model.specs.declared.log.Lock.{Lock}
 use Rattle.si_model.specs.declared.log.Event.{Event}
 use Rattle.si_model.specs.declared.op.Op.TheVariants as op
+use Rattle.si_model.specs.declared.log.Finish.{Finish}
 use Rattle.nam_verbs.specs.declared.now.Now.{Now}
+use Rattle.nam_calls.specs.declared.medic.MedicPoint.{MedicPoint}
 use Rattle.nam_verbs.specs.declared.now.Now.TheVariants.{At, Over}
 use Rattle.nam_verbs.proofs.TestLemmas.{by_equal, by_test}
 use Rattle.nam_catalog.specs.declared.shape.Shape.{Shape}
@@ -49,7 +51,7 @@ use Rattle.nam_protocol.specs.Carries.{HeldIn}
 use Rattle.nam_protocol.specs.Client.{abandon_open, after_call, ask_scan, ask_txn, call_after, client_abandon}
 use Rattle.nam_protocol.specs.Client.{client_after, client_ask, take_scan, take_txn, with_call}
 use Rattle.nam_protocol.specs.ClientFits.{CallPointFits, ClientFits, NowFits, OpenCallFits, OpenPointFits}
-use Rattle.nam_protocol.specs.CutClient.{client_cut}
+use Rattle.nam_protocol.specs.CutClient.{client_cut, client_treated}
 use Rattle.nam_protocol.specs.Own.{MayAsk, Rests}
 use Rattle.nam_protocol.specs.Scan.{position_of}
 use Rattle.nam_protocol.specs.Session.{answer_now}
@@ -487,6 +489,11 @@ abandoned_carries client carries = abandoned client.txn
 
 pub cut_carries : (client : ClientState) → Carries client → Carries (client_cut client)
 cut_carries client carries =
+    record { opened = carries.opened; scanned = carries.scanned; collected = carries.collected }
+
+pub treated_carries : (client : ClientState) (medic : Now MedicPoint Finish) → Carries client
+    → Carries (client_treated client medic)
+treated_carries client medic carries =
     record { opened = carries.opened; scanned = carries.scanned; collected = carries.collected }
 
 pub new_carries : (worker start : ℕ) → Carries (new_client worker start)

@@ -12,7 +12,6 @@ use Rattle.nam_verbs.specs.declared.now.Now.TheVariants.{Over}
 use Rattle.nam_catalog.specs.declared.shape.Shape.{Shape}
 use Rattle.nam_catalog.specs.Greatest.{greatest_number}
 use Rattle.nam_verbs.proofs.TestLemmas.{by_test}
-use Rattle.nam_header.specs.Stamp.{is_locked}
 use Rattle.nam_calls.specs.declared.lock.LockPoint.{LockPoint}
 use Rattle.nam_calls.specs.declared.lock.LockPoint.TheVariants.{Peek, Seize, GiveBack}
 use Rattle.nam_calls.specs.declared.ring.SlotPoint.{SlotPoint}
@@ -27,19 +26,21 @@ use Rattle.nam_protocol.specs.declared.client.Open.{Open}
 use Rattle.nam_protocol.specs.declared.txn.CommitPoint.{CommitPoint}
 use Rattle.nam_protocol.specs.declared.txn.CommitPoint.TheVariants.{Checking, Copying, Freeing, Installing, Locking}
 use Rattle.nam_protocol.specs.declared.txn.CommitPoint.TheVariants.{Publishing, Returning, Saving}
+use Rattle.nam_protocol.specs.declared.txn.CommitPoint.TheVariants.{Listing, Counting, Deciding, Clearing, Ending}
+use Rattle.nam_protocol.specs.declared.txn.Refusal.TheVariants as refusal
 use Rattle.nam_protocol.specs.declared.txn.TxnAnswer.{TxnAnswer}
 use Rattle.nam_protocol.specs.declared.txn.TxnState.{TxnState}
-use Rattle.nam_protocol.specs.AnswersLaw.{CommitTells, CommitAskTells, word_in_way}
+use Rattle.nam_protocol.specs.AnswersLaw.{CommitTells, CommitAskTells, IsWordInWay}
 use Rattle.nam_protocol.specs.Told.{Ends, LockMissed}
-use Rattle.nam_protocol.specs.Carries.{CommitCarries, IsInTheWay, Took}
+use Rattle.nam_protocol.specs.Carries.{CommitCarries, IsInTheWay, IsMissed, Took}
 use Rattle.nam_protocol.specs.Commit.{ask_commit, commit_after, go, lock_at, on_lock, on_slot, places}
-use Rattle.nam_protocol.specs.Commit.{next_free, record_place, value_at}
+use Rattle.nam_protocol.specs.Commit.{next_free, record_place, tells_intent, value_at}
 use Rattle.nam_protocol.specs.Telling.{locks_from, new_locks, on_call, stepped}
 use Rattle.nam_protocol.specs.Txn.{Stepped, over}
 use Rattle.nam_protocol.specs.TxnFits.{CommitFits}
 use Rattle.nam_protocol.proofs.AnswersOps.{Good, TakesNone, none_took, quiet_over}
 use Rattle.nam_protocol.proofs.GoesCommit.{ask_commit_goes, holding_locks, next_free_goes, on_copy_goes}
-use Rattle.nam_protocol.proofs.GoesCommit.{on_install_goes}
+use Rattle.nam_protocol.proofs.GoesCommit.{next_count_goes, on_install_goes, on_list_goes, refused_goes}
 use Rattle.nam_protocol.proofs.GoesCommit.{on_return_goes, on_words_goes, with_count}
 use Rattle.nam_protocol.specs.declared.client.Answer.TheVariants as client_answer
 use Rattle.nam_protocol.specs.declared.txn.TxnAnswer.TheVariants as txn_answer
@@ -155,52 +156,53 @@ module _ (shape : Shape) (client : ClientState) (attempt : Open) (word : ℕ) (T
   closes end good =
       subst (Good Tells) (sym (quiet_over client attempt (length state.held) state end (omega arith))) good
 
-  -- 3. A lock is missed
+  -- 3. It is refused: it is answered, or the intent is cleared first
 
-  missed : (found : ℕ) (lock : Lock) (locked : Bool) (how : Outcome) → word_in_way word at ≡ found
-      → length state.held < length state.records → IsInTheWay state found
-      → lock ≡ lock_at state (length state.held) found
-      → is_locked (record_place state (length state.held)).form found ≡ locked
+  lock_missed : (found : ℕ) (lock : Lock) (locked : Bool) (how : Outcome) → IsWordInWay word at found
+      → IsMissed state found lock locked
       → (after : ClientState) → Ends client after attempt how
-      → LockMissed client after attempt (word_in_way word at) lock locked how
-  missed found lock locked how way within in_way is e after log =
-      subst (λ w. LockMissed client after attempt w lock locked how) (sym way) record {
-        within = within;
-        lock_is = is;
-        locked_is = e;
-        way = in_way;
-        took = f.took;
-        log = log;
-      }
+      → (found : ℕ) × IsWordInWay word at found × LockMissed client after attempt found lock locked how
+  lock_missed found lock locked how way missed after log =
+      (found, way, record { missed = missed; took = f.took; log = log })
 
-  given_back : (given found : ℕ) → word_in_way word at ≡ found → length state.held < length state.records
+  given_back : (given found : ℕ) → IsWordInWay word at found → length state.held < length state.records
       → IsInTheWay state found → Steps (on_lock state (give_back (places state) state.held given found))
   given_back given found way within in_way =
       let lock = lock_at state (length state.held) found in
       give_back_goes (λ now. Steps (on_lock state now)) (places state) state.held given found
-      (λ e locked. closes (txn_answer.Locked lock) (
+      (λ e locked.
+      let missed : IsMissed state found lock true =
+      record { within = within; lock_is = refl; locked_is = locked; way = in_way } in
+      refused_goes Steps state (refusal.Locked lock) (λ t. goes_on (Clearing (refusal.Locked lock)) (found, missed))
+      (λ t. closes (txn_answer.Locked lock) (
         record { opened = tt; scanned = tt; collected = tt },
         f.tells _ (txn_answer.Locked lock)
-            (missed found lock true (outcome.Locked lock) way within in_way refl locked _ refl),
-      ))
-      (λ e free. closes (txn_answer.Newer lock) (
+            (lock_missed found lock true (outcome.Locked lock) way missed _ refl),
+      )))
+      (λ e free.
+      let missed : IsMissed state found lock false =
+      record { within = within; lock_is = refl; locked_is = free; way = in_way } in
+      refused_goes Steps state (refusal.Newer lock) (λ t. goes_on (Clearing (refusal.Newer lock)) (found, missed))
+      (λ t. closes (txn_answer.Newer lock) (
         record { opened = tt; scanned = tt; collected = tt },
         f.tells _ (txn_answer.Newer lock)
-            (missed found lock false (outcome.Newer lock) way within in_way refl free _ refl),
-      ))
+            (lock_missed found lock false (outcome.Newer lock) way missed _ refl),
+      )))
       (λ e. goes_on (Locking (GiveBack given found)) in_way)
 
   -- 4. The end
 
-  freed : (nth : ℕ) → Steps (next_free state nth)
-  freed nth =
-      next_free_goes Steps state nth
-      (λ e. closes (txn_answer.Committed (state.last + 1)) (
+  committed : Steps (over state (txn_answer.Committed (state.last + 1)))
+  committed =
+      closes (txn_answer.Committed (state.last + 1)) (
         record { opened = tt; scanned = tt; collected = tt },
         f.tells _ (txn_answer.Committed (state.last + 1))
             record { next = ap (λ n. n + 1) f.last_is; last = refl; log = refl },
-      ))
-      (λ e. goes_on (Freeing nth) tt)
+      )
+
+  freed : (nth : ℕ) → Steps (next_free state nth)
+  freed nth =
+      next_free_goes Steps state nth (λ e t. goes_on Ending tt) (λ e t. committed) (λ e. goes_on (Freeing nth) tt)
 
 -- 5. Each point
 
@@ -248,8 +250,11 @@ module _ (shape : Shape) (client : ClientState) (attempt : Open) (word : ℕ)
       (record_place s (length s.counts)) count word
       (λ moved. by_test (Steps shape client attempt word Tells point f)
       (length (s.counts ++ count ∷ []) == length s.writes) _ _
-      (λ last. goes shape client attempt word Tells point f (with_count s count) (Saving 0 words_begin) []
+      (λ last. by_test (Steps shape client attempt word Tells point f) (tells_intent s) _ _
+      (λ t. goes shape client attempt word Tells point f (with_count s count) (Counting 0) []
       (append-nil s.held) refl refl tt)
+      (λ t. goes shape client attempt word Tells point f (with_count s count) (Saving 0 words_begin) []
+      (append-nil s.held) refl refl tt))
       (λ next. goes shape client attempt word Tells point f (with_count s count) (Checking slot_begin) []
       (append-nil s.held) refl refl tt))
       (λ still. goes_on shape client attempt word Tells point f
@@ -262,14 +267,26 @@ module _ (shape : Shape) (client : ClientState) (attempt : Open) (word : ℕ)
       })
 
   pub commit_good : (at : CommitPoint) → At_point at → GoodAt at
+  commit_good (Listing at) f =
+      let point = Listing at in
+      on_list_goes (Steps shape client attempt word Tells point f) s _
+      (λ next e. goes_on shape client attempt word Tells point f (Listing next) tt)
+      (λ e. goes_on shape client attempt word Tells point f (Locking Peek) tt)
   commit_good (Locking at) f = lock_good at f
   commit_good (Checking at) f = check_good at f
   commit_good (Returning given full) f =
       let point = Returning given full in
       on_return_goes (Steps shape client attempt word Tells point f) s full _
       (λ next e. goes_on shape client attempt word Tells point f (Returning next full) f.carries)
-      (λ e. closes shape client attempt word Tells point f (txn_answer.Full full)
+      (λ e t. goes_on shape client attempt word Tells point f (Clearing (refusal.Full full)) f.carries)
+      (λ e t. closes shape client attempt word Tells point f (txn_answer.Full full)
       (record { opened = tt; scanned = tt; collected = tt }, f.tells _ (txn_answer.Full full) (f.carries, refl)))
+  commit_good (Counting nth) f =
+      let point = Counting nth in
+      next_count_goes (Steps shape client attempt word Tells point f) s (nth + 1)
+      (λ e. goes_on shape client attempt word Tells point f Deciding tt)
+      (λ e. goes_on shape client attempt word Tells point f (Counting (nth + 1)) tt)
+  commit_good Deciding f = goes_on shape client attempt word Tells Deciding f (Saving 0 words_begin) tt
   commit_good (Saving nth got) f =
       let point = Saving nth got in
       on_words_goes (Steps shape client attempt word Tells point f) s nth _
@@ -290,6 +307,25 @@ module _ (shape : Shape) (client : ClientState) (attempt : Open) (word : ℕ)
       freed shape client attempt word Tells Publishing f (length s.writes)
   commit_good (Freeing nth) f =
       freed shape client attempt word Tells (Freeing nth) f (nth + 1)
+  commit_good (Clearing (refusal.Locked lock)) f =
+      let point = Clearing (refusal.Locked lock) in let found = f.carries.0 in
+      closes shape client attempt word Tells point f (txn_answer.Locked lock) (
+        record { opened = tt; scanned = tt; collected = tt },
+        f.tells _ (txn_answer.Locked lock)
+            (found, tt, record { missed = f.carries.1; took = f.took; log = refl }),
+      )
+  commit_good (Clearing (refusal.Newer lock)) f =
+      let point = Clearing (refusal.Newer lock) in let found = f.carries.0 in
+      closes shape client attempt word Tells point f (txn_answer.Newer lock) (
+        record { opened = tt; scanned = tt; collected = tt },
+        f.tells _ (txn_answer.Newer lock)
+            (found, tt, record { missed = f.carries.1; took = f.took; log = refl }),
+      )
+  commit_good (Clearing (refusal.Full lock)) f =
+      let point = Clearing (refusal.Full lock) in
+      closes shape client attempt word Tells point f (txn_answer.Full lock)
+      (record { opened = tt; scanned = tt; collected = tt }, f.tells _ (txn_answer.Full lock) (f.carries, refl))
+  commit_good Ending f = committed shape client attempt word Tells Ending f
 
   -- 6. It is asked
 
@@ -316,7 +352,20 @@ module _ (shape : Shape) (client : ClientState) (attempt : Open) (word : ℕ)
           refl,
         ),
       ))
-      (λ some free. (
+      (λ some free t. (
+        record {
+          opened = record {
+            last_is = rest.last_is;
+            took = none_took _ _ refl (omega arith);
+            held = tt;
+            point = tt;
+          };
+          scanned = tt;
+          collected = tt;
+        },
+        tt,
+      ))
+      (λ some free t. (
         record {
           opened = record {
             last_is = rest.last_is;

@@ -72,8 +72,7 @@ module _ (shape : Shape) where
       (λ next e. refl) (λ e. tt) (λ position e end s f. tt)
   txn_word_of client (Committing at) attempt before found =
       commit_goes (λ step. IsOf (call.Txn Commit) (stepped client attempt before step)) attempt.state at found
-      (λ next to. refl) (λ header next e to. refl) (λ place count e. refl) (λ place count e. refl)
-      (λ end ends. tt)
+      (λ next to. refl) (λ header next e to. refl) (λ place count next e to. refl) (λ end ends. tt)
 
   take_txn_of : (client : ClientState) (place : TxnPoint) (opened : Option Open) (found : ℕ) → IsSome opened
       → IsOf (call_at (InTxn place)) (take_txn shape client place opened found)
@@ -125,7 +124,7 @@ module _ (shape : Shape) where
   asked_of client o None some = absurd (cc)
   asked_of client None (Some attempt) some =
       ask_commit_goes (λ step. IsOf (call.Txn Commit) (stepped (record client { txn = Some attempt }) attempt 0 step))
-      attempt.state shape (λ e. tt) (λ e f. tt) (λ e f. refl)
+      attempt.state shape (λ e. tt) (λ e f. tt) (λ e f t. refl) (λ e f t. refl)
   asked_of client (Some (op.Get t k)) (Some attempt) some =
       op_asked_of (record client { txn = Some attempt }) attempt (with_call attempt (Get t k)) (op.Get t k)
   asked_of client (Some (op.Put t k v)) (Some attempt) some =
@@ -434,6 +433,7 @@ module _ (shape : Shape) where
         (place_try client job driver.nth driver.place asks.opened on) after.call refl
         (place_of_call client job driver.nth driver.place asks.opened) s.does s.lists;
     cut = λ session asks. record { opened = asks.opened; attempt = asks.attempt; call = asks.call };
+    treated = λ session medic asks. record { opened = asks.opened; attempt = asks.attempt; call = asks.call };
   }
 
 -- 8. The law

@@ -17,6 +17,8 @@ use Rattle.nam_protocol.specs.declared.scan.ScanPoint.TheVariants.{ScanKey, Scan
 use Rattle.nam_protocol.specs.declared.scan.ScanPoint.{ScanPoint}
 use Rattle.nam_protocol.specs.declared.txn.CommitPoint.TheVariants.{Checking, Copying, Freeing, Installing, Locking}
 use Rattle.nam_protocol.specs.declared.txn.CommitPoint.TheVariants.{Publishing, Returning, Saving}
+use Rattle.nam_protocol.specs.declared.txn.CommitPoint.TheVariants.{Listing, Counting, Deciding, Clearing, Ending}
+use Rattle.nam_protocol.specs.declared.txn.ListPoint.TheVariants.{ListRow, ListKind, ListData, ListNumber, ListState}
 use Rattle.nam_protocol.specs.declared.txn.CommitPoint.{CommitPoint}
 use Rattle.nam_protocol.specs.declared.txn.TxnPoint.TheVariants.{Finding, Reading, Claiming, Committing}
 use Rattle.nam_protocol.specs.declared.txn.TxnPoint.{TxnPoint}
@@ -29,9 +31,16 @@ use Rattle.nam_protocol.specs.Scan.{scan_verb}
 use Rattle.nam_protocol.specs.TxnCalls.{txn_verb}
 
 pub commit_written : (state : TxnState) (at : CommitPoint) → written_by (commit_verb state at) ≡ commit_writes state at
+commit_written state (Listing (ListRow nth)) = refl
+commit_written state (Listing (ListKind nth)) = refl
+commit_written state (Listing (ListData nth word)) = refl
+commit_written state (Listing ListNumber) = refl
+commit_written state (Listing ListState) = refl
 commit_written state (Locking at) = lock_written state.worker (places state) state.held at
 commit_written state (Checking at) = slot_reads (record_place state (length state.counts)) at
 commit_written state (Returning given full) = refl
+commit_written state (Counting nth) = refl
+commit_written state Deciding = refl
 commit_written state (Saving nth got) = refl
 commit_written state (Copying nth old at) =
     copy_written (record_place state nth) (slice_index state.counts nth) (slice_index state.held nth) old
@@ -41,6 +50,8 @@ commit_written state (Installing nth at) =
     (new_header state nth) at
 commit_written state Publishing = refl
 commit_written state (Freeing nth) = refl
+commit_written state (Clearing refusal) = refl
+commit_written state Ending = refl
 
 module _ (shape : Shape) where
   pub txn_written : (state : TxnState) (at : TxnPoint)

@@ -1,10 +1,11 @@
--- A session settles, and the number of its verbs to come falls with each word.
+-- A session that settles fits, and the number of its verbs to come falls with each word.
 use Rattle.std.proofs.Common.{◌≡◌, ℕ, zero, suc, ◌+◌, ◌-◌, ◌*◌, ◌<◌, ◌≤◌, List, [], ◌∷◌, length, drop, take, refl, sym}
 use Rattle.std.proofs.Common.{◌∙◌, ap, subst, arith, Bool, true, false, not, Option, Some, None}
-use Rattle.std.specs.Prelude.{◌||◌, if◌then◌else◌, slice_get, is_some, IsSome}
+use Rattle.std.specs.Prelude.{◌&&◌, if◌then◌else◌, slice_get, is_some, IsSome}
 use Rattle.std.specs.List.{AllByRecursion}
 use Rattle.std.proofs.lemmas.Bool.{false≢true}
 use Rattle.std.proofs.lemmas.List.{length-map}
+use Rattle.si_model.specs.declared.log.Finish.{Finish}
 use Rattle.si_model.specs.declared.op.Op.{Op}
 use Rattle.si_model.specs.declared.op.Policy.{Policy}
 use Rattle.si_model.specs.Rows.{key_at}
@@ -13,18 +14,23 @@ use Rattle.si_model.specs.EvaluationLaws.{is_scan}
 use Rattle.si_model.specs.declared.op.Op.TheVariants as op
 use Rattle.nam_verbs.specs.declared.now.Now.{Now}
 use Rattle.nam_verbs.specs.declared.now.Now.TheVariants.{At, Over}
+use Rattle.nam_verbs.specs.Falls.{Falls, Any}
 use Rattle.nam_verbs.specs.VerbAt.{VerbAt}
-use Rattle.nam_verbs.proofs.TestLemmas.{by_test}
 use Rattle.nam_catalog.specs.declared.shape.Table.{Table}
 use Rattle.nam_catalog.specs.declared.shape.Shape.{Shape}
 use Rattle.nam_catalog.specs.Fits.{FitsLimits}
 use Rattle.nam_catalog.specs.Greatest.{greatest_number}
 use Rattle.nam_catalog.specs.Tables.{widths_of}
 use Rattle.nam_layout.specs.declared.field.Field.{Field}
+use Rattle.nam_calls.specs.declared.medic.MedicPoint.{MedicPoint}
 use Rattle.nam_calls.specs.Fits.{IsOf, IsTableOf}
+use Rattle.nam_calls.specs.Medic.{medic_after}
+use Rattle.nam_calls.specs.MedicFits.{MedicFits}
+use Rattle.nam_calls.specs.MedicLeft.{medic_left}
 use Rattle.nam_calls.specs.Holds.{IsWord}
 use Rattle.nam_calls.specs.Words.{key_word}
 use Rattle.nam_calls.proofs.FallsTests.{either}
+use Rattle.nam_calls.proofs.MedicFalls.{falls_law}
 use Rattle.nam_protocol.specs.declared.txn.TxnCall.{TxnCall}
 use Rattle.nam_protocol.specs.declared.txn.TxnCall.TheVariants.{Get, Put, Add, Del, Need, Guard, Commit}
 use Rattle.nam_protocol.specs.declared.client.Call.TheVariants.{Begin, Txn, Scan, Tidy, Collect}
@@ -35,27 +41,26 @@ use Rattle.nam_protocol.specs.declared.client.ClientState.{ClientState}
 use Rattle.nam_protocol.specs.declared.session.Job.{Job}
 use Rattle.nam_protocol.specs.declared.session.DriverPoint.{DriverPoint}
 use Rattle.nam_protocol.specs.declared.session.DriverPoint.TheVariants.{ToBegin, ToAsk, ToTidy, ToCollect}
-use Rattle.nam_protocol.specs.declared.session.DriverState.{DriverState}
 use Rattle.nam_protocol.specs.declared.session.SessionState.{SessionState}
 use Rattle.nam_protocol.specs.Txn.{ask_op}
 use Rattle.nam_protocol.specs.Commit.{ask_commit}
 use Rattle.nam_protocol.specs.Telling.{new_client, stepped}
 use Rattle.nam_protocol.specs.Client.{with_call, ask_txn, ask_scan, client_ask, verb_of, call_after, after_call}
-use Rattle.nam_protocol.specs.Client.{client_after}
-use Rattle.nam_protocol.specs.CutClient.{client_cut}
-use Rattle.nam_protocol.specs.Driver.{new_driver, call_of, op_call, key_number, place_call, job_call, driver_next}
+use Rattle.nam_protocol.specs.Client.{client_after, client_verb}
+use Rattle.nam_protocol.specs.Driver.{new_driver, call_of, op_call, key_number, place_call, job_call}
 use Rattle.nam_protocol.specs.Driver.{driver_take}
 use Rattle.nam_protocol.specs.Session.{answer_now, calls_at_most, taken, settle, new_session, session_verb}
-use Rattle.nam_protocol.specs.Session.{session_after, has_ended}
+use Rattle.nam_protocol.specs.Commit.{has_intents}
+use Rattle.nam_protocol.specs.Session.{verb_by, after_by, call_taken, session_after, treated}
 use Rattle.nam_protocol.specs.Bound.{op_bound}
 use Rattle.nam_protocol.specs.Left.{left_of, client_left, commit_bound, try_bound, jobs_bound, after_call_bound}
-use Rattle.nam_protocol.specs.Left.{rest_bound, session_left}
+use Rattle.nam_protocol.specs.Left.{rest_bound, left_by, medic_room, session_left}
 use Rattle.nam_protocol.specs.AttemptLaw.{HasAsked}
 use Rattle.nam_protocol.specs.TxnFits.{IsKeyOf, StateFits, OpStands, TxnCallFits, txn_call_bound}
 use Rattle.nam_protocol.specs.ClientFits.{OpenFits, NowFits, CallPointFits, ClientFits, OpenCallFits, open_bound}
 use Rattle.nam_protocol.specs.SessionFits.{OpenAsked, NowRuns, is_running, ops_of, OpsFit, JobFits, DriverPointFits}
-use Rattle.nam_protocol.specs.SessionFits.{DriverFits, SessionFits}
-use Rattle.nam_protocol.specs.EndsLaw.{FitsWithin, SettlesLaw, SessionCutLaw}
+use Rattle.nam_protocol.specs.SessionFits.{DriverFits, MedicStands, SessionFits}
+use Rattle.nam_protocol.specs.EndsLaw.{FitsWithin}
 use Rattle.nam_protocol.proofs.FallsKeys.{all_at}
 use Rattle.nam_protocol.proofs.JobKeys.{op_has_room}
 use Rattle.nam_protocol.proofs.FallsAttempt.{ask_asks, attempt_bound}
@@ -66,6 +71,7 @@ use Rattle.nam_protocol.proofs.RunsClient.{take_past}
 use Rattle.nam_protocol.proofs.EndsDriver.{call_most, pending, calls_from, calls_after, AsksFrom, GoesOn}
 use Rattle.nam_protocol.proofs.EndsDriver.{begins_pending}
 use Rattle.nam_protocol.proofs.EndsDriver.{takes, drop_from, drop_over}
+use Rattle.nam_protocol.proofs.StaysLemmas.{IsUncut, still_uncut, word_stays, asked_stays}
 
 -- 1. Lists and tests
 
@@ -75,13 +81,17 @@ nth_holds P [] n x all e = absurd (cc)
 nth_holds P (y ∷ ys) zero x all e = let same : y ≡ x = cc in subst P same all.0
 nth_holds P (y ∷ ys) (suc n) x all e = nth_holds P ys n x all.1 e
 
-some_of : {A : Type 0} (o : Option A) → is_some o ≡ true → (x : A) × (o ≡ Some x)
+pub some_of : {A : Type 0} (o : Option A) → is_some o ≡ true → (x : A) × (o ≡ Some x)
 some_of None e = absurd (false≢true e)
 some_of (Some x) e = (x, refl)
 
-none_of : {A : Type 0} (o : Option A) → not (is_some o) ≡ true → o ≡ None
+pub none_of : {A : Type 0} (o : Option A) → not (is_some o) ≡ true → o ≡ None
 none_of None e = refl
 none_of (Some x) e = absurd (false≢true e)
+
+pub none_at : {A : Type 0} (o : Option A) → is_some o ≡ false → o ≡ None
+none_at None e = refl
+none_at (Some x) e = absurd (false≢true (sym e))
 
 none_unless : (cut : Bool) (n : ℕ) → n ≡ 0 → (if cut then 0 else n) ≡ 0
 none_unless true n e = refl
@@ -302,6 +312,24 @@ module _ (shape : Shape) where
     pub asks : AsksFrom shape session.driver.place
         (ops_of (slice_get session.jobs session.driver.job)) session.client.txn
     pub rests : is_running session.client.call ≡ false
+    pub uncut : IsUncut session.client
+
+  -- a session that isn't cut has no medic
+  abbrev room : ℕ
+  room = medic_room shape.form
+
+  no_medic : (client : ClientState) → IsUncut client → MedicStands shape client.medic
+  no_medic client uncut = subst (MedicStands shape) (sym uncut.1) tt
+
+  not_treated : (client : ClientState) → IsUncut client → is_some client.medic ≡ (client.cut && has_intents shape.form)
+  not_treated client uncut =
+      ap (λ (medic : Option (Now MedicPoint Finish)). is_some medic) uncut.1
+      ∙ sym (ap (λ cut. cut && has_intents shape.form) uncut.0)
+
+  pub uncut_of : (session : SessionState) → SessionFits shape session → session.client.cut ≡ false
+      → IsUncut session.client
+  uncut_of session fits uncut =
+      (uncut, none_at session.client.medic (fits.treats ∙ ap (λ cut. cut && has_intents shape.form) uncut))
 
   abbrev next_calls : SessionState → ℕ
   next_calls session =
@@ -313,15 +341,16 @@ module _ (shape : Shape) where
   -- so many calls suffice, after which no more verbs are to come than were left
   abbrev Suffices : ℕ → Type 0
   Suffices calls = (session : SessionState) → IsReady session → next_calls session ≤ calls
-      → FitsWithin shape (to_come session) (settle shape calls session)
+      → FitsWithin shape (to_come session + room) (settle shape calls session)
 
-  left_most : (session : SessionState) (n m : ℕ) → client_left shape session.client ≤ n
+  left_most : (session : SessionState) (n m : ℕ) → IsUncut session.client → client_left shape session.client ≤ n
       → rest_bound shape session.driver (drop session.driver.job session.jobs) ≤ m
-      → session_left shape session ≤ n + m
-  left_most session n m l r =
-      either (λ k. k ≤ n + m) session.client.cut 0
-      (client_left shape session.client + rest_bound shape session.driver (drop session.driver.job session.jobs))
-      (omega arith) (omega arith)
+      → session_left shape session ≤ n + m + room
+  left_most session n m uncut l r =
+      subst (λ medic. left_by shape session medic ≤ n + m + room) (sym uncut.1)
+      (either (λ k. k ≤ n + m + room) session.client.cut 0
+      (client_left shape session.client + rest_bound shape session.driver (drop session.driver.job session.jobs) + room)
+      (omega arith) (omega arith))
 
   -- 4. The client has been asked, or has taken a word
 
@@ -343,36 +372,41 @@ module _ (shape : Shape) where
         takes shape session.jobs client.txn session.driver job here driver.0 driver.1
         (nth_holds (JobFits shape) session.jobs session.driver.job job jobs here) session.driver.place end driver.2 does
 
-    pub taken_ready : (client : ClientState) (end : Answer) → ClientFits shape client → client.call ≡ Some (Over end)
+    pub taken_ready : (client : ClientState) (end : Answer) → ClientFits shape client → IsUncut client
+        → client.call ≡ Some (Over end)
         → IsAnswered shape session.driver.place job.ops client.txn end
         → IsReady (taken session client end)
-    taken_ready client end fits e does =
+    taken_ready client end fits uncut e does =
         let g = answer_taken client end does in
-        record { client = fits; jobs = jobs; driver = g.fits; asks = g.asks; rests = ap is_running e }
+        record { client = fits; jobs = jobs; driver = g.fits; asks = g.asks; rests = ap is_running e; uncut = uncut }
 
-    goes_on : (client : ClientState) (calls : ℕ) → Suffices calls → ClientFits shape client
+    goes_on : (client : ClientState) (calls : ℕ) → Suffices calls → ClientFits shape client → IsUncut client
         → (now : Option (Now CallPoint Answer)) → client.call ≡ now
         → NowDoes shape session.driver.place job.ops client.txn now
         → Few job.ops session.driver.place calls now
-        → FitsWithin shape (client_left shape client + rest_here) (elim (answer_now now) [
+        → FitsWithin shape (client_left shape client + rest_here + room) (elim (answer_now now) [
           | None ↦ record session { client = client }
           | Some answer ↦ settle shape calls (taken session client answer)
         ])
-    goes_on client calls later fits None e does few = absurd does
-    goes_on client calls later fits (Some (At at)) e does few = (
+    goes_on client calls later fits uncut None e does few = absurd does
+    goes_on client calls later fits uncut (Some (At at)) e does few = (
       record {
         client = fits;
         jobs = jobs;
         driver = driver;
         runs = subst (λ o. NowRuns session.driver.place (ops_of o) client.txn client.call) (sym here)
             (subst (NowRuns session.driver.place job.ops client.txn) (sym e) does);
+        medic = no_medic client uncut;
+        treats = not_treated client uncut;
         stands = ap is_running e ∙ sym (ap (λ (o : Option Job). is_some o) here);
       },
-      left_most (record session { client = client }) (client_left shape client) rest_here (omega arith) (omega arith),
+      left_most (record session { client = client }) (client_left shape client) rest_here uncut (omega arith)
+          (omega arith),
     )
-    goes_on client calls later fits (Some (Over end)) e does few =
+    goes_on client calls later fits uncut (Some (Over end)) e does few =
         let g = answer_taken client end does in
-        let s = later (taken session client end) (taken_ready client end fits e does) (let f = g.few in omega arith) in
+        let s = later (taken session client end) (taken_ready client end fits uncut e does)
+        (let f = g.few in omega arith) in
         let same = ap (rest_bound shape session.driver) (drop_from session.jobs session.driver.job job here) in
         (s.0, let l = s.1 in let m = g.left in omega arith)
 
@@ -391,20 +425,21 @@ module _ (shape : Shape) where
   none_left client (Some (At at)) e = absurd (false≢true (sym e))
   none_left client (Some (Over end)) e = refl
 
-  -- nothing is to come where no call runs and no job is left
-  rests_left : (session : SessionState) → is_running session.client.call ≡ false
-      → slice_get session.jobs session.driver.job ≡ None
-      → session_left shape session ≡ 0
-  rests_left session rests over =
+  -- no more than a medic's verbs are to come where no call runs and no job is left
+  pub rests_left : (session : SessionState) → is_running session.client.call ≡ false
+      → slice_get session.jobs session.driver.job ≡ None → IsUncut session.client
+      → session_left shape session ≤ room
+  rests_left session rests over uncut =
       let e = none_left session.client session.client.call rests in
       let r = ap (rest_bound shape session.driver) (drop_over session.jobs session.driver.job over) in
       let c = none_unless session.client.cut (left_of shape session.client session.client.call) e in
-      none_unless session.client.cut _ (omega arith)
+      let l = left_most session 0 0 uncut (omega arith) (omega arith) in
+      omega arith
 
   module _ (limits : FitsLimits shape) where
     next_ends : (calls : ℕ) (session : SessionState) → IsReady session → next_calls session ≤ suc calls
         → Suffices calls → (o : Option Job) → slice_get session.jobs session.driver.job ≡ o
-        → FitsWithin shape (to_come session) (elim (job_call session.driver o) [
+        → FitsWithin shape (to_come session + room) (elim (job_call session.driver o) [
           | None ↦ session
           | Some call ↦ elim (answer_now (client_ask shape session.client call).call) [
             | None ↦ record session { client = client_ask shape session.client call }
@@ -417,9 +452,11 @@ module _ (shape : Shape) where
         jobs = ready.jobs;
         driver = ready.driver;
         runs = not_running session.driver.place _ session.client.txn session.client.call ready.rests;
+        medic = no_medic session.client ready.uncut;
+        treats = not_treated session.client ready.uncut;
         stands = ready.rests ∙ sym (ap (λ (o : Option Job). is_some o) here);
       },
-      let e = rests_left session ready.rests here in omega arith,
+      let e = rests_left session ready.rests here ready.uncut in omega arith,
     )
     next_ends calls session ready few later (Some job) here =
         let driver = session.driver in
@@ -429,8 +466,10 @@ module _ (shape : Shape) where
         (nth_holds (JobFits shape) session.jobs driver.job job ready.jobs here)
         (subst (λ o. calls_from shape (ops_of o) driver.place ≤ suc calls) here few) in
         let client = client_ask shape session.client (place_call job driver.nth driver.place) in
-        let g = goes_on session ready.jobs ready.driver job here client calls later a.stands client.call refl a.does
-        a.few in
+        let uncut = still_uncut session.client client
+        (asked_stays shape session.client (place_call job driver.nth driver.place)) ready.uncut in
+        let g = goes_on session ready.jobs ready.driver job here client calls later a.stands uncut client.call refl
+        a.does a.few in
         let d = drop_from session.jobs driver.job job here in
         let same = ap (rest_bound shape driver) d in
         let all = ap (pending shape driver) d in
@@ -457,13 +496,15 @@ module _ (shape : Shape) where
       driver = (omega arith, least, tt);
       asks = tt;
       rests = refl;
+      uncut = (refl, refl);
     }
 
     pub new_session_ends : (worker start : ℕ) (jobs : List Job) (policy : Policy) → IsOf shape.workers worker
         → start ≤ greatest_number shape.form
         → AllByRecursion (JobFits shape) jobs
         → 1 ≤ policy.tries
-        → FitsWithin shape (jobs_bound shape policy jobs) (new_session shape (new_client worker start) jobs policy)
+        → FitsWithin shape (jobs_bound shape policy jobs + room)
+        (new_session shape (new_client worker start) jobs policy)
     new_session_ends worker start jobs policy is number fit least =
         let session : SessionState =
         record { client = new_client worker start; driver = new_driver policy; jobs = jobs } in
@@ -487,7 +528,7 @@ module _ (shape : Shape) where
     pub record TakesWord (session : SessionState) (found : ℕ) : Type 0 where
       pub at : CallPoint
       pub is : session.client.call ≡ Some (At at)
-      pub uncut : session.client.cut ≡ false
+      pub uncut : IsUncut session.client
       pub place : CallPointFits shape session.client.txn at
       pub job : Job
       pub here : slice_get session.jobs session.driver.job ≡ Some job
@@ -497,7 +538,7 @@ module _ (shape : Shape) where
       pub does : ClientDoes shape session.driver.place job.ops (client_after shape session.client found)
 
     pub takes_word : (session : SessionState) (verb : VerbAt Field) (found : ℕ) → SessionFits shape session
-        → session_verb shape session ≡ Some verb
+        → client_verb shape session.client ≡ Some verb
         → TakesWord session found
     takes_word session verb found fits e =
         let driver = session.driver in
@@ -518,7 +559,7 @@ module _ (shape : Shape) where
         record {
           at = at;
           is = is;
-          uncut = stands.0;
+          uncut = uncut_of session fits stands.0;
           place = place;
           job = some.0;
           here = some.1;
@@ -527,84 +568,89 @@ module _ (shape : Shape) where
           does = subst (ClientDoes shape driver.place some.0.ops) after does;
         }
 
-    pub session_word : (session : SessionState) (verb : VerbAt Field) (found : ℕ) → SessionFits shape session
-        → session_verb shape session ≡ Some verb
-        → SessionFits shape (session_after shape session found)
-        × (session_left shape (session_after shape session found) < session_left shape session)
-    session_word session verb found fits e =
+    call_word : (session : SessionState) (verb : VerbAt Field) (found : ℕ) → SessionFits shape session
+        → client_verb shape session.client ≡ Some verb
+        → SessionFits shape (call_taken shape session found)
+        × (session_left shape (call_taken shape session found) < left_by shape session None)
+    call_word session verb found fits e =
         let t = takes_word session verb found fits e in
         let driver = session.driver in
         let client = client_after shape session.client found in
         let few = calls_suffice session.jobs driver.job t.job t.here in
         let most = calls_after_most t.job.ops driver.place in
+        let uncut = still_uncut session.client client (word_stays shape session.client found) t.uncut in
         let g = goes_on session fits.jobs fits.driver t.job t.here client (calls_at_most session.jobs)
-        (settle_ends (calls_at_most session.jobs)) t.falls.0 client.call refl t.does
+        (settle_ends (calls_at_most session.jobs)) t.falls.0 uncut client.call refl t.does
         (few_any t.job.ops driver.place (calls_at_most session.jobs) client.call (omega arith)) in
-        let left : session_left shape session ≡ client_left shape session.client
-        + rest_bound shape driver (drop driver.job session.jobs) =
+        let left : left_by shape session None ≡ client_left shape session.client
+        + rest_bound shape driver (drop driver.job session.jobs) + room =
         ap (λ (cut : Bool). if cut then 0
-        else client_left shape session.client + rest_bound shape driver (drop driver.job session.jobs)) t.uncut in
+        else client_left shape session.client + rest_bound shape driver (drop driver.job session.jobs) + room)
+        t.uncut.0 in
         (g.0, let l = g.1 in let m = t.falls.1 in omega arith)
 
--- 8. Sessions are settled, and nothing is to come of one that was cut
+    -- 8. The word is the medic's
 
-verb_runs : (shape : Shape) (client : ClientState) (now : Option (Now CallPoint Answer))
-    → is_some (verb_of shape client now) ≡ is_running now
-verb_runs shape client None = refl
-verb_runs shape client (Some (At at)) = refl
-verb_runs shape client (Some (Over end)) = refl
+    pub treated_fits : (session : SessionState) (medic : Now MedicPoint Finish) → SessionFits shape session
+        → MedicStands shape (Some medic) → (session.client.cut && has_intents shape.form) ≡ true
+        → SessionFits shape (treated session medic)
+    treated_fits session medic fits stands is = record {
+      client = fits.client;
+      jobs = fits.jobs;
+      driver = fits.driver;
+      runs = fits.runs;
+      medic = stands;
+      treats = sym is;
+      stands = fits.stands;
+    }
 
-call_is : (driver : DriverState) (o : Option Job) → is_some (job_call driver o) ≡ is_some o
-call_is driver None = refl
-call_is driver (Some job) = refl
+    medic_word : (session : SessionState) (place : MedicPoint) (found : ℕ) → SessionFits shape session
+        → session.client.medic ≡ Some (At place) → (medic : Now MedicPoint Finish)
+        → Falls (MedicFits shape) Any (medic_left shape) (medic_left shape place) medic
+        → SessionFits shape (treated session medic)
+        × (session_left shape (treated session medic) < medic_left shape place)
+    medic_word session place found fits is (At next) falls =
+        let held = (subst (MedicStands shape) is fits.medic).0 in (
+          treated_fits session (At next) fits (held, falls.0)
+              (sym fits.treats ∙ ap (λ (medic : Option (Now MedicPoint Finish)). is_some medic) is),
+          falls.1,
+        )
+    medic_word session place found fits is (Over how) falls = (
+      treated_fits session (Over how) fits tt
+          (sym fits.treats ∙ ap (λ (medic : Option (Now MedicPoint Finish)). is_some medic) is),
+      falls.1,
+    )
 
-stands_unless : (cut : Bool) (verb : Option (VerbAt Field)) (left : Bool) → is_some verb ≡ left
-    → is_some (if cut then None else verb) ≡ not (not left || cut)
-stands_unless true verb true e = refl
-stands_unless true verb false e = refl
-stands_unless false verb true e = e
-stands_unless false verb false e = e
+    -- the word of a verb that stands is the client's or the medic's
+    pub by_medic : (session : SessionState) (verb : VerbAt Field) (found : ℕ) (P : SessionState → Type 0)
+        → session_verb shape session ≡ Some verb
+        → (session.client.medic ≡ None → client_verb shape session.client ≡ Some verb
+        → P (call_taken shape session found))
+        → ((place : MedicPoint) → session.client.medic ≡ Some (At place)
+        → P (treated session (medic_after shape session.client.worker place found)))
+        → P (session_after shape session found)
+    by_medic session verb found P e of_call of_medic = at session.client.medic refl e
+      where
+        at : (medic : Option (Now MedicPoint Finish)) → session.client.medic ≡ medic
+            → verb_by shape session medic ≡ Some verb → P (after_by shape session found medic)
+        at None is stands = of_call is stands
+        at (Some (At place)) is stands = of_medic place is
+        at (Some (Over how)) is stands = absurd (cc)
 
-pub sessions_settle : SettlesLaw
-sessions_settle shape session fits =
-    let job = slice_get session.jobs session.driver.job in
-    stands_unless session.client.cut (verb_of shape session.client session.client.call)
-    (is_some (driver_next session.jobs session.driver))
-    (verb_runs shape session.client session.client.call ∙ fits.stands ∙ sym (call_is session.driver job))
-
--- where a session has ended, no call runs and no job is left
-ended_rests : (shape : Shape) (session : SessionState) → SessionFits shape session → has_ended session ≡ true
-    → (is_running session.client.call ≡ false) × (slice_get session.jobs session.driver.job ≡ None)
-ended_rests shape session fits e =
-    let job = slice_get session.jobs session.driver.job in
-    let over = none_of job (ap not (sym (call_is session.driver job)) ∙ e) in
-    (fits.stands ∙ ap (λ (o : Option Job). is_some o) over, over)
-
-no_verb_unless : (cut : Bool) (verb : Option (VerbAt Field)) → is_some verb ≡ false
-    → (if cut then None else verb) ≡ None
-no_verb_unless true verb e = refl
-no_verb_unless false None e = refl
-no_verb_unless false (Some verb) e = absurd (false≢true (sym e))
-
-pub session_cut_ends : SessionCutLaw
-session_cut_ends shape session fits =
-    let IsCut : SessionState → Type 0 = λ (s : SessionState). SessionFits shape s × (session_left shape s ≡ 0)
-    × (session_verb shape s ≡ None) in
-    by_test IsCut (has_ended session) session (record session { client = client_cut session.client })
-    (λ e. let r = ended_rests shape session fits e in (
-      fits,
-      rests_left shape session r.0 r.1,
-      no_verb_unless session.client.cut (verb_of shape session.client session.client.call)
-          (verb_runs shape session.client session.client.call ∙ r.0),
-    ))
-    (λ e. (
-      record {
-        client = fits.client;
-        jobs = fits.jobs;
-        driver = fits.driver;
-        runs = fits.runs;
-        stands = fits.stands;
-      },
-      refl,
-      refl,
-    ))
+    pub session_word : (session : SessionState) (verb : VerbAt Field) (found : ℕ) → SessionFits shape session
+        → session_verb shape session ≡ Some verb
+        → SessionFits shape (session_after shape session found)
+        × (session_left shape (session_after shape session found) < session_left shape session)
+    session_word session verb found fits e =
+        by_medic session verb found
+        (λ s. SessionFits shape s × (session_left shape s < session_left shape session)) e
+        (λ none stands.
+        let after = call_taken shape session found in
+        subst (λ medic. SessionFits shape after × (session_left shape after < left_by shape session medic)) (sym none)
+        (call_word session verb found fits stands))
+        (λ place is.
+        let medic = medic_after shape session.client.worker place found in
+        let after = treated session medic in
+        subst (λ m. SessionFits shape after × (session_left shape after < left_by shape session m)) (sym is)
+        (medic_word session place found fits is medic
+        (falls_law shape session.client.worker limits place found (subst (MedicStands shape) is fits.medic).1)))

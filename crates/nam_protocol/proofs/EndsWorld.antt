@@ -1,7 +1,7 @@
 -- A world's verbs to come fall with each turn, and so each simulated run reaches its end.
 use Rattle.std.proofs.Common.{◌≡◌, ℕ, zero, suc, ◌+◌, ◌-◌, ◌<◌, ◌≤◌, List, [], ◌∷◌, length, refl, sym, ◌∙◌, ap, subst}
 use Rattle.std.proofs.Common.{arith, inl, inr, ◌⊎◌, Bool, true, false, Option, Some, None}
-use Rattle.std.specs.Prelude.{◌==◌, ◌||◌, map, slice_get, slice_set, option_map, is_some, IsSome}
+use Rattle.std.specs.Prelude.{◌==◌, ◌||◌, if◌then◌else◌, map, slice_get, slice_set, option_map, is_some, IsSome}
 use Rattle.std.specs.List.{AllByRecursion, list_any}
 use Rattle.std.proofs.lemmas.Bool.{false≢true}
 use Rattle.std.proofs.lemmas.List.{length-set, length-map}
@@ -18,16 +18,18 @@ use Rattle.nam_protocol.specs.declared.session.Job.{Job}
 use Rattle.nam_protocol.specs.declared.session.SessionState.{SessionState}
 use Rattle.nam_protocol.specs.Session.{session_verb, session_after, session_cut}
 use Rattle.nam_protocol.specs.World.{World, Turn, Step, Cut, session_of, with_session, verb_in}
-use Rattle.nam_protocol.specs.World.{step_by, step_of, step, cut_of, cut, after_turn, new_sessions, HasNoVerb, HasEnded}
-use Rattle.nam_protocol.specs.Schedule.{Run, Owned, Simulated, numbers_from, turn_by, turn_on, turn_of}
+use Rattle.nam_protocol.specs.World.{step_by, step_of, step, cut_of, cut, after_turn, is_cut, new_sessions, HasNoVerb}
+use Rattle.nam_protocol.specs.World.{HasEnded}
+use Rattle.nam_protocol.specs.Schedule.{Run, Owned, Simulated, numbers_from, line_of, turn_by, turn_on, turn_of}
 use Rattle.nam_protocol.specs.Schedule.{after_workers, after_round, after_rounds, scheduled, jobs_of, all_jobs, opened}
 use Rattle.nam_protocol.specs.Schedule.{is_live, until_ended, run_to_end}
 use Rattle.nam_protocol.specs.Left.{session_left}
 use Rattle.nam_protocol.specs.SessionFits.{OpsFit, JobFits, SessionFits}
-use Rattle.nam_protocol.specs.EndsLaw.{sessions_left, world_left, WorldFits, worker_in, TurnLaw}
+use Rattle.nam_protocol.specs.EndsLaw.{sessions_left, world_left, WorldFits, IsTurn, TurnLaw}
 use Rattle.nam_protocol.specs.EndsLaw.{lists_bound, EndsLaw}
 use Rattle.nam_protocol.proofs.Rounds.{rounds_rest, simulated_once}
-use Rattle.nam_protocol.proofs.EndsSession.{nth_holds, new_session_ends, session_word, session_cut_ends}
+use Rattle.nam_protocol.proofs.EndsSession.{nth_holds, new_session_ends, session_word}
+use Rattle.nam_protocol.proofs.EndsSettled.{session_cut_ends}
 
 -- 1. One session of a world's
 
@@ -53,28 +55,31 @@ module _ (shape : Shape) where
 
   -- 2. A turn
 
-  -- a world follows another: it has as many sessions, which fit, and no more verbs to come; it has fewer where this
-  -- verb
-  -- was to come
-  record Follows (verb : Option (VerbAt Field)) (before after : World) : Type 0 where
+  -- a world follows another: it has as many sessions, which fit, and no more verbs to come; it has fewer where it
+  -- turned
+  record Follows (Turned : Type 0) (before after : World) : Type 0 where
     fits : WorldFits shape after
     many : length after.sessions ≡ length before.sessions
     within : world_left shape after ≤ world_left shape before
-    falls : IsSome verb → world_left shape after < world_left shape before
+    falls : Turned → world_left shape after < world_left shape before
 
-  rests : (verb : Option (VerbAt Field)) (world : World) → WorldFits shape world → verb ≡ None
-      → Follows verb world world
-  rests None world fits e =
-      record { fits = fits; many = refl; within = omega arith; falls = λ some. absurd (false≢true some) }
-  rests (Some verb) world fits e = absurd (cc)
+  abbrev HasVerb : Option (VerbAt Field) → Type 0
+  HasVerb verb = IsSome verb
+
+  rests : (world : World) → WorldFits shape world → Follows (HasVerb None) world world
+  rests world fits = record { fits = fits; many = refl; within = omega arith; falls = λ some. absurd (false≢true some) }
+
+  follows_if : (A B : Type 0) (before after : World) → (A → B) → Follows B before after → Follows A before after
+  follows_if A B before after holds f =
+      record { fits = f.fits; many = f.many; within = f.within; falls = λ a. f.falls (holds a) }
 
   -- a session gave way to one with no more verbs to come
-  replaced : (verb : Option (VerbAt Field)) (world : World) (words : List ℕ) (worker : ℕ) (old new : SessionState)
+  replaced : (Turned : Type 0) (world : World) (words : List ℕ) (worker : ℕ) (old new : SessionState)
       → WorldFits shape world → session_of world worker ≡ Some old → SessionFits shape new
       → session_left shape new ≤ session_left shape old
-      → (IsSome verb → session_left shape new < session_left shape old)
-      → Follows verb world (with_session (record world { words = words }) worker new)
-  replaced verb world words worker old new fits here is within falls =
+      → (Turned → session_left shape new < session_left shape old)
+      → Follows Turned world (with_session (record world { words = words }) worker new)
+  replaced Turned world words worker old new fits here is within falls =
       let sum = set_left world.sessions (worker - 1) old new here in
       record {
         fits = set_fits world.sessions (worker - 1) new fits is;
@@ -89,41 +94,35 @@ module _ (shape : Shape) where
 
     step_by_follows : (session : SessionState) → session_of world worker ≡ Some session
         → (verb : Option (VerbAt Field)) → session_verb shape session ≡ verb
-        → Follows verb world (step_by shape world worker session verb)
-    step_by_follows session here None e = rests None world fits refl
+        → Follows (HasVerb verb) world (step_by shape world worker session verb)
+    step_by_follows session here None e = rests world fits
     step_by_follows session here (Some verb) e =
         let there = verb_there shape verb in
         let w = session_word shape limits session verb (found_by world.words there) (session_fits session here) e in
-        replaced (Some verb) world (after_verb world.words there) worker session
+        replaced (HasVerb (Some verb)) world (after_verb world.words there) worker session
         (session_after shape session (found_by world.words there)) fits here w.0 (let l = w.1 in omega arith)
         (λ some. w.1)
 
     step_follows : (o : Option SessionState) → session_of world worker ≡ o
-        → Follows (verb_in shape o) world (step_of shape world worker o)
-    step_follows None here = rests None world fits refl
+        → Follows (HasVerb (verb_in shape o)) world (step_of shape world worker o)
+    step_follows None here = rests world fits
     step_follows (Some session) here = step_by_follows session here (session_verb shape session) refl
 
-    -- a session with a verb to come has one left at least
-    has_left : (session : SessionState) (verb : Option (VerbAt Field)) → SessionFits shape session
-        → session_verb shape session ≡ verb → IsSome verb
-        → 0 < session_left shape session
-    has_left session None is e some = absurd (false≢true some)
-    has_left session (Some verb) is e some =
-        let w = session_word shape limits session verb 0 is e in let l = w.1 in omega arith
+    -- one that is stopped has fewer where it was not cut before
+    abbrev IsStopped : Option SessionState → Type 0
+    IsStopped o = HasVerb (verb_in shape o) × (is_cut o ≡ false)
 
     cut_follows : (o : Option SessionState) → session_of world worker ≡ o
-        → Follows (verb_in shape o) world (cut_of world worker o)
-    cut_follows None here = rests None world fits refl
+        → Follows (IsStopped o) world (cut_of shape world worker o)
+    cut_follows None here =
+        follows_if (IsStopped None) (HasVerb None) world world (λ stopped. stopped.0) (rests world fits)
     cut_follows (Some session) here =
-        let is = session_fits session here in
-        let c = session_cut_ends shape session is in
-        let none = c.1 in
-        replaced (session_verb shape session) world world.words worker session (session_cut session) fits here c.0
-        (omega arith)
-        (λ some. let l = has_left session (session_verb shape session) is refl some in omega arith)
+        let c = session_cut_ends shape limits session (session_fits session here) in
+        replaced (IsStopped (Some session)) world world.words worker session (session_cut shape.form session) fits here
+        c.fits c.within (λ stopped. c.falls stopped.1 stopped.0)
 
   turn_follows : FitsLimits shape → (world : World) (turn : Turn) → WorldFits shape world
-      → Follows (verb_in shape (session_of world (worker_in turn))) world (after_turn shape world turn)
+      → Follows (IsTurn shape world turn) world (after_turn shape world turn)
   turn_follows limits world (Step worker) fits = step_follows limits world fits worker (session_of world worker) refl
   turn_follows limits world (Cut worker) fits = cut_follows limits world fits worker (session_of world worker) refl
 
@@ -146,26 +145,40 @@ module _ (shape : Shape) (limits : FitsLimits shape) where
   abbrev verb_at : Run → ℕ → Option (VerbAt Field)
   verb_at run worker = verb_in shape (session_of run.world worker)
 
-  turn_by_follows : (run : Run) (worker : ℕ) (line : Option Line) → WorldFits shape run.world
-      → Follows shape (verb_at run worker) run.world (turn_by shape run worker line).world
-  turn_by_follows run worker None fits =
+  abbrev Goes : Option (VerbAt Field) → Run → Run → Type 0
+  Goes verb before after = Follows shape (HasVerb shape verb) before.world after.world
+
+  -- a worker whose line is asked is not cut
+  uncut_asks : (cut : Bool) (line : Option Line) (asked : Line) → (if cut then None else line) ≡ Some asked
+      → cut ≡ false
+  uncut_asks true line asked e = absurd (cc)
+  uncut_asks false line asked e = refl
+
+  turn_by_follows : (run : Run) (worker : ℕ) (line : Option Line) → line_of run worker ≡ line
+      → WorldFits shape run.world → Goes (verb_at run worker) run (turn_by shape run worker line)
+  turn_by_follows run worker None e fits =
       step_follows shape limits run.world fits worker (session_of run.world worker) refl
-  turn_by_follows run worker (Some line) fits =
-      either (Follows shape (verb_at run worker) run.world) (refuses_next line) (cut run.world worker)
-      (step shape run.world worker)
-      (cut_follows shape limits run.world fits worker (session_of run.world worker) refl)
-      (step_follows shape limits run.world fits worker (session_of run.world worker) refl)
+  turn_by_follows run worker (Some line) e fits =
+      let session = session_of run.world worker in
+      let uncut = uncut_asks (is_cut session) (slice_get run.lines (worker - 1)) line e in
+      either (Follows shape (HasVerb shape (verb_at run worker)) run.world) (refuses_next line)
+      (cut shape run.world worker) (step shape run.world worker)
+      (follows_if shape (HasVerb shape (verb_at run worker))
+      (HasVerb shape (verb_at run worker) × (is_cut session ≡ false)) run.world (cut shape run.world worker)
+      (λ some. (some, uncut))
+      (cut_follows shape limits run.world fits worker session refl))
+      (step_follows shape limits run.world fits worker session refl)
 
   turn_on_follows : (run : Run) (worker : ℕ) (verb : Option (VerbAt Field)) → WorldFits shape run.world
       → verb_at run worker ≡ verb
-      → Follows shape verb run.world (turn_on shape run worker (option_map (verb_there shape) verb)).world
-  turn_on_follows run worker None fits e = rests shape None run.world fits refl
+      → Goes verb run (turn_on shape run worker (option_map (verb_there shape) verb))
+  turn_on_follows run worker None fits e = rests shape run.world fits
   turn_on_follows run worker (Some verb) fits e =
-      subst (λ v. Follows shape v run.world (turn_by shape run worker (slice_get run.lines (worker - 1))).world) e
-      (turn_by_follows run worker (slice_get run.lines (worker - 1)) fits)
+      subst (λ v. Goes v run (turn_by shape run worker (line_of run worker))) e
+      (turn_by_follows run worker (line_of run worker) refl fits)
 
   turn_of_follows : (run : Run) (worker : ℕ) → WorldFits shape run.world
-      → Follows shape (verb_at run worker) run.world (turn_of shape run worker).world
+      → Goes (verb_at run worker) run (turn_of shape run worker)
   turn_of_follows run worker fits = turn_on_follows run worker (verb_at run worker) fits refl
 
   -- after turns of some workers: fewer verbs are to come, or none of them has one
@@ -178,7 +191,7 @@ module _ (shape : Shape) (limits : FitsLimits shape) where
 
   after_one : (run : Run) (worker : ℕ) (workers : List ℕ) (after : Run) (verb : Option (VerbAt Field))
       → verb_at run worker ≡ verb
-      → Follows shape verb run.world (turn_of shape run worker).world
+      → Goes verb run (turn_of shape run worker)
       → AfterTurns (turn_of shape run worker) after workers
       → AfterTurns run after (worker ∷ workers)
   after_one run worker workers after (Some verb) e f later = record {

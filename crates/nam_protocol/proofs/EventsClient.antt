@@ -4,6 +4,9 @@ use Rattle.std.proofs.Common.{arith, Bool, true, false, Option, Some, None}
 use Rattle.std.specs.Prelude.{if◌then◌else◌, is_some, IsSome}
 use Rattle.std.proofs.lemmas.Bool.{false≢true}
 use Rattle.si_model.specs.declared.log.Event.{Event}
+use Rattle.si_model.specs.declared.log.Event.TheVariants.{Finished}
+use Rattle.si_model.specs.declared.log.Finish.{Finish}
+use Rattle.si_model.specs.declared.log.Outcome.TheVariants as outcome
 use Rattle.si_model.specs.declared.log.Stamp.{Stamp}
 use Rattle.si_model.specs.declared.log.Log.{Log}
 use Rattle.si_model.specs.Rows.{key_at, writes_key}
@@ -30,7 +33,7 @@ use Rattle.nam_protocol.specs.Txn.{Stepped}
 use Rattle.nam_protocol.specs.declared.txn.TxnCall.{TxnCall}
 use Rattle.nam_protocol.specs.declared.txn.TxnPoint.{TxnPoint}
 use Rattle.nam_protocol.specs.declared.txn.TxnPoint.TheVariants.{Committing}
-use Rattle.nam_protocol.specs.declared.txn.CommitPoint.TheVariants.{Freeing}
+use Rattle.nam_protocol.specs.declared.txn.CommitPoint.TheVariants.{Freeing, Ending}
 use Rattle.nam_protocol.specs.declared.txn.TxnAnswer.{TxnAnswer}
 use Rattle.nam_protocol.specs.declared.scan.ScanPoint.{ScanPoint}
 use Rattle.nam_protocol.specs.declared.scan.ScanAnswer.{ScanAnswer}
@@ -46,11 +49,13 @@ use Rattle.nam_protocol.specs.Operations.{own_value}
 use Rattle.nam_protocol.specs.TxnCalls.{txn_ask, txn_after, taken_at, taken_now}
 use Rattle.nam_protocol.specs.Scan.{scan_skip, scan_read, scan_after, position_of}
 use Rattle.nam_protocol.specs.Log.{with_locks}
-use Rattle.nam_protocol.specs.Telling.{new_locks, on_call, stepped}
+use Rattle.nam_protocol.specs.Telling.{new_locks, on_call, stepped, with_commit, with_end}
 use Rattle.nam_protocol.specs.ScanCall.{with_gathered, on_skip, on_scan}
 use Rattle.nam_protocol.specs.Client.{with_call, ask_txn, ask_scan, client_ask, on_begin, on_seek, on_move, on_snap}
 use Rattle.nam_protocol.specs.Client.{on_collect, take_txn, take_scan, call_after, after_call}
-use Rattle.nam_protocol.specs.CutClient.{cut_in_txn, cut_open, left_open, cut_move, closed_call}
+use Rattle.nam_protocol.specs.CutClient.{cut_in_txn, cut_open, left_open, cut_move, closed_call, finish_of}
+use Rattle.nam_protocol.specs.CutClient.{has_committed, finished_in_txn, finished_call, closed_client}
+use Rattle.nam_protocol.specs.CutClient.{into_log}
 use Rattle.nam_protocol.specs.ClientFits.{CallPointFits, OpenPointFits}
 use Rattle.nam_protocol.specs.ClientEvents.{ClientLists, NeedsOpen, closing, ClientEventsLaw}
 use Rattle.nam_protocol.specs.declared.txn.TxnAnswer.TheVariants as txn_answer
@@ -252,6 +257,7 @@ one_more events a = one_event (length events) events a (omega arith)
 cut_in_txn_lists : (client : ClientState) (attempt : Open) (at : TxnPoint)
     → length (cut_in_txn client attempt at).log.events ≤ length client.log.events + 2
 cut_in_txn_lists client attempt (Committing (Freeing nth)) = two_events client.log.events _ _
+cut_in_txn_lists client attempt (Committing Ending) = two_events client.log.events _ _
 cut_in_txn_lists client attempt at = up_to_two client.log.events _
 
 cut_open_lists : (client : ClientState) (at : TxnPoint) (opened : Option Open)
@@ -264,30 +270,70 @@ left_open_lists : (client : ClientState) (opened : Option Open)
 left_open_lists client None = omega arith
 left_open_lists client (Some attempt) = one_more client.log.events _
 
-up_to_one : (some : Bool) (m n : ℕ) → m ≤ n + (if some then 1 else 0) → m ≤ n + 1
-up_to_one true m n l = l
-up_to_one false m n l = omega arith
-
 cut_move_lists : (client : ClientState) (table key bucket : ℕ) (stamp : Option Stamp)
     → length (cut_move client table key bucket stamp).log.events ≤ length client.log.events + 1
 cut_move_lists client table key bucket None = one_more client.log.events _
 cut_move_lists client table key bucket (Some stamp) = one_more client.log.events _
 
+up_to_one : (some : Bool) (m n : ℕ) → m ≤ n + (if some then 1 else 0) → m ≤ n + 1
+up_to_one true m n l = l
+up_to_one false m n l = omega arith
+
+finished_lists : (client : ClientState) (at : TxnPoint) (how : Finish) (opened : Option Open)
+    → length (finished_in_txn client at how opened).log.events ≤ length client.log.events + 1
+finished_lists client at how None = omega arith
+finished_lists client at how (Some attempt) =
+    either (λ (c : ClientState). length c.log.events ≤ length client.log.events + 1)
+    (has_committed at how) (with_commit client attempt (attempt.state.last + 1))
+    (with_end client attempt outcome.Cut) (one_more client.log.events _) (one_more client.log.events _)
+
 module _ (shape : Shape) where
-  pub closed_lists : (client : ClientState) (now : Option (Now CallPoint Answer))
-      → length (closed_call shape client now).log.events ≤ length client.log.events + closing client.txn now
-  closed_lists client None = left_open_lists client client.txn
-  closed_lists client (Some (Over end)) = left_open_lists client client.txn
-  closed_lists client (Some (At (Beginning txn nth at))) = one_more client.log.events _
-  closed_lists client (Some (At (InTxn at))) = cut_open_lists client at client.txn
-  closed_lists client (Some (At (Scanning table low high at))) =
+  call_lists : (client : ClientState) (now : Option (Now CallPoint Answer))
+      → length (closed_call shape client now).log.events ≤ length client.log.events + closing None client.txn now
+  call_lists client None = let l = left_open_lists client client.txn in omega arith
+  call_lists client (Some (Over end)) = let l = left_open_lists client client.txn in omega arith
+  call_lists client (Some (At (Beginning txn nth at))) = one_more client.log.events _
+  call_lists client (Some (At (InTxn at))) = cut_open_lists client at client.txn
+  call_lists client (Some (At (Scanning table low high at))) =
       up_to_one (is_some client.txn) _ _ (left_open_lists client client.txn)
-  closed_lists client (Some (At (Seeking table key passed))) = one_more client.log.events _
-  closed_lists client (Some (At (Moving table key position at))) =
+  call_lists client (Some (At (Seeking table key passed))) = one_more client.log.events _
+  call_lists client (Some (At (Moving table key position at))) =
       let place = place_of shape table position in
       cut_move_lists client table key (bucket_of shape place.row) (move_claimed place at)
-  closed_lists client (Some (At (Snapping bucket at))) = one_more client.log.events _
-  closed_lists client (Some (At (Collecting bucket prefix seen at))) = one_more client.log.events _
+  call_lists client (Some (At (Snapping bucket at))) = one_more client.log.events _
+  call_lists client (Some (At (Collecting bucket prefix seen at))) = one_more client.log.events _
+
+  stopped_lists : (client : ClientState) (how : Finish) (now : Option (Now CallPoint Answer))
+      → length (finished_call shape client how now).log.events + 1
+      ≤ length client.log.events + closing (Some how) client.txn now
+  stopped_lists client how None = let l = call_lists client None in omega arith
+  stopped_lists client how (Some (Over end)) = let l = call_lists client (Some (Over end)) in omega arith
+  stopped_lists client how (Some (At (Beginning txn nth at))) =
+      let l = call_lists client (Some (At (Beginning txn nth at))) in omega arith
+  stopped_lists client how (Some (At (InTxn at))) = let l = finished_lists client at how client.txn in omega arith
+  stopped_lists client how (Some (At (Scanning table low high at))) =
+      let l = call_lists client (Some (At (Scanning table low high at))) in omega arith
+  stopped_lists client how (Some (At (Seeking table key passed))) =
+      let l = call_lists client (Some (At (Seeking table key passed))) in omega arith
+  stopped_lists client how (Some (At (Moving table key position at))) =
+      let l = call_lists client (Some (At (Moving table key position at))) in omega arith
+  stopped_lists client how (Some (At (Snapping bucket at))) =
+      let l = call_lists client (Some (At (Snapping bucket at))) in omega arith
+  stopped_lists client how (Some (At (Collecting bucket prefix seen at))) =
+      let l = call_lists client (Some (At (Collecting bucket prefix seen at))) in omega arith
+
+  closed_lists : (client : ClientState) (finish : Option Finish)
+      → length (closed_client shape client finish client.call).log.events
+      ≤ length client.log.events + closing finish client.txn client.call
+  closed_lists client None = call_lists client client.call
+  closed_lists client (Some how) =
+      let l = stopped_lists client how client.call in
+      let m = one_more (finished_call shape client how client.call).log.events (Finished how) in
+      omega arith
+
+  pub log_lists : (client : ClientState) → length (into_log shape client).events
+      ≤ length client.log.events + closing (finish_of client.medic) client.txn client.call
+  log_lists client = closed_lists client (finish_of client.medic)
 
 pub client_events : ClientEventsLaw
 client_events shape = record {
@@ -296,5 +342,5 @@ client_events shape = record {
       (after_call shape client now found)) (sym e)
       (word_lists (length client.log.events) shape client (omega arith) place found p);
   asked = λ client call some. ask_lists (length client.log.events) shape client (omega arith) call some;
-  closed = λ client. closed_lists shape client client.call;
+  closed = log_lists shape;
 }

@@ -1,12 +1,10 @@
 -- A session lists no more events than the room for its jobs has.
-use Rattle.std.proofs.Common.{◌≡◌, ℕ, ◌+◌, ◌≤◌, List, length, refl, sym, ◌∙◌, ap}
-use Rattle.std.proofs.Common.{arith, true, Option, Some, None}
+use Rattle.std.proofs.Common.{◌≡◌, ℕ, ◌+◌, ◌≤◌, List, ◌∷◌, length, drop, refl, sym, ◌∙◌, ap}
+use Rattle.std.proofs.Common.{arith, true, false, Option, Some, None}
 use Rattle.std.specs.Prelude.{slice_get, is_some}
-use Rattle.si_model.specs.declared.op.Op.{Op}
 use Rattle.nam_verbs.specs.declared.now.Now.{Now}
 use Rattle.nam_verbs.specs.declared.now.Now.TheVariants.{At, Over}
 use Rattle.nam_catalog.specs.declared.shape.Shape.{Shape}
-use Rattle.nam_protocol.specs.declared.txn.TxnPoint.{TxnPoint}
 use Rattle.nam_protocol.specs.declared.client.Answer.{Answer}
 use Rattle.nam_protocol.specs.declared.client.CallPoint.{CallPoint}
 use Rattle.nam_protocol.specs.declared.client.CallPoint.TheVariants.{Beginning, InTxn, Scanning, Seeking, Moving}
@@ -21,18 +19,22 @@ use Rattle.nam_protocol.specs.Client.{client_ask, client_after}
 use Rattle.nam_protocol.specs.Session.{taken}
 use Rattle.nam_protocol.specs.Session.{session_log}
 use Rattle.nam_protocol.specs.Driver.{place_call, job_call, driver_next}
-use Rattle.nam_protocol.specs.Left.{room_for}
-use Rattle.nam_protocol.specs.SessionFits.{PlaceRuns}
-use Rattle.nam_protocol.specs.SessionFits.{NowRuns, ops_of, SessionFits}
-use Rattle.nam_protocol.specs.RoomLaw.{DriverCounts, room_left}
+use Rattle.nam_protocol.specs.Left.{Room, room_for}
+use Rattle.nam_protocol.specs.CutClient.{finish_of}
+use Rattle.nam_protocol.specs.declared.session.DriverState.{DriverState}
+use Rattle.si_model.specs.declared.log.Finish.{Finish}
+use Rattle.nam_protocol.specs.SessionFits.{is_running, SessionFits}
+use Rattle.nam_protocol.specs.RoomLaw.{DriverCounts, driver_room, room_left}
 use Rattle.nam_protocol.specs.SessionKeeps.{is_asking}
 use Rattle.nam_protocol.specs.ClientEvents.{listed, is_open_after, NowLists, closing}
 use Rattle.nam_protocol.specs.EventsLaw.{EventsLaw}
 use Rattle.nam_protocol.proofs.OpensDriver.{asks_after, is_paid, one, one_at_most}
+use Rattle.nam_protocol.proofs.EndsDriver.{drop_from}
+use Rattle.nam_protocol.proofs.EndsSession.{some_of}
 use Rattle.nam_protocol.proofs.GoesSession.{NextHolds, SessionKeeps, reached_kept}
 use Rattle.nam_protocol.proofs.RunsClient.{NowDoes}
 use Rattle.nam_protocol.proofs.RoomDriver.{room_suffices}
-use Rattle.nam_protocol.proofs.EventsClient.{closed_lists}
+use Rattle.nam_protocol.proofs.EventsClient.{log_lists}
 use Rattle.nam_protocol.proofs.RunsClient.{IsAnswered}
 
 module _ (shape : Shape) (whole : ℕ) where
@@ -89,39 +91,73 @@ module _ (shape : Shape) (whole : ℕ) where
         let client = client_ask shape session.client (place_call job session.driver.nth session.driver.place) in
         next_holds session job holds s.here client client.call s.does s.lists;
     cut = λ session holds. record { counts = holds.counts; opened = holds.opened; within = holds.within };
+    treated = λ session medic holds. record { counts = holds.counts; opened = holds.opened; within = holds.within };
   }
 
   -- 2. The log at the end
 
-  asking_in_txn : (place : DriverPoint) (ops : List Op) (txn : Option Open) (at : TxnPoint)
-      → PlaceRuns place ops txn (InTxn at) → is_asking place ≡ true
-  asking_in_txn ToBegin ops txn at runs = absurd runs
-  asking_in_txn (ToAsk nth) ops txn at runs = refl
-  asking_in_txn (ToTidy keys nth again retry) ops txn at runs = absurd runs
-  asking_in_txn (ToCollect bucket keys nth retry) ops txn at runs = absurd runs
+  closing_most : (finish : Option Finish) (txn : Option Open) (place : CallPoint)
+      → closing finish txn (Some (At place)) ≤ 2
+  closing_most finish txn (InTxn at) = omega arith
+  closing_most finish txn (Beginning t n at) = let l = one_at_most (is_some finish) in omega arith
+  closing_most finish txn (Scanning table low high at) = let l = one_at_most (is_some finish) in omega arith
+  closing_most finish txn (Seeking table key passed) = let l = one_at_most (is_some finish) in omega arith
+  closing_most finish txn (Moving table key position at) = let l = one_at_most (is_some finish) in omega arith
+  closing_most finish txn (Snapping bucket at) = let l = one_at_most (is_some finish) in omega arith
+  closing_most finish txn (Collecting bucket prefix seen at) = let l = one_at_most (is_some finish) in omega arith
 
-  -- what closing the client lists is paid by the open attempt, and by one event
-  closing_paid : (place : DriverPoint) (ops : List Op) (txn : Option Open) (now : Option (Now CallPoint Answer))
-      → NowRuns place ops txn now
-      → closing txn now ≤ one (is_asking place) + 1
-  closing_paid place ops txn None runs = let l = one_at_most (is_some txn) in omega arith
-  closing_paid place ops txn (Some (Over end)) runs = let l = one_at_most (is_some txn) in omega arith
-  closing_paid place ops txn (Some (At (InTxn at))) runs =
-      let e = ap one (asking_in_txn place ops txn at runs) in omega arith
-  closing_paid place ops txn (Some (At (Beginning t n at))) runs = omega arith
-  closing_paid place ops txn (Some (At (Scanning table low high at))) runs = omega arith
-  closing_paid place ops txn (Some (At (Seeking table key passed))) runs = omega arith
-  closing_paid place ops txn (Some (At (Moving table key position at))) runs = omega arith
-  closing_paid place ops txn (Some (At (Snapping bucket at))) runs = omega arith
-  closing_paid place ops txn (Some (At (Collecting bucket prefix seen at))) runs = omega arith
+  -- the call that the driver has asked has room still
+  abbrev to_pay : SessionState → ℕ
+  to_pay session = (room_left shape session.jobs session.driver).attempts
+      + (room_left shape session.jobs session.driver).tidies + one (is_asking session.driver.place)
+
+  abbrev place_to_pay : DriverState → Job → List Job → DriverPoint → ℕ
+  place_to_pay driver job jobs place =
+      (driver_room shape (record driver { place = place }) (job ∷ jobs)).attempts
+      + (driver_room shape (record driver { place = place }) (job ∷ jobs)).tidies + one (is_asking place)
+
+  place_pays : (driver : DriverState) (job : Job) (jobs : List Job) (place : DriverPoint)
+      → 1 ≤ place_to_pay driver job jobs place
+  place_pays driver job jobs ToBegin = omega arith
+  place_pays driver job jobs (ToAsk nth) = omega arith
+  place_pays driver job jobs (ToTidy keys nth false retry) = omega arith
+  place_pays driver job jobs (ToTidy keys nth true retry) = omega arith
+  place_pays driver job jobs (ToCollect bucket keys nth retry) = omega arith
+
+  call_pays : (session : SessionState) (job : Job) → slice_get session.jobs session.driver.job ≡ Some job
+      → 1 ≤ to_pay session
+  call_pays session job here =
+      let driver = session.driver in
+      let rest = drop (driver.job + 1) session.jobs in
+      let same = ap (driver_room shape driver) (drop_from session.jobs driver.job job here) in
+      let a = ap (λ (r : Room). r.attempts) same in
+      let t = ap (λ (r : Room). r.tidies) same in
+      let l = place_pays driver job rest driver.place in
+      omega arith
+
+  -- what closing the client lists is paid by the call that runs or by the open attempt, and by one event
+  closing_paid : (session : SessionState) → Holds session → (now : Option (Now CallPoint Answer))
+      → is_running now ≡ is_some (slice_get session.jobs session.driver.job)
+      → closing (finish_of session.client.medic) session.client.txn now ≤ to_pay session + 1
+  closing_paid session holds None runs =
+      let e = ap one holds.opened in
+      let l = one_at_most (is_some (finish_of session.client.medic)) in
+      omega arith
+  closing_paid session holds (Some (Over end)) runs =
+      let e = ap one holds.opened in
+      let l = one_at_most (is_some (finish_of session.client.medic)) in
+      omega arith
+  closing_paid session holds (Some (At place)) runs =
+      let job = some_of (slice_get session.jobs session.driver.job) (sym runs) in
+      let p = call_pays session job.0 job.1 in
+      let l = closing_most (finish_of session.client.medic) session.client.txn place in
+      omega arith
 
   log_within : (session : SessionState) → SessionFits shape session → Holds session
       → length (session_log shape session).events ≤ whole + 1
   log_within session fits holds =
-      let closed = closed_lists shape session.client session.client.call in
-      let paid = closing_paid session.driver.place
-      (ops_of (slice_get session.jobs session.driver.job)) session.client.txn
-      session.client.call fits.runs in
+      let closed = log_lists shape session.client in
+      let paid = closing_paid session holds session.client.call fits.stands in
       let h = holds.within in
       omega arith
 

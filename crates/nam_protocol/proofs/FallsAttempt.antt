@@ -40,7 +40,7 @@ use Rattle.nam_protocol.specs.Operations.{op_path}
 use Rattle.nam_protocol.specs.Txn.{at, over, with_op, with_own, ask_op, on_value, on_find, on_read, record_of}
 use Rattle.nam_protocol.specs.Txn.{with_claim, on_claim}
 use Rattle.nam_protocol.specs.TxnCalls.{txn_after}
-use Rattle.nam_protocol.specs.Bound.{ops_bound, writes_bound, verb_bound}
+use Rattle.nam_protocol.specs.Bound.{ops_bound, writes_bound, intent_bound, verb_bound}
 use Rattle.nam_protocol.specs.TxnFits.{commit_bound}
 use Rattle.nam_protocol.specs.AttemptLaw.{KeysAsked, HasAsked, has_passed, AnswerAsks, Asks, IsOfOp}
 
@@ -98,6 +98,8 @@ pub attempt_bound : (shape : Shape) (state : TxnState) (ops : List Op) → HasAs
 attempt_bound shape state ops asked =
     let keys = ap (writes_bound shape) asked.written in
     let most = ap (λ (ks : List Key). length ks) (guards_as_asked state ops asked) in
+    let intent = ap (λ (ks : List Key). intent_bound shape ks (length (unwritten state.writes state.guards))) asked.written
+    ∙ ap (λ n. intent_bound shape (written_keys ops) n) most in
     omega arith
 
 -- 3. Operations

@@ -20,6 +20,7 @@ use Rattle.si_model.proofs.ListLemmas.{All-append, All-map}
 use Rattle.nam_verbs.proofs.TestLemmas.{by_test}
 use Rattle.nam_catalog.specs.declared.bounds.TheConstants.{MOST_KEYS}
 use Rattle.nam_catalog.specs.declared.shape.Table.{Table}
+use Rattle.nam_layout.specs.declared.field.Place.{Place}
 use Rattle.nam_catalog.specs.declared.shape.Shape.{Shape}
 use Rattle.nam_catalog.specs.Fits.{FitsLimits}
 use Rattle.nam_catalog.specs.Tables.{widths_of}
@@ -33,7 +34,8 @@ use Rattle.nam_protocol.specs.declared.txn.Record.{Record}
 use Rattle.nam_protocol.specs.declared.txn.TxnState.{TxnState}
 use Rattle.nam_protocol.specs.Operations.{holding, own_value}
 use Rattle.nam_protocol.specs.Txn.{with_claim}
-use Rattle.nam_protocol.specs.Commit.{record_in, commit_keys, records_of, places, record_place, no_record, record_at}
+use Rattle.nam_protocol.specs.Commit.{has_intents, tells_intent, record_in, commit_keys, records_of, places}
+use Rattle.nam_protocol.specs.Commit.{record_place, no_record, record_at}
 use Rattle.nam_protocol.specs.TxnFits.{is_claimed, is_used, IsPlaced, KeysFit, StateFits, OpStands}
 use Rattle.nam_protocol.proofs.KeyLemmas.{AreOnce, guarded_once, map_wrote, claimed_keys, map_claimed, claims_within}
 use Rattle.nam_protocol.proofs.KeyLemmas.{used_after, used_kept, used_now, all_filter}
@@ -349,3 +351,10 @@ module _ (shape : Shape) where
           let p = record_is_placed nth l in
           subst FitsPlace (sym (place_of_nth state.records nth ∙ p.2))
           (place_fits shape limits (record_at state nth).key.table p.0 p.1.0 p.1.1)
+
+      -- a commit tells its intent exactly in form Held
+      pub tells_by_form : 1 ≤ length state.writes → tells_intent state ≡ has_intents shape.form
+      tells_by_form some =
+          let w = writes_within in
+          let p = record_is_placed 0 (omega arith) in
+          ap (λ (p : Place). has_intents p.form) (place_of_nth state.records 0 ∙ p.2)

@@ -13,6 +13,7 @@ use Rattle.nam_calls.specs.Fits.{LockFits}
 use Rattle.nam_protocol.specs.declared.txn.CommitPoint.{CommitPoint}
 use Rattle.nam_protocol.specs.declared.txn.CommitPoint.TheVariants.{Locking, Checking, Returning, Saving, Copying}
 use Rattle.nam_protocol.specs.declared.txn.CommitPoint.TheVariants.{Installing, Publishing, Freeing}
+use Rattle.nam_protocol.specs.declared.txn.CommitPoint.TheVariants.{Listing, Counting, Deciding, Clearing, Ending}
 use Rattle.nam_protocol.specs.declared.txn.Record.{Record}
 use Rattle.nam_protocol.specs.declared.txn.TxnState.{TxnState}
 use Rattle.nam_protocol.specs.Commit.{commit_keys, records_of}
@@ -82,14 +83,19 @@ module _ (shape : Shape) (state : TxnState) (fits : StateFits shape state) where
   -- the headers and the counts are no more than the records
   places_within : (at : CommitPoint) → length state.writes ≤ length state.records → CommitPointFits shape state at
       → (length state.held ≤ length state.records) × (length state.counts ≤ length state.records)
+  places_within (Listing at) w c = let h = c.0 in let n = c.1 in (omega arith, omega arith)
   places_within (Locking at) w c = let n = c.1 in (held_within (length state.records) state.held at c.0, omega arith)
   places_within (Checking at) w c = let h = c.0 in let n = c.1 in (omega arith, omega arith)
   places_within (Returning given full) w c = let h = c.0 in let n = c.2 in (omega arith, omega arith)
+  places_within (Counting nth) w c = let h = c.0 in let n = c.1 in (omega arith, omega arith)
+  places_within Deciding w c = let h = c.0 in let n = c.1 in (omega arith, omega arith)
   places_within (Saving nth got) w c = let h = c.0 in let n = c.1 in (omega arith, omega arith)
   places_within (Copying nth old at) w c = let h = c.0 in let n = c.1 in (omega arith, omega arith)
   places_within (Installing nth at) w c = let h = c.0 in let n = c.1 in (omega arith, omega arith)
   places_within Publishing w c = let h = c.0 in let n = c.1 in (omega arith, omega arith)
   places_within (Freeing nth) w c = let h = c.0 in let n = c.1 in (omega arith, omega arith)
+  places_within (Clearing refusal) w c = let h = c.0 in let n = c.1 in (omega arith, omega arith)
+  places_within Ending w c = let h = c.0 in let n = c.1 in (omega arith, omega arith)
 
   few_places_at : (at : CommitPoint) → CommitFits shape state at → FewPlaces shape state
   few_places_at at c =

@@ -1,6 +1,8 @@
 -- Each verb is at a field of the shape.
-use Rattle.std.proofs.Common.{◌≡◌, ℕ, ◌<◌, List, Option, Some, None, length, refl, sym, ◌∙◌, subst, arith}
+use Rattle.std.proofs.Common.{true, ◌+◌, ◌*◌, ◌≤◌, ap, ◌≡◌, ℕ, ◌<◌, List, Option, Some, None, length, refl, sym, ◌∙◌}
+use Rattle.std.proofs.Common.{subst, arith}
 use Rattle.std.specs.Prelude.{slice_index}
+use Rattle.std.proofs.lemmas.Bool.{false≢true}
 use Rattle.std.proofs.lemmas.Option.{none-some, same_Some}
 use Rattle.si_model.specs.Evaluation.{op_key}
 use Rattle.nam_verbs.specs.declared.now.Now.{Now}
@@ -8,10 +10,14 @@ use Rattle.nam_verbs.specs.declared.now.Now.TheVariants.{At, Over}
 use Rattle.nam_verbs.specs.VerbAt.{VerbAt, target}
 use Rattle.nam_verbs.proofs.AddressLemmas.{reached}
 use Rattle.nam_verbs.proofs.TestLemmas.{by_test}
+use Rattle.nam_catalog.specs.declared.bounds.TheConstants.{INTENT_WORDS}
+use Rattle.nam_catalog.specs.declared.form.Form.{Form}
+use Rattle.nam_catalog.specs.declared.form.Form.TheVariants.{Narrow, Wide, Held}
 use Rattle.nam_catalog.specs.declared.shape.Shape.{Shape}
 use Rattle.nam_catalog.specs.Fits.{FitsLimits}
-use Rattle.nam_catalog.specs.Words.{words_of}
+use Rattle.nam_catalog.specs.Words.{intent_words, words_of}
 use Rattle.nam_layout.specs.declared.field.Field.{Field}
+use Rattle.nam_layout.specs.declared.field.Field.TheVariants.{Intent}
 use Rattle.nam_layout.specs.Rows.{row_of}
 use Rattle.nam_layout.specs.Address.{IsRow, IsField, address}
 use Rattle.nam_layout.specs.FieldAt.{field_at}
@@ -49,6 +55,9 @@ use Rattle.nam_protocol.specs.declared.txn.TxnPoint.TheVariants.{Finding, Readin
 use Rattle.nam_protocol.specs.declared.txn.CommitPoint.{CommitPoint}
 use Rattle.nam_protocol.specs.declared.txn.CommitPoint.TheVariants.{Locking, Checking, Returning, Saving, Copying}
 use Rattle.nam_protocol.specs.declared.txn.CommitPoint.TheVariants.{Installing, Publishing, Freeing}
+use Rattle.nam_protocol.specs.declared.txn.CommitPoint.TheVariants.{Listing, Counting, Deciding, Clearing, Ending}
+use Rattle.nam_protocol.specs.declared.txn.ListPoint.{ListPoint}
+use Rattle.nam_protocol.specs.declared.txn.ListPoint.TheVariants.{ListRow, ListKind, ListData, ListNumber, ListState}
 use Rattle.nam_protocol.specs.declared.client.Answer.{Answer}
 use Rattle.nam_protocol.specs.declared.client.CallPoint.{CallPoint}
 use Rattle.nam_protocol.specs.declared.client.CallPoint.TheVariants.{Beginning, InTxn, Scanning, Seeking, Moving}
@@ -56,7 +65,7 @@ use Rattle.nam_protocol.specs.declared.client.CallPoint.TheVariants.{Snapping, C
 use Rattle.nam_protocol.specs.declared.client.Open.{Open}
 use Rattle.nam_protocol.specs.declared.client.ClientState.{ClientState}
 use Rattle.nam_protocol.specs.Commit.{places, record_place, record_at, records_of, value_at, own_stamp, new_header}
-use Rattle.nam_protocol.specs.Commit.{commit_verb}
+use Rattle.nam_protocol.specs.Commit.{commit_verb, has_intents, list_verb, tells_intent}
 use Rattle.nam_protocol.specs.TxnCalls.{txn_verb}
 use Rattle.nam_protocol.specs.Scan.{scan_verb}
 use Rattle.nam_protocol.specs.Client.{open_verb, call_verb, verb_of}
@@ -65,6 +74,9 @@ use Rattle.nam_protocol.specs.ClientFits.{OpenFits, OpenPointFits, CallPointFits
 use Rattle.nam_protocol.specs.FieldLaw.{IsAtField, IsRowPlace, TableFieldsLaw, CommitFieldsLaw, TxnFieldsLaw}
 use Rattle.nam_protocol.specs.FieldLaw.{CallFieldsLaw, ClientFieldsLaw, WithinLaw}
 use Rattle.nam_protocol.proofs.FallsKeys.{place_of_nth, op_table, writes_within, record_is_placed, nth_fits}
+use Rattle.nam_protocol.proofs.FallsKeys.{tells_by_form}
+use Rattle.nam_protocol.proofs.FewLemmas.{few_keys}
+use Rattle.nam_protocol.specs.declared.txn.Record.{Record}
 
 -- 1. The entries of a snapshot
 
@@ -138,13 +150,55 @@ module _ (shape : Shape) (limits : FitsLimits shape) where
     lock_at are (GiveBack given found) l =
         (placed are given (let m = l.0 in let n = l.1 in omega arith)).row_is
 
+    -- a word of the intent of one of its records, and a word before the records
+    intent_size : 1 ≤ length state.writes → state.records ≡ records_of state → tells_intent state ≡ true
+        → intent_words shape.form ≡ INTENT_WORDS
+    intent_size some are tells =
+        by_form shape.form (sym (tells_by_form shape state fits are some) ∙ tells)
+      where
+        by_form : (form : Form) → has_intents form ≡ true → intent_words form ≡ INTENT_WORDS
+        by_form Narrow e = absurd (false≢true e)
+        by_form Wide e = absurd (false≢true e)
+        by_form Held e = refl
+
+    in_intent : (at : CommitPoint) → CommitFits shape state at → tells_intent state ≡ true → (word : ℕ)
+        → word < INTENT_WORDS → IsField shape (Intent state.worker word)
+    in_intent at c tells word l =
+        (fits.worker_is, let e = intent_size c.1 c.0 tells in omega arith)
+
+    pub few_records : state.records ≡ records_of state → length state.records ≤ 16
+    few_records are =
+        let few = (few_keys shape state fits).records in
+        let same = ap (λ (rs : List Record). length rs) are in
+        omega arith
+
+    list_at : (at : ListPoint) → CommitFits shape state (Listing at) → IsAtField shape (list_verb state at)
+    list_at (ListRow nth) c =
+        let n = few_records c.0 in let l = c.2.2 in
+        in_intent (Listing (ListRow nth)) c c.2.3 (2 + nth * 11) (omega arith)
+    list_at (ListKind nth) c =
+        let n = few_records c.0 in let l = c.2.2 in
+        in_intent (Listing (ListKind nth)) c c.2.3 (2 + nth * 11 + 1) (omega arith)
+    list_at (ListData nth word) c =
+        let n = few_records c.0 in let l = c.2.2.0 in let m = c.2.2.1 in
+        let w = written_less c.0 nth l in
+        let most = (nth_fits shape state fits c.0 limits nth w).most_width in
+        in_intent (Listing (ListData nth word)) c c.2.3 (2 + nth * 11 + 3 + word) (omega arith)
+    list_at ListNumber c = in_intent (Listing ListNumber) c c.2.3 1 (omega arith)
+    list_at ListState c = in_intent (Listing ListState) c c.2.3 0 (omega arith)
+
     pub commit_at : (at : CommitPoint) → CommitFits shape state at → IsAtField shape (commit_verb state at)
+    commit_at (Listing at) c = list_at at c
     commit_at (Locking at) c = lock_at c.0 at c.2.0
     commit_at (Checking at) c =
         let nth = length state.counts in
         of_record c.0 nth (target (commit_verb state (Checking at))) (written_less c.0 nth c.2.1)
         (λ fit. slot_field (record_place state nth) fit at)
     commit_at (Returning given full) c = (placed c.0 given c.2.1).row_is
+    commit_at (Counting nth) c =
+        let n = few_records c.0 in let l = c.2.2 in let w = written_less c.0 nth c.2.2 in
+        in_intent (Counting nth) c c.2.3 (2 + nth * 11 + 2) (omega arith)
+    commit_at Deciding c = in_intent Deciding c c.2.2 0 (omega arith)
     commit_at (Saving nth got) c =
         of_record c.0 nth (target (commit_verb state (Saving nth got))) (written_less c.0 nth c.2.2)
         (λ fit. (refl, c.2.3))
@@ -158,6 +212,8 @@ module _ (shape : Shape) (limits : FitsLimits shape) where
         (new_header state nth) at c.2.3)
     commit_at Publishing c = fits.worker_is
     commit_at (Freeing nth) c = (placed c.0 nth c.2.3).row_is
+    commit_at (Clearing refusal) c = in_intent (Clearing refusal) c c.2.2 0 (omega arith)
+    commit_at Ending c = in_intent Ending c c.2.2 0 (omega arith)
 
     -- 4. A transaction
 

@@ -1,8 +1,9 @@
 -- Where a session goes on. For any property of sessions: if each word of its client keeps it, and each call that its
 -- driver asks, and a stop, then it holds of each session that occurs.
-use Rattle.std.proofs.Common.{◌≡◌, ℕ, zero, suc, ◌≤◌, List, length, refl, ◌∙◌, subst, arith}
+use Rattle.std.proofs.Common.{◌≡◌, ℕ, zero, suc, ◌≤◌, List, length, refl, subst, arith}
 use Rattle.std.proofs.Common.{false, Option, Some, None}
-use Rattle.std.specs.Prelude.{slice_get, is_some}
+use Rattle.std.specs.Prelude.{◌||◌, slice_get, is_some}
+use Rattle.si_model.specs.declared.log.Finish.{Finish}
 use Rattle.std.specs.List.{AllByRecursion}
 use Rattle.si_model.specs.declared.op.Policy.{Policy}
 use Rattle.nam_verbs.specs.declared.now.Now.{Now}
@@ -12,108 +13,35 @@ use Rattle.nam_catalog.specs.declared.shape.Shape.{Shape}
 use Rattle.nam_catalog.specs.Fits.{FitsLimits}
 use Rattle.nam_catalog.specs.Greatest.{greatest_number}
 use Rattle.nam_layout.specs.declared.field.Field.{Field}
+use Rattle.nam_calls.specs.declared.medic.MedicPoint.{MedicPoint}
 use Rattle.nam_calls.specs.Fits.{IsOf}
+use Rattle.nam_calls.specs.Medic.{medic_begin, medic_after}
 use Rattle.nam_calls.proofs.FallsTests.{either}
 use Rattle.nam_protocol.specs.declared.client.Answer.{Answer}
-use Rattle.nam_protocol.specs.declared.client.Call.{Call}
 use Rattle.nam_protocol.specs.declared.client.CallPoint.{CallPoint}
-use Rattle.nam_protocol.specs.declared.client.CallPoint.TheVariants.{Beginning, Collecting, InTxn, Moving, Scanning}
-use Rattle.nam_protocol.specs.declared.client.CallPoint.TheVariants.{Seeking, Snapping}
 use Rattle.nam_protocol.specs.declared.client.ClientState.{ClientState}
-use Rattle.nam_protocol.specs.declared.client.Open.{Open}
-use Rattle.nam_protocol.specs.declared.scan.ScanPoint.{ScanPoint}
 use Rattle.nam_protocol.specs.declared.session.Job.{Job}
 use Rattle.nam_protocol.specs.declared.session.SessionState.{SessionState}
-use Rattle.nam_protocol.specs.declared.txn.TxnCall.{TxnCall}
-use Rattle.nam_protocol.specs.declared.txn.TxnPoint.{TxnPoint}
-use Rattle.nam_protocol.specs.Client.{after_call, ask_scan, ask_txn, call_after, client_after, client_ask, take_scan}
-use Rattle.nam_protocol.specs.Client.{take_txn, with_call}
+use Rattle.nam_protocol.specs.Client.{client_after, client_ask, client_verb}
 use Rattle.nam_protocol.specs.ClientEvents.{ClientLists}
 use Rattle.nam_protocol.specs.ClientFits.{ClientFits}
-use Rattle.nam_protocol.specs.CutClient.{client_cut}
 use Rattle.nam_protocol.specs.Driver.{job_call, new_driver, place_call}
 use Rattle.nam_protocol.specs.EventsLaw.{IsReached, by_cut, by_word, is_new}
-use Rattle.nam_protocol.specs.Session.{answer_now, calls_at_most, has_ended, new_session, session_after, session_cut}
-use Rattle.nam_protocol.specs.Session.{session_verb, settle, taken}
+use Rattle.nam_protocol.specs.Session.{answer_now, calls_at_most, call_taken, treated, new_session, session_after}
+use Rattle.nam_protocol.specs.Commit.{has_intents}
+use Rattle.nam_protocol.specs.Session.{session_cut, session_verb, settle, taken, jobs_over, stopped, cut_in}
 use Rattle.nam_protocol.specs.SessionFits.{DriverFits, JobFits, SessionFits, ops_of}
-use Rattle.nam_protocol.specs.Telling.{new_client, stepped}
-use Rattle.nam_protocol.specs.Txn.{Stepped}
+use Rattle.nam_protocol.specs.Telling.{new_client}
 use Rattle.nam_protocol.proofs.EndsDriver.{AsksFrom, calls_from}
 use Rattle.nam_protocol.proofs.EndsSession.{IsReady, asks, new_ready, new_session_ends, nth_holds}
-use Rattle.nam_protocol.proofs.EndsSession.{session_cut_ends, session_word, taken_ready, takes_word}
+use Rattle.nam_protocol.proofs.EndsSession.{by_medic, session_word, taken_ready, takes_word}
+use Rattle.nam_protocol.proofs.EndsSettled.{session_cut_ends}
+use Rattle.nam_protocol.proofs.StaysLemmas.{IsUncut, still_uncut, asked_stays, word_stays}
 use Rattle.nam_protocol.proofs.EventsClient.{ask_lists, word_lists}
 use Rattle.nam_protocol.proofs.OpensDriver.{needs_open}
-use Rattle.nam_protocol.proofs.GoesClient.{begin_goes, collect_goes, move_goes, on_answer_goes, scan_goes, seek_goes}
-use Rattle.nam_protocol.proofs.GoesClient.{snap_goes, step_lists, step_opens, stepped_goes}
 use Rattle.nam_protocol.proofs.RunsClient.{ClientDoes, NowDoes}
-use Rattle.nam_protocol.specs.declared.client.Call.TheVariants as call
 
--- 1. Only a stop cuts a client
-
-module _ (shape : Shape) where
-  stepped_cut : (client : ClientState) (attempt : Open) (before : ℕ) (step : Stepped)
-      → (stepped client attempt before step).cut ≡ client.cut
-  stepped_cut client attempt before step =
-      stepped_goes (λ c. c.cut ≡ client.cut) client attempt before step (λ place e. refl)
-      (λ end e. on_answer_goes (λ c. c.cut ≡ client.cut) (step_lists client before step)
-      (step_opens attempt before step) end (λ f. refl) (λ how f. refl) (λ how f. refl) (λ number f. refl))
-
-  take_txn_cut : (client : ClientState) (at : TxnPoint) (opened : Option Open) (found : ℕ)
-      → (take_txn shape client at opened found).cut ≡ client.cut
-  take_txn_cut client at None found = refl
-  take_txn_cut client at (Some attempt) found = stepped_cut client attempt _ _
-
-  take_scan_cut : (client : ClientState) (table low high : ℕ) (at : ScanPoint) (opened : Option Open) (found : ℕ)
-      → (take_scan shape client table low high at opened found).cut ≡ client.cut
-  take_scan_cut client table low high at None found = refl
-  take_scan_cut client table low high at (Some attempt) found =
-      scan_goes (λ c. c.cut ≡ client.cut) shape client attempt table low high _ _ (λ next e. refl) (λ key e. refl)
-      (λ rows e. refl) (λ rows. refl) (λ how end e. refl)
-
-  call_cut : (client : ClientState) (place : CallPoint) (found : ℕ)
-      → (call_after shape client place found).cut ≡ client.cut
-  call_cut client (Beginning txn nth at) found =
-      begin_goes (λ c. c.cut ≡ client.cut) shape client txn nth _ (λ next e. refl) (λ seen e. refl)
-      (λ worker first second e. refl)
-  call_cut client (InTxn at) found = take_txn_cut client at client.txn found
-  call_cut client (Scanning table low high at) found = take_scan_cut client table low high at client.txn found
-  call_cut client (Seeking table key passed) found =
-      seek_goes (λ c. c.cut ≡ client.cut) shape client table key _ (λ next e. refl) (λ position e. refl) (λ e. refl)
-  call_cut client (Moving table key position at) found =
-      move_goes (λ c. c.cut ≡ client.cut) shape client table key position _ _ (λ next e. refl) (λ stamp e. refl)
-      (λ stamp e. refl) (λ e. refl) (λ full e. refl)
-  call_cut client (Snapping bucket at) found =
-      snap_goes (λ c. c.cut ≡ client.cut) shape client bucket _ (λ next e. refl) (λ seen e. refl)
-      (λ worker first second e. refl)
-  call_cut client (Collecting bucket prefix seen at) found =
-      collect_goes (λ c. c.cut ≡ client.cut) shape client bucket prefix seen _ (λ next e. refl) (λ known e. refl)
-
-  pub word_cut : (client : ClientState) (found : ℕ) → (client_after shape client found).cut ≡ client.cut
-  word_cut client found = word_at client.call
-    where
-      word_at : (now : Option (Now CallPoint Answer)) → (after_call shape client now found).cut ≡ client.cut
-      word_at None = refl
-      word_at (Some (At place)) = call_cut client place found
-      word_at (Some (Over end)) = refl
-
-  ask_txn_cut : (client : ClientState) (asked : TxnCall) (opened : Option Open)
-      → (ask_txn shape client asked opened).cut ≡ client.cut
-  ask_txn_cut client asked None = refl
-  ask_txn_cut client asked (Some attempt) = stepped_cut client (with_call attempt asked) 0 _
-
-  ask_scan_cut : (client : ClientState) (table low high : ℕ) (opened : Option Open)
-      → (ask_scan shape client table low high opened).cut ≡ client.cut
-  ask_scan_cut client table low high None = refl
-  ask_scan_cut client table low high (Some attempt) = refl
-
-  pub asked_cut : (client : ClientState) (asked : Call) → (client_ask shape client asked).cut ≡ client.cut
-  asked_cut client (call.Begin txn nth) = refl
-  asked_cut client (call.Txn asked) = ask_txn_cut client asked client.txn
-  asked_cut client (call.Scan table low high) = ask_scan_cut client table low high client.txn
-  asked_cut client (call.Tidy table key) = refl
-  asked_cut client (call.Collect bucket) = refl
-
--- 2. A session's client has taken a word, or was asked
+-- 1. A session's client has taken a word, or was asked
 
 -- what is known of it then, where this is the driver's job
 pub record Steps (shape : Shape) (session : SessionState) (job : Job) (after : ClientState) : Type 0 where
@@ -137,19 +65,20 @@ module _ (shape : Shape) (P : SessionState → Type 0) where
     pub asked : (session : SessionState) (job : Job) → IsReady shape session → session.client.cut ≡ false → P session
         → let after = client_ask shape session.client (place_call job session.driver.nth session.driver.place) in
         Steps shape session job after → NextHolds session after after.call
-    pub cut : (session : SessionState) → P session → P (record session { client = client_cut session.client })
+    pub cut : (session : SessionState) → P session → P (stopped session)
+    pub treated : (session : SessionState) (medic : Now MedicPoint Finish) → P session → P (treated session medic)
 
--- 3. So it is kept
+-- 2. So it is kept
 
 module _ (shape : Shape) (limits : FitsLimits shape) (P : SessionState → Type 0) (keeps : SessionKeeps shape P) where
   -- so many calls are asked
   abbrev KeepsAsked : ℕ → Type 0
-  KeepsAsked calls = (session : SessionState) → IsReady shape session → session.client.cut ≡ false → P session
+  KeepsAsked calls = (session : SessionState) → IsReady shape session → P session
       → P (settle shape calls session)
 
   goes_on : (session : SessionState) → AllByRecursion (JobFits shape) session.jobs → DriverFits shape session.driver
       → (job : Job) (client : ClientState) → Steps shape session job client → (calls : ℕ) → KeepsAsked calls
-      → client.cut ≡ false → (now : Option (Now CallPoint Answer)) → client.call ≡ now
+      → IsUncut client → (now : Option (Now CallPoint Answer)) → client.call ≡ now
       → NowDoes shape session.driver.place job.ops client.txn now → NextHolds shape P session client now
       → P (elim (answer_now now) [
         | None ↦ record session { client = client }
@@ -158,10 +87,10 @@ module _ (shape : Shape) (limits : FitsLimits shape) (P : SessionState → Type 
   goes_on session jobs driver job client s calls later uncut None e does p = absurd does
   goes_on session jobs driver job client s calls later uncut (Some (At at)) e does p = p
   goes_on session jobs driver job client s calls later uncut (Some (Over end)) e does p =
-      later (taken session client end) (taken_ready shape session jobs driver job s.here client end s.fits e does) uncut
-      p
+      later (taken session client end)
+      (taken_ready shape session jobs driver job s.here client end s.fits uncut e does) p
 
-  next_kept : (calls : ℕ) (session : SessionState) → IsReady shape session → session.client.cut ≡ false → P session
+  next_kept : (calls : ℕ) (session : SessionState) → IsReady shape session → P session
       → KeepsAsked calls → (o : Option Job) → slice_get session.jobs session.driver.job ≡ o
       → P (elim (job_call session.driver o) [
         | None ↦ session
@@ -170,8 +99,8 @@ module _ (shape : Shape) (limits : FitsLimits shape) (P : SessionState → Type 
           | Some answer ↦ settle shape calls (taken session (client_ask shape session.client call) answer)
         ]
       ])
-  next_kept calls session ready uncut p later None here = p
-  next_kept calls session ready uncut p later (Some job) here =
+  next_kept calls session ready p later None here = p
+  next_kept calls session ready p later (Some job) here =
       let driver = session.driver in
       let asked = subst (λ o. AsksFrom shape driver.place (ops_of o) session.client.txn) here ready.asks in
       let a = asks shape limits session.client ready.client job.ops job.txn driver.nth driver.policy.tries driver.place
@@ -187,19 +116,20 @@ module _ (shape : Shape) (limits : FitsLimits shape) (P : SessionState → Type 
             ask_lists (length session.client.log.events) shape session.client (omega arith) c
             (needs_open shape session.client job.ops job.txn driver.nth driver.place asked);
       } in
-      goes_on session ready.jobs ready.driver job client s calls later (asked_cut shape session.client c ∙ uncut)
-      client.call refl a.does (keeps.asked session job ready uncut p s)
+      goes_on session ready.jobs ready.driver job client s calls later
+      (still_uncut session.client client (asked_stays shape session.client c) ready.uncut) client.call refl a.does
+      (keeps.asked session job ready ready.uncut.0 p s)
 
   settle_kept : (calls : ℕ) → KeepsAsked calls
   unfolding settle
-  settle_kept zero session ready uncut p = p
-  settle_kept (suc calls) session ready uncut p =
-      next_kept calls session ready uncut p (settle_kept calls) (slice_get session.jobs session.driver.job) refl
+  settle_kept zero session ready p = p
+  settle_kept (suc calls) session ready p =
+      next_kept calls session ready p (settle_kept calls) (slice_get session.jobs session.driver.job) refl
 
   -- a word is taken
-  pub word_kept : (session : SessionState) (verb : VerbAt Field) (found : ℕ) → SessionFits shape session
-      → session_verb shape session ≡ Some verb → P session → P (session_after shape session found)
-  word_kept session verb found fits e p =
+  call_kept : (session : SessionState) (verb : VerbAt Field) (found : ℕ) → SessionFits shape session
+      → client_verb shape session.client ≡ Some verb → P session → P (call_taken shape session found)
+  call_kept session verb found fits e p =
       let t = takes_word shape limits session verb found fits e in
       let n = length session.client.log.events in
       let client = client_after shape session.client found in
@@ -212,15 +142,24 @@ module _ (shape : Shape) (limits : FitsLimits shape) (P : SessionState → Type 
             (word_lists n shape session.client (omega arith) t.at found t.place);
       } in
       goes_on session fits.jobs fits.driver t.job client s (calls_at_most session.jobs)
-      (settle_kept (calls_at_most session.jobs)) (word_cut shape session.client found ∙ t.uncut) client.call refl t.does
-      (keeps.word session t.at found t.job fits t.uncut t.is p s)
+      (settle_kept (calls_at_most session.jobs))
+      (still_uncut session.client client (word_stays shape session.client found) t.uncut)
+      client.call refl t.does (keeps.word session t.at found t.job fits t.uncut.0 t.is p s)
 
-  pub cut_kept : (session : SessionState) → P session → P (session_cut session)
+  pub word_kept : (session : SessionState) (verb : VerbAt Field) (found : ℕ) → SessionFits shape session
+      → session_verb shape session ≡ Some verb → P session → P (session_after shape session found)
+  word_kept session verb found fits e p =
+      by_medic shape limits session verb found P e (λ none stands. call_kept session verb found fits stands p)
+      (λ place is. keeps.treated session (medic_after shape session.client.worker place found) p)
+
+  pub cut_kept : (session : SessionState) → P session → P (session_cut shape.form session)
   cut_kept session p =
-      either P (has_ended session) session (record session { client = client_cut session.client }) p
-      (keeps.cut session p)
+      let stop = keeps.cut session p in
+      either P (jobs_over session || session.client.cut) session (cut_in shape.form session) p
+      (either P (has_intents shape.form) (treated (stopped session) (At medic_begin)) (stopped session)
+      (keeps.treated (stopped session) (At medic_begin) stop) stop)
 
-  -- 4. The sessions that occur
+  -- 3. The sessions that occur
 
   module _ (worker start : ℕ) (jobs : List Job) (policy : Policy) (is : IsOf shape.workers worker)
       (number : start ≤ greatest_number shape.form) (fit : AllByRecursion (JobFits shape) jobs)
@@ -230,8 +169,7 @@ module _ (shape : Shape) (limits : FitsLimits shape) (P : SessionState → Type 
 
     pub new_kept : P unasked → P (new_session shape (new_client worker start) jobs policy)
     new_kept p =
-        settle_kept (calls_at_most jobs) unasked
-        (new_ready shape limits worker start jobs policy is number fit least) refl p
+        settle_kept (calls_at_most jobs) unasked (new_ready shape limits worker start jobs policy is number fit least) p
 
     pub reached_kept : P unasked → (session : SessionState) → IsReached shape worker start jobs policy session
         → SessionFits shape session × P session
@@ -241,4 +179,5 @@ module _ (shape : Shape) (limits : FitsLimits shape) (P : SessionState → Type 
         let s = reached_kept p before reached in
         ((session_word shape limits before verb found s.0 e).0, word_kept before verb found s.0 e s.1)
     reached_kept p session (by_cut before reached) =
-        let s = reached_kept p before reached in ((session_cut_ends shape before s.0).0, cut_kept before s.1)
+        let s = reached_kept p before reached in
+        ((session_cut_ends shape limits before s.0).fits, cut_kept before s.1)

@@ -7,7 +7,10 @@ use Rattle.si_model.specs.declared.row.Item.{Item}
 use Rattle.si_model.specs.declared.log.Lock.{Lock}
 use Rattle.si_model.specs.declared.log.Outcome.{Outcome}
 use Rattle.si_model.specs.declared.log.Event.{Event}
-use Rattle.si_model.specs.declared.log.Event.TheVariants.{TailCut}
+use Rattle.si_model.specs.declared.log.Event.TheVariants.{TailCut, Finished}
+use Rattle.si_model.specs.declared.log.Finish.{Finish}
+use Rattle.si_model.specs.declared.log.Outcome.TheVariants as outcome
+use Rattle.nam_calls.proofs.FallsTests.{either}
 use Rattle.si_model.specs.declared.log.Stamp.{Stamp}
 use Rattle.si_model.specs.declared.log.Log.{Log}
 use Rattle.si_model.specs.Rows.{key_at, writes_key}
@@ -27,7 +30,7 @@ use Rattle.nam_protocol.specs.Txn.{Stepped}
 use Rattle.nam_protocol.specs.declared.txn.TxnCall.{TxnCall}
 use Rattle.nam_protocol.specs.declared.txn.TxnPoint.{TxnPoint}
 use Rattle.nam_protocol.specs.declared.txn.TxnPoint.TheVariants.{Committing}
-use Rattle.nam_protocol.specs.declared.txn.CommitPoint.TheVariants.{Freeing}
+use Rattle.nam_protocol.specs.declared.txn.CommitPoint.TheVariants.{Freeing, Ending}
 use Rattle.nam_protocol.specs.declared.txn.TxnAnswer.{TxnAnswer}
 use Rattle.nam_protocol.specs.declared.scan.ScanPoint.{ScanPoint}
 use Rattle.nam_protocol.specs.declared.scan.ScanAnswer.{ScanAnswer}
@@ -44,11 +47,14 @@ use Rattle.nam_protocol.specs.TxnCalls.{taken_now}
 use Rattle.nam_protocol.specs.Scan.{scan_skip, scan_read}
 use Rattle.nam_protocol.specs.Log.{with_event, with_reads, with_locks, with_writes, with_snap}
 use Rattle.nam_protocol.specs.Telling.{read_ended, items_of, new_locks, with_commit, on_answer, on_call, stepped}
+use Rattle.nam_protocol.specs.Telling.{with_end}
 use Rattle.nam_protocol.specs.ScanCall.{with_gathered, on_skip, on_key, on_scan}
 use Rattle.nam_protocol.specs.Client.{with_call, ask_txn, ask_scan, client_ask, on_begin, on_seek, on_move, on_snap}
 use Rattle.nam_protocol.specs.Client.{on_collect, take_txn, take_scan, call_after, after_call, client_after}
 use Rattle.nam_protocol.specs.Client.{abandon_open, client_abandon}
 use Rattle.nam_protocol.specs.CutClient.{cut_in_txn, cut_open, left_open, cut_move, cut_call, closed_call}
+use Rattle.nam_protocol.specs.CutClient.{finish_of, has_committed, finished_in_txn, finished_call}
+use Rattle.nam_protocol.specs.CutClient.{closed_client}
 use Rattle.nam_protocol.specs.Grows.{Grows, LogsGrow}
 use Rattle.nam_protocol.specs.declared.txn.TxnAnswer.TheVariants as txn_answer
 use Rattle.nam_protocol.specs.declared.scan.ScanAnswer.TheVariants as scan_answer
@@ -320,6 +326,7 @@ tail_cut_grows client attempt =
 cut_in_txn_grows : (client : ClientState) (attempt : Open) (at : TxnPoint)
     → Grows client.log (cut_in_txn client attempt at).log
 cut_in_txn_grows client attempt (Committing (Freeing nth)) = tail_cut_grows client attempt
+cut_in_txn_grows client attempt (Committing Ending) = tail_cut_grows client attempt
 cut_in_txn_grows client attempt at = event_grows client.log _
 
 cut_open_grows : (client : ClientState) (at : TxnPoint) (txn : Option Open)
@@ -352,11 +359,32 @@ module _ (shape : Shape) where
   closed_call_grows client (Some (At place)) = cut_call_grows client place
   closed_call_grows client (Some (Over answer)) = left_open_grows client client.txn
 
+  finished_grows : (client : ClientState) (at : TxnPoint) (how : Finish) (txn : Option Open)
+      → Grows client.log (finished_in_txn client at how txn).log
+  finished_grows client at how None = grows_same client.log
+  finished_grows client at how (Some attempt) =
+      either (λ (c : ClientState). Grows client.log c.log) (has_committed at how)
+      (with_commit client attempt (attempt.state.last + 1)) (with_end client attempt outcome.Cut)
+      (committed_grows client attempt (attempt.state.last + 1)) (event_grows client.log _)
+
+  finished_call_grows : (client : ClientState) (how : Finish) (call : Option (Now CallPoint Answer))
+      → Grows client.log (finished_call shape client how call).log
+  finished_call_grows client how (Some (At (InTxn at))) = finished_grows client at how client.txn
+  finished_call_grows client how call = closed_call_grows client call
+
+  closed_grows : (client : ClientState) (finish : Option Finish)
+      → Grows client.log (closed_client shape client finish client.call).log
+  closed_grows client None = closed_call_grows client client.call
+  closed_grows client (Some how) =
+      let done = finished_call shape client how client.call in
+      grows_trans client.log done.log _ (finished_call_grows client how client.call)
+      (event_grows done.log (Finished how))
+
   pub logs_grow : LogsGrow shape
   logs_grow = record {
     word = word_grows shape;
     asked = ask_grows shape;
     abandoned = abandon_grows;
     cut = λ client. refl;
-    closed = λ client. closed_call_grows client client.call;
+    closed = λ client. closed_grows client (finish_of client.medic);
   }

@@ -1,16 +1,23 @@
 -- The log of a session's client only grows, however many calls the session asks.
-use Rattle.std.proofs.Common.{◌≡◌, ℕ, zero, suc, Bool, true, false, Option, Some, None, refl}
-use Rattle.std.specs.Prelude.{if◌then◌else◌}
+use Rattle.std.proofs.Common.{◌≡◌, ℕ, zero, suc, Option, Some, None, refl}
+use Rattle.std.specs.Prelude.{◌||◌}
+use Rattle.si_model.specs.declared.log.Finish.{Finish}
 use Rattle.si_model.specs.declared.log.Log.{Log}
+use Rattle.nam_verbs.specs.declared.now.Now.{Now}
+use Rattle.nam_verbs.specs.declared.now.Now.TheVariants.{At, Over}
 use Rattle.nam_catalog.specs.declared.shape.Shape.{Shape}
+use Rattle.nam_calls.specs.declared.medic.MedicPoint.{MedicPoint}
+use Rattle.nam_calls.specs.Medic.{medic_begin}
+use Rattle.nam_calls.proofs.FallsTests.{either}
 use Rattle.nam_protocol.specs.declared.client.Call.{Call}
 use Rattle.nam_protocol.specs.declared.client.Answer.{Answer}
 use Rattle.nam_protocol.specs.declared.client.ClientState.{ClientState}
 use Rattle.nam_protocol.specs.declared.session.SessionState.{SessionState}
 use Rattle.nam_protocol.specs.Client.{client_ask, client_after}
-use Rattle.nam_protocol.specs.CutClient.{client_cut}
 use Rattle.nam_protocol.specs.Driver.{driver_next}
-use Rattle.nam_protocol.specs.Session.{answer_now, calls_at_most, taken, settle, session_after, has_ended}
+use Rattle.nam_protocol.specs.Session.{answer_now, calls_at_most, taken, settle, call_taken, after_by, treated}
+use Rattle.nam_protocol.specs.Commit.{has_intents}
+use Rattle.nam_protocol.specs.Session.{jobs_over, stopped, cut_in, session_cut}
 use Rattle.nam_protocol.specs.Grows.{Grows, SessionLogsGrow}
 use Rattle.nam_protocol.proofs.Grows.{grows_same, grows_trans, ask_grows, word_grows}
 
@@ -47,21 +54,30 @@ module _ (shape : Shape) where
   settle_grows (suc calls) session =
       next_grows calls session (driver_next session.jobs session.driver) (settle_grows calls)
 
-  session_word_grows : (session : SessionState) (found : ℕ)
-      → Kept session.client.log (session_after shape session found)
-  session_word_grows session found =
+  call_taken_grows : (session : SessionState) (found : ℕ)
+      → Kept session.client.log (call_taken shape session found)
+  call_taken_grows session found =
       let client = client_after shape session.client found in
       grows_trans session.client.log client.log _ (word_grows shape session.client found)
       (asked_grows (calls_at_most session.jobs) session client (answer_now client.call)
       (settle_grows (calls_at_most session.jobs)))
 
-  session_cut_is : (session : SessionState) (b : Bool)
-      → (if b then session else record session { client = client_cut session.client }).client.log ≡ session.client.log
-  session_cut_is session true = refl
-  session_cut_is session false = refl
+  session_word_grows : (session : SessionState) (found : ℕ) (medic : Option (Now MedicPoint Finish))
+      → Kept session.client.log (after_by shape session found medic)
+  session_word_grows session found None = call_taken_grows session found
+  session_word_grows session found (Some (At place)) = grows_same session.client.log
+  session_word_grows session found (Some (Over how)) = grows_same session.client.log
+
+  session_cut_is : (session : SessionState)
+      → (session_cut shape.form session).client.log ≡ session.client.log
+  session_cut_is session =
+      either (λ (s : SessionState). s.client.log ≡ session.client.log) (jobs_over session || session.client.cut) session
+      (cut_in shape.form session) refl
+      (either (λ (s : SessionState). s.client.log ≡ session.client.log) (has_intents shape.form)
+      (treated (stopped session) (At medic_begin)) (stopped session) refl refl)
 
   pub session_logs_grow : SessionLogsGrow shape
   session_logs_grow = record {
-    word = session_word_grows;
-    cut = λ session. session_cut_is session (has_ended session);
+    word = λ session found. session_word_grows session found session.client.medic;
+    cut = session_cut_is;
   }

@@ -54,7 +54,7 @@ module _ (shape : Shape) where
       on_answer_goes (λ c. Holds (with_answer c (client_answer.Txn answer))) client attempt answer
       (λ e. record {
         last_is = last;
-        opened = record { last_is = state.last_is; written = state.written; found = tt; headers = state.headers };
+        opened = record { last_is = state.last_is; written = state.written; found = tt; headers = state.headers; counted = state.counted };
         running = tt;
       })
       (λ outcome e. record { last_is = last; opened = tt; running = tt })
@@ -101,7 +101,7 @@ module _ (shape : Shape) where
         (λ next e. record { last_is = h.last_is; opened = h.opened; running = tt })
         (λ seen e. record {
           last_is = h.last_is;
-          opened = record { last_is = h.last_is; written = tt; found = tt; headers = tt };
+          opened = record { last_is = h.last_is; written = tt; found = tt; headers = tt; counted = tt };
           running = tt;
         })
         (λ worker first second e. record { last_is = h.last_is; opened = h.opened; running = tt })

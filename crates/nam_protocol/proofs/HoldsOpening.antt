@@ -99,7 +99,7 @@ module _ (shape : Shape) (limits : FitsLimits shape) where
   new_sessions_hold policy worker [] all = tt
   new_sessions_hold policy worker (job ∷ jobs) all = (
     (session_keeps shape).new (new_client worker shape.start) job policy
-        ((client_keeps shape).new worker shape.start limits.start) all.0,
+        ((client_keeps shape).new worker shape.start limits.start) tt all.0,
     new_sessions_hold policy (worker + 1) jobs all.1,
   )
 

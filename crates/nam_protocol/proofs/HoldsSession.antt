@@ -1,20 +1,27 @@
 -- The words of a session and of a world stay below 2^64.
 use Rattle.std.specs.List.{AllByRecursion}
-use Rattle.std.specs.Prelude.{if◌then◌else◌, slice_get, slice_index, slice_set}
-use Rattle.std.proofs.Common.{Bool, List, None, Option, Some, [], arith, refl, subst, suc, zero, ℕ, ◌-◌, ◌==◌, ◌∷◌}
-use Rattle.std.proofs.Common.{false, true, ◌≡◌}
+use Rattle.std.specs.Prelude.{◌||◌, slice_get, slice_index, slice_set}
+use Rattle.std.proofs.Common.{List, None, Option, Some, [], arith, refl, sym, subst, suc, zero, ℕ, ◌-◌, ◌==◌, ◌∷◌, ◌≡◌}
 use Rattle.std.proofs.lemmas.Option.{none-some, same_Some}
 use Rattle.si_model.specs.declared.op.Op.{Op}
+use Rattle.si_model.specs.declared.log.Finish.{Finish}
+use Rattle.nam_verbs.specs.declared.now.Now.{Now}
+use Rattle.nam_verbs.specs.declared.now.Now.TheVariants.{At, Over}
+use Rattle.nam_verbs.specs.Falls.{Any}
 use Rattle.nam_verbs.specs.Verb.{after_verb, found_by}
 use Rattle.nam_verbs.specs.VerbAt.{VerbAt, ReadAt, WriteAt, ExchangeAt}
 use Rattle.nam_catalog.specs.declared.shape.Shape.{Shape}
 use Rattle.nam_catalog.specs.Fits.{FitsLimits}
 use Rattle.nam_layout.specs.declared.field.Field.{Field}
 use Rattle.nam_layout.specs.Address.{address}
-use Rattle.nam_calls.specs.Holds.{AreWords, IsWord, WritesWord}
+use Rattle.nam_calls.specs.declared.medic.MedicPoint.{MedicPoint}
+use Rattle.nam_calls.specs.Holds.{AreWords, HoldsNow, IsWord, WritesWord}
+use Rattle.nam_calls.specs.Medic.{medic_begin, medic_verb, medic_after}
+use Rattle.nam_calls.specs.MedicFits.{MedicHolds}
 use Rattle.nam_calls.specs.Memory.{verb_there}
 use Rattle.nam_calls.proofs.FallsTests.{either}
 use Rattle.nam_calls.proofs.HoldsWords.{words_at, words_set}
+use Rattle.nam_calls.proofs.MedicVerbs.{holds_law, word_law}
 use Rattle.nam_protocol.specs.declared.client.Answer.{Answer}
 use Rattle.nam_protocol.specs.declared.client.Call.{Call}
 use Rattle.nam_protocol.specs.declared.client.ClientState.{ClientState}
@@ -24,15 +31,18 @@ use Rattle.nam_protocol.specs.declared.session.DriverState.{DriverState}
 use Rattle.nam_protocol.specs.declared.session.Job.{Job}
 use Rattle.nam_protocol.specs.declared.session.SessionState.{SessionState}
 use Rattle.nam_protocol.specs.Client.{client_after, client_ask}
-use Rattle.nam_protocol.specs.ClientFits.{ClientFits}
-use Rattle.nam_protocol.specs.CutClient.{client_cut}
 use Rattle.nam_protocol.specs.Driver.{call_of, driver_next, job_call, new_driver, op_call, place_call}
-use Rattle.nam_protocol.specs.HoldsWords.{CallHolds, JobHolds, SessionHolds, WorldHolds, HoldsWords}
-use Rattle.nam_protocol.specs.Session.{answer_now, has_ended, session_after, session_verb, settle, taken, calls_at_most}
+use Rattle.nam_protocol.specs.HoldsWords.{CallHolds, JobHolds, SessionHolds, TreatmentHolds, WorldHolds, HoldsWords}
+use Rattle.nam_protocol.specs.Session.{answer_now, call_taken, after_by, verb_by, session_after, session_verb, settle}
+use Rattle.nam_protocol.specs.Session.{taken}
+use Rattle.nam_protocol.specs.Commit.{has_intents}
+use Rattle.nam_protocol.specs.Session.{calls_at_most, treated, jobs_over, stopped, cut_in, session_cut}
+use Rattle.nam_protocol.specs.SessionFits.{MedicStands}
 use Rattle.nam_protocol.specs.WordsLaw.{SessionKeepsWords, WorkerFits, WorldKeepsLaw}
 use Rattle.nam_protocol.specs.World.{Step, Cut, World, session_of, step_by, step_of, cut_of}
 use Rattle.nam_protocol.proofs.HoldsClient.{ask_holds, cut_holds, word_holds}
 use Rattle.nam_protocol.proofs.HoldsVerbs.{client_writes}
+use Rattle.nam_protocol.proofs.StaysLemmas.{asked_stays, word_stays}
 
 -- 1. A session: its driver asks what its jobs bring
 
@@ -63,12 +73,13 @@ module _ (shape : Shape) where
   -- what stands after a call that was asked, and what a call leaves
   asked_holds : (calls : ℕ) (session : SessionState) (client : ClientState) (answer : Option Answer)
       → ((s : SessionState) → Holds s → Holds (settle shape calls s)) → HoldsWords shape client
-      → AllByRecursion JobHolds session.jobs → Holds (elim answer [
+      → AllByRecursion JobHolds session.jobs → TreatmentHolds client.medic → Holds (elim answer [
         | None ↦ record session { client = client }
         | Some answer ↦ settle shape calls (taken session client answer)
       ])
-  asked_holds calls session client None later c jobs = (c, jobs)
-  asked_holds calls session client (Some answer) later c jobs = later (taken session client answer) (c, jobs)
+  asked_holds calls session client None later c jobs medic = (c, jobs, medic)
+  asked_holds calls session client (Some answer) later c jobs medic =
+      later (taken session client answer) (c, jobs, medic)
 
   next_holds : (calls : ℕ) (session : SessionState) (call : Option Call)
       → ((asked : Call) → call ≡ Some asked → CallHolds asked)
@@ -84,6 +95,7 @@ module _ (shape : Shape) where
       let client = client_ask shape session.client call in
       asked_holds calls session client (answer_now client.call) later
       (ask_holds shape session.client h.0 call (brings call refl)) h.1
+      (subst TreatmentHolds (sym (asked_stays shape session.client call).1) h.2)
 
   settle_holds : (calls : ℕ) (session : SessionState) → Holds session → Holds (settle shape calls session)
   unfolding settle
@@ -92,24 +104,47 @@ module _ (shape : Shape) where
       next_holds calls session (driver_next session.jobs session.driver)
       (job_asked session.jobs session.driver session.driver.job h.1) (settle_holds calls) h
 
-  session_word : (session : SessionState) (found : ℕ) → Holds session → IsWord found
-      → Holds (session_after shape session found)
-  session_word session found h is =
+  call_word : (session : SessionState) (found : ℕ) → Holds session → IsWord found
+      → Holds (call_taken shape session found)
+  call_word session found h is =
       let client = client_after shape session.client found in
       asked_holds (calls_at_most session.jobs) session client (answer_now client.call)
       (settle_holds (calls_at_most session.jobs)) (word_holds shape session.client h.0 found is) h.1
+      (subst TreatmentHolds (sym (word_stays shape session.client found).1) h.2)
 
-  session_cut_holds : (session : SessionState) (ended : Bool) → Holds session
-      → Holds (if ended then session else record session { client = client_cut session.client })
-  session_cut_holds session true h = h
-  session_cut_holds session false h = (cut_holds shape session.client h.0, h.1)
+  treated_holds : (session : SessionState) (medic : Now MedicPoint Finish) → Holds session
+      → HoldsNow MedicHolds Any medic → Holds (treated session medic)
+  treated_holds session (At place) h m =
+      (record { last_is = h.0.last_is; opened = h.0.opened; running = h.0.running }, h.1, m)
+  treated_holds session (Over how) h m =
+      (record { last_is = h.0.last_is; opened = h.0.opened; running = h.0.running }, h.1, tt)
+
+  session_word : (session : SessionState) (found : ℕ) → Holds session → IsWord found
+      → Holds (session_after shape session found)
+  session_word session found h is = by_medic session.client.medic h.2
+    where
+      by_medic : (medic : Option (Now MedicPoint Finish)) → TreatmentHolds medic
+          → Holds (after_by shape session found medic)
+      by_medic None m = call_word session found h is
+      by_medic (Some (At place)) m =
+          treated_holds session (medic_after shape session.client.worker place found) h
+          (holds_law shape session.client.worker place found m is)
+      by_medic (Some (Over how)) m = h
+
+  session_cut_holds : (session : SessionState) → Holds session → Holds (session_cut shape.form session)
+  session_cut_holds session h =
+      let stop : Holds (stopped session) = (cut_holds shape session.client h.0, h.1, h.2) in
+      either Holds (jobs_over session || session.client.cut) session (cut_in shape.form session) h
+      (either Holds (has_intents shape.form) (treated (stopped session) (At medic_begin)) (stopped session)
+      (treated_holds (stopped session) (At medic_begin) stop tt) stop)
 
   pub session_keeps : SessionKeepsWords shape
   session_keeps = record {
-    new = λ client jobs policy h all.
-        settle_holds (calls_at_most jobs) record { client = client; driver = new_driver policy; jobs = jobs } (h, all);
+    new = λ client jobs policy h medic all.
+        settle_holds (calls_at_most jobs) record { client = client; driver = new_driver policy; jobs = jobs }
+        (h, all, medic);
     word = session_word;
-    cut = λ session h. session_cut_holds session (has_ended session) h;
+    cut = session_cut_holds;
   }
 
 -- 2. A world
@@ -145,13 +180,25 @@ module _ (shape : Shape) where
   session_at (s ∷ ss) (suc nth) session all e = session_at ss nth session all.1 e
 
   module _ (limits : FitsLimits shape) (world : World) (worker : ℕ) (h : WorldHolds shape world) where
-    step_by_holds : (session : SessionState) (verb : Option (VerbAt Field)) → ClientFits shape session.client
+    -- the verb is the client's or the medic's
+    session_writes : (session : SessionState) (verb : VerbAt Field) → WorkerFits shape (Some session)
+        → SessionHolds shape session → (medic : Option (Now MedicPoint Finish)) → MedicStands shape medic
+        → TreatmentHolds medic → verb_by shape session medic ≡ Some verb → WritesWord verb
+    session_writes session verb fits s None stands m e = client_writes shape limits session.client verb fits.0 s.0 e
+    session_writes session verb fits s (Some (At place)) stands m e =
+        let worker = session.client.worker in
+        subst WritesWord (same_Some (medic_verb shape worker place) verb e)
+        (word_law shape worker limits fits.0.0 place stands.1 m)
+    session_writes session verb fits s (Some (Over how)) stands m e = absurd (none-some verb e)
+
+    step_by_holds : (session : SessionState) (verb : Option (VerbAt Field)) → WorkerFits shape (Some session)
         → SessionHolds shape session → session_verb shape session ≡ verb
         → WorldHolds shape (step_by shape world worker session verb)
     step_by_holds session None fits s e = h
     step_by_holds session (Some verb) fits s e =
         let found = finds_word world.words verb h.0 in (
-          leaves_words world.words verb h.0 (client_writes shape limits session.client verb fits s.0 e),
+          leaves_words world.words verb h.0
+              (session_writes session verb fits s session.client.medic fits.1 s.2 e),
           sessions_set world.sessions (worker - 1) _ h.1 (session_word shape session _ s found),
         )
 
@@ -163,11 +210,11 @@ module _ (shape : Shape) where
         (session_at world.sessions (worker - 1) session h.1 e) refl
 
     cut_of_holds : (session : Option SessionState) → session_of world worker ≡ session
-        → WorldHolds shape (cut_of world worker session)
+        → WorldHolds shape (cut_of shape world worker session)
     cut_of_holds None e = h
     cut_of_holds (Some session) e =
         let s = session_at world.sessions (worker - 1) session h.1 e in
-        (h.0, sessions_set world.sessions (worker - 1) _ h.1 (session_cut_holds shape session (has_ended session) s))
+        (h.0, sessions_set world.sessions (worker - 1) _ h.1 (session_cut_holds shape session s))
 
 pub world_keeps : WorldKeepsLaw
 world_keeps shape limits world (Step worker) fits h =

@@ -2,7 +2,7 @@
 use Rattle.std.specs.List.{AllByRecursion}
 use Rattle.std.specs.Prelude.{slice_index}
 use Rattle.std.proofs.Common.{Bool, List, None, Option, Some, [], arith, length, replicate, sym, ℕ, ◌+◌, false, true}
-use Rattle.std.proofs.Common.{◌-◌, ◌<◌, ◌==◌, ◌∷◌, ◌≡◌, ◌≤◌}
+use Rattle.std.proofs.Common.{◌-◌, ◌<◌, ◌==◌, ◌∷◌, ◌++◌, ◌≡◌, ◌≤◌}
 use Rattle.std.proofs.lemmas.Bool.{false≢true}
 use Rattle.std.proofs.lemmas.Bool.Decides.{nat_tests}
 use Rattle.si_model.specs.declared.op.Op.{Op}
@@ -12,6 +12,12 @@ use Rattle.si_model.specs.declared.row.Key.{Key}
 use Rattle.si_model.specs.Evaluation.{can_change, field_of, op_key, writes_after, passes, new_number, with_field}
 use Rattle.si_model.specs.Operations.{op_reads}
 use Rattle.si_model.specs.Rows.{item_at, item_key, key_at, same_key}
+use Rattle.si_model.proofs.ListLemmas.{All-append}
+use Rattle.nam_verbs.proofs.TestLemmas.{by_test}
+use Rattle.nam_header.specs.Stamp.{is_moved}
+use Rattle.nam_layout.specs.Place.{slot_of}
+use Rattle.nam_calls.specs.declared.ring.SlotPoint.TheVariants.{CheckCount, CheckHead}
+use Rattle.nam_calls.specs.declared.ring.SlotEnd.TheVariants.{Free, NotMoved}
 use Rattle.nam_verbs.specs.declared.now.Now.{Now}
 use Rattle.nam_verbs.specs.declared.now.Now.TheVariants.{At, Over}
 use Rattle.nam_catalog.specs.declared.form.Form.{Form}
@@ -38,10 +44,15 @@ use Rattle.nam_calls.specs.declared.reading.ReadingEnd.TheVariants as read_end
 use Rattle.nam_protocol.specs.declared.txn.CommitPoint.{CommitPoint}
 use Rattle.nam_protocol.specs.declared.txn.CommitPoint.TheVariants.{Checking, Copying, Freeing, Installing, Locking}
 use Rattle.nam_protocol.specs.declared.txn.CommitPoint.TheVariants.{Publishing, Returning, Saving}
+use Rattle.nam_protocol.specs.declared.txn.CommitPoint.TheVariants.{Listing, Counting, Deciding, Clearing, Ending}
 use Rattle.nam_protocol.specs.declared.txn.TxnCall.{TxnCall}
 use Rattle.nam_protocol.specs.declared.txn.TxnPoint.{TxnPoint}
 use Rattle.nam_protocol.specs.declared.txn.TxnPoint.TheVariants.{Finding, Reading, Claiming, Committing}
 use Rattle.nam_protocol.specs.declared.txn.TxnState.{TxnState}
+use Rattle.nam_protocol.specs.declared.txn.Refusal.{Refusal}
+use Rattle.nam_protocol.specs.declared.txn.Refusal.TheVariants as refusal
+use Rattle.nam_protocol.specs.TxnFits.{AnswerFits}
+use Rattle.nam_protocol.specs.Commit.{checked, go, next_check, on_slot, tells_intent, lock_at, refused, refusal_answer}
 use Rattle.nam_protocol.specs.Commit.{ask_commit, commit_after, next_free, on_lock, on_words, places, record_place}
 use Rattle.nam_protocol.specs.HoldsWords.{CommitPlaceHolds, ItemHolds, OpHolds, ResultHolds, StateHolds, StepHolds}
 use Rattle.nam_protocol.specs.HoldsWords.{TxnCallHolds, TxnPlaceHolds}
@@ -51,7 +62,8 @@ use Rattle.nam_protocol.specs.TxnCalls.{txn_after, txn_ask}
 use Rattle.nam_protocol.proofs.FallsKeys.{all_wrote}
 use Rattle.nam_protocol.proofs.FallsTxn.{answer_fits}
 use Rattle.nam_protocol.proofs.GoesCommit.{ask_commit_goes, next_free_goes, on_copy_goes, on_install_goes}
-use Rattle.nam_protocol.proofs.GoesCommit.{on_return_goes, on_slot_goes}
+use Rattle.nam_protocol.proofs.GoesCommit.{on_return_goes, on_list_goes, next_count_goes, refused_goes}
+use Rattle.nam_protocol.proofs.GoesCommit.{with_count}
 use Rattle.nam_protocol.proofs.GoesTxn.{ask_goes, decided_goes, knowing}
 use Rattle.nam_protocol.specs.declared.txn.TxnCall.TheVariants as txn_call
 
@@ -144,10 +156,11 @@ module _ (shape : Shape) (state : TxnState) (h : StateHolds shape.form state) (o
     written = h.written;
     found = found_holds op value o has;
     headers = h.headers;
+    counted = h.counted;
   }
 
   unread : StateHolds shape.form (record state { read = None })
-  unread = record { last_is = h.last_is; written = h.written; found = tt; headers = h.headers }
+  unread = record { last_is = h.last_is; written = h.written; found = tt; headers = h.headers; counted = h.counted }
 
   valued_holds : (value : Option (List ℕ)) → HasWords value → Holds (on_value shape state op value)
   valued_holds value has =
@@ -178,6 +191,7 @@ module _ (shape : Shape) (state : TxnState) (h : StateHolds shape.form state) (o
       written = written_holds (widths_of shape.tables) op (value_in state.read) state.writes o h.found r h.written;
       found = h.found;
       headers = h.headers;
+      counted = h.counted;
     },
     answer_fits shape.form op (value_in state.read),
   )
@@ -190,6 +204,7 @@ module _ (shape : Shape) (state : TxnState) (h : StateHolds shape.form state) (o
         written_holds (widths_of shape.tables) op value state.writes o has (passed_result op value has e) h.written;
     found = found_holds op value o has;
     headers = h.headers;
+    counted = h.counted;
   }
 
   -- an operation is asked
@@ -207,31 +222,56 @@ module _ (form : Form) (state : TxnState) (h : StateHolds form state) (room : st
   abbrev Commits : Stepped → Type 0
   Commits = StepHolds form
 
+  refused_holds : (refusal : Refusal) → AnswerFits form (refusal_answer refusal) → Commits (refused state refusal)
+  refused_holds refusal fits = refused_goes Commits state refusal (λ e. (h, (room, tt))) (λ e. (h, fits))
+
   on_lock_holds : (now : Now Locks LockEnd) → HoldsNow LocksHold LockEndHolds now → Commits (on_lock state now)
   on_lock_holds (At locks) n =
-      (record { last_is = h.last_is; written = h.written; found = h.found; headers = n.0 }, (room, n.1))
+      (record { last_is = h.last_is; written = h.written; found = h.found; headers = n.0; counted = h.counted }, (room, n.1))
   on_lock_holds (Over (lock_end.Held headers)) n =
-      (record { last_is = h.last_is; written = h.written; found = h.found; headers = n }, (room, tt))
-  on_lock_holds (Over (lock_end.Locked nth found)) n = (h, tt)
-  on_lock_holds (Over (lock_end.Newer nth found)) n = (h, tt)
+      (record { last_is = h.last_is; written = h.written; found = h.found; headers = n; counted = h.counted }, (room, tt))
+  on_lock_holds (Over (lock_end.Locked nth found)) n =
+      refused_holds (refusal.Locked (lock_at state nth found)) tt
+  on_lock_holds (Over (lock_end.Newer nth found)) n = refused_holds (refusal.Newer (lock_at state nth found)) tt
 
   on_words_holds : (nth : ℕ) (now : Now (List ℕ) (List ℕ)) → HoldsNow AreWords AreWords now
       → Commits (on_words state nth now)
   on_words_holds nth (At got) n = (h, (room, n))
   on_words_holds nth (Over old) n = (h, (room, n))
 
+  counted_holds : (count : ℕ) → IsWord count → Commits (next_check (with_count state count))
+  counted_holds count is =
+      let h' : StateHolds form (with_count state count) = record {
+        last_is = h.last_is;
+        written = h.written;
+        found = h.found;
+        headers = h.headers;
+        counted = All-append IsWord state.counts (count ∷ []) h.counted (is, tt);
+      } in
+      either Commits (length (state.counts ++ count ∷ []) == length state.writes) (checked (with_count state count))
+      (go (with_count state count) (Checking CheckCount))
+      (either Commits (tells_intent state) (go (with_count state count) (Counting 0))
+      (go (with_count state count) (Saving 0 [])) (h', (room, tt)) (h', (room, tt))) (h', (room, tt))
+
   next_free_holds : (nth : ℕ) → Commits (next_free state nth)
-  next_free_holds nth = next_free_goes Commits state nth (λ e. (h, omega arith)) (λ e. (h, (room, tt)))
+  next_free_holds nth =
+      next_free_goes Commits state nth (λ e f. (h, (room, tt))) (λ e f. (h, omega arith)) (λ e. (h, (room, tt)))
 
   pub commit_holds : (at : CommitPoint) (found : ℕ) → CommitPlaceHolds at → IsWord found
       → Commits (commit_after state at found)
+  commit_holds (Listing at) found p is = on_list_goes Commits state _ (λ next e. (h, (room, tt))) (λ e. (h, (room, tt)))
   commit_holds (Locking at) found p is =
       on_lock_holds _ (lock_holds (places state) state.seen state.held at found h.headers p is)
-  commit_holds (Checking at) found p is =
-      on_slot_goes Commits state _ (λ next e. (h, (room, tt))) (λ count e f. (h, (room, tt)))
-      (λ count e f. (h, (room, tt))) (λ slot word e. (h, (room, tt)))
+  commit_holds (Checking CheckCount) found p is = (h, (room, is))
+  commit_holds (Checking (CheckHead count)) found p is =
+      let place = record_place state (length state.counts) in
+      by_test (λ now. Commits (on_slot state now)) (is_moved place.form found) (Over (Free count))
+      (Over (NotMoved (slot_of place count) found)) (λ t. counted_holds count p) (λ t. (h, (room, tt)))
   commit_holds (Returning given full) found p is =
-      on_return_goes Commits state full _ (λ next e. (h, (room, tt))) (λ e. (h, tt))
+      on_return_goes Commits state full _ (λ next e. (h, (room, tt))) (λ e f. (h, (room, tt))) (λ e f. (h, tt))
+  commit_holds (Counting nth) found p is =
+      next_count_goes Commits state (nth + 1) (λ e. (h, (room, tt))) (λ e. (h, (room, tt)))
+  commit_holds Deciding found p is = (h, (room, tt))
   commit_holds (Saving nth got) found p is =
       on_words_holds nth _ (value_holds (record_place state nth) got found p is)
   commit_holds (Copying nth old at) found p is =
@@ -241,6 +281,10 @@ module _ (form : Form) (state : TxnState) (h : StateHolds form state) (room : st
       (λ e f. (h, (room, tt)))
   commit_holds Publishing found p is = next_free_holds (length state.writes)
   commit_holds (Freeing nth) found p is = next_free_holds (nth + 1)
+  commit_holds (Clearing (refusal.Locked lock)) found p is = (h, tt)
+  commit_holds (Clearing (refusal.Newer lock)) found p is = (h, tt)
+  commit_holds (Clearing (refusal.Full lock)) found p is = (h, tt)
+  commit_holds Ending found p is = (h, omega arith)
 
 less_from : (last most : ℕ) → last ≤ most → (last == most) ≡ false → last < most
 less_from last most l e = grind (arith, nat_tests)
@@ -249,10 +293,14 @@ pub ask_commit_holds : (shape : Shape) (state : TxnState) → StateHolds shape.f
     → StepHolds shape.form (ask_commit shape state)
 ask_commit_holds shape state h =
     let read_none : StateHolds shape.form (record state { read = None }) =
-    record { last_is = h.last_is; written = h.written; found = tt; headers = h.headers } in
+    record { last_is = h.last_is; written = h.written; found = tt; headers = h.headers; counted = h.counted } in
     ask_commit_goes (StepHolds shape.form) state shape (λ e. (read_none, tt)) (λ e f. (read_none, tt))
-    (λ e f. (
-      record { last_is = h.last_is; written = h.written; found = tt; headers = tt },
+    (λ e f t. (
+      record { last_is = h.last_is; written = h.written; found = tt; headers = tt; counted = tt },
+      (less_from state.last (greatest_number shape.form) h.last_is f, tt),
+    ))
+    (λ e f t. (
+      record { last_is = h.last_is; written = h.written; found = tt; headers = tt; counted = tt },
       (less_from state.last (greatest_number shape.form) h.last_is f, tt),
     ))
 

@@ -2,7 +2,7 @@
 use Rattle.std.specs.List.{AllByRecursion}
 use Rattle.std.specs.Prelude.{is_some, slice_index, slice_index_or}
 use Rattle.std.proofs.Common.{Bool, List, None, Option, Some, [], ap, arith, false, length, not, refl, subst, suc, sym}
-use Rattle.std.proofs.Common.{zero, ℕ, ◌+◌, ◌<◌, ◌∷◌, ◌≡◌, ◌≤◌}
+use Rattle.std.proofs.Common.{zero, ℕ, ◌+◌, ◌*◌, ◌<◌, ◌∷◌, ◌≡◌, ◌≤◌}
 use Rattle.std.proofs.lemmas.Option.{none-some, same_Some}
 use Rattle.si_model.specs.declared.op.Op.TheVariants.{Get, Put, Add, Del, Need, Guard, Scan}
 use Rattle.si_model.specs.declared.op.Op.{Op}
@@ -24,6 +24,10 @@ use Rattle.nam_layout.proofs.ExtentLemmas.{rows_le}
 use Rattle.nam_vector.specs.Snap.{snap_verb}
 use Rattle.nam_calls.specs.declared.index.ClaimKeyPoint.TheVariants.{KeyLook, KeyTake}
 use Rattle.nam_calls.specs.declared.index.ClaimKeyPoint.{ClaimKeyPoint}
+use Rattle.nam_calls.specs.declared.intent.IntentKind.{IntentKind}
+use Rattle.nam_calls.specs.declared.intent.IntentKind.TheVariants.{Value, Deletion}
+use Rattle.nam_calls.specs.declared.intent.IntentKind.TheVariants as intent_kind
+use Rattle.nam_calls.specs.Intent.{kind_word}
 use Rattle.nam_calls.specs.declared.record.InstallPoint.TheVariants.{InstallCount, InstallHead, InstallWord}
 use Rattle.nam_calls.specs.declared.ring.CopyPoint.TheVariants.{CopyEnding, CopyHead, CopyMark, CopyWord}
 use Rattle.nam_calls.specs.Fits.{IsOf}
@@ -43,13 +47,17 @@ use Rattle.nam_protocol.specs.declared.client.ClientState.{ClientState}
 use Rattle.nam_protocol.specs.declared.client.Open.{Open}
 use Rattle.nam_protocol.specs.declared.txn.CommitPoint.TheVariants.{Checking, Copying, Freeing, Installing, Locking}
 use Rattle.nam_protocol.specs.declared.txn.CommitPoint.TheVariants.{Publishing, Returning, Saving}
+use Rattle.nam_protocol.specs.declared.txn.CommitPoint.TheVariants.{Listing, Counting, Deciding, Clearing, Ending}
+use Rattle.nam_protocol.specs.declared.txn.ListPoint.{ListPoint}
+use Rattle.nam_protocol.specs.declared.txn.ListPoint.TheVariants.{ListRow, ListKind, ListData, ListNumber, ListState}
 use Rattle.nam_protocol.specs.declared.txn.CommitPoint.{CommitPoint}
 use Rattle.nam_protocol.specs.declared.txn.TxnPoint.TheVariants.{Finding, Reading, Claiming, Committing}
 use Rattle.nam_protocol.specs.declared.txn.TxnPoint.{TxnPoint}
 use Rattle.nam_protocol.specs.declared.txn.TxnState.{TxnState}
 use Rattle.nam_protocol.specs.Client.{call_verb, open_verb, verb_of}
 use Rattle.nam_protocol.specs.ClientFits.{CallPointFits, ClientFits, NowFits, OpenFits, OpenPointFits}
-use Rattle.nam_protocol.specs.Commit.{commit_verb, no_item, own_stamp, places, record_place, value_at}
+use Rattle.nam_protocol.specs.Commit.{commit_verb, kind_at, list_verb, no_item, own_stamp, places, record_place}
+use Rattle.nam_protocol.specs.Commit.{value_at}
 use Rattle.nam_protocol.specs.FieldLaw.{IsRowPlace}
 use Rattle.nam_protocol.specs.HoldsWords.{CallPlaceHolds, CommitPlaceHolds, ItemHolds, OpHolds, OpenHolds, HoldsWords}
 use Rattle.nam_protocol.specs.HoldsWords.{OpenPlaceHolds, RunHolds, StateHolds, TxnPlaceHolds}
@@ -59,7 +67,7 @@ use Rattle.nam_protocol.specs.TxnCalls.{txn_verb}
 use Rattle.nam_protocol.specs.TxnFits.{CommitFits, StateFits, TxnPointFits}
 use Rattle.nam_protocol.specs.WordsLaw.{ClientWritesLaw}
 use Rattle.nam_protocol.proofs.CallWrites.{scan_reads}
-use Rattle.nam_protocol.proofs.FieldLemmas.{placed, written_less}
+use Rattle.nam_protocol.proofs.FieldLemmas.{few_records, placed, written_less}
 
 module _ (shape : Shape) (limits : FitsLimits shape) where
   -- 1. A commit
@@ -88,14 +96,38 @@ module _ (shape : Shape) (limits : FitsLimits shape) where
     item_words (w ∷ ws) zero all = all.0
     item_words (w ∷ ws) (suc nth) all = item_words ws nth all.1
 
+    kind_is : (kind : IntentKind) → IsWord (kind_word kind)
+    kind_is Value = omega arith
+    kind_is Deletion = omega arith
+    kind_is intent_kind.Guard = omega arith
+
+    zero_word : IsWord 0
+    zero_word = omega arith
+
+    state_is : length state.records ≤ 16 → (phase : ℕ) → phase ≤ 2 → IsWord (4 * length state.records + phase)
+    state_is few phase l = omega arith
+
+    list_word : (at : ListPoint) → CommitFits shape state (Listing at) → state.last < greatest_number shape.form
+        → WritesWord (list_verb state at)
+    list_word (ListRow nth) c room =
+        row_word (record_place state nth) (placed shape limits state fits c.0 nth c.2.2)
+    list_word (ListKind nth) c room = kind_is (kind_at state nth)
+    list_word (ListData nth word) c room =
+        value_word (value_at state nth) word (item_words state.writes nth h.written)
+    list_word ListNumber c room = number_word shape.form (state.last + 1) (omega arith)
+    list_word ListState c room = state_is (few_records shape limits state fits c.0) 1 (omega arith)
+
     commit_word : (at : CommitPoint) → CommitFits shape state at → state.last < greatest_number shape.form
         → CommitPlaceHolds at → WritesWord (commit_verb state at)
+    commit_word (Listing at) c room p = list_word at c room
     commit_word (Locking at) c room p =
         lock_word (places state) state.worker state.held at (most state.worker fits.worker_is) h.headers p
     commit_word (Checking at) c room p =
         no_word (slot_verb (record_place state (length state.counts)) at)
         (slot_reads (record_place state (length state.counts)) at)
     commit_word (Returning given full) c room p = words_at state.held given h.headers
+    commit_word (Counting nth) c room p = words_at state.counts nth h.counted
+    commit_word Deciding c room p = state_is (few_records shape limits state fits c.0) 2 (omega arith)
     commit_word (Saving nth got) c room p = tt
     commit_word (Copying nth old CopyMark) c room p = mark_word
     commit_word (Copying nth old CopyEnding) c room p =
@@ -111,6 +143,8 @@ module _ (shape : Shape) (limits : FitsLimits shape) where
         (placed shape limits state fits c.0 nth (written_less shape limits state fits c.0 nth c.2.2)) room
     commit_word Publishing c room p = number_word shape.form (state.last + 1) (omega arith)
     commit_word (Freeing nth) c room p = words_at state.held nth h.headers
+    commit_word (Clearing refusal) c room p = zero_word
+    commit_word Ending c room p = zero_word
 
     -- 2. A transaction
 

@@ -38,7 +38,7 @@ use Rattle.nam_protocol.specs.AnswersLaw.{SessionCarriesLaw}
 use Rattle.nam_protocol.specs.Carries.{Carries}
 use Rattle.nam_protocol.specs.Own.{OpenClient, OwnOk, StageClient}
 use Rattle.nam_protocol.specs.SessionKeeps.{ClientKeeps, OpensAsked, SessionKeepsLaw, is_asking}
-use Rattle.nam_protocol.proofs.AnswersClient.{asked_carries, cut_carries, new_carries, word_carries}
+use Rattle.nam_protocol.proofs.AnswersClient.{asked_carries, cut_carries, treated_carries, new_carries, word_carries}
 use Rattle.nam_protocol.proofs.GoesSession.{NextHolds, SessionKeeps, cut_kept, new_kept, reached_kept, word_kept}
 use Rattle.nam_protocol.proofs.OpenLemmas.{open_asked, open_cut, open_word}
 use Rattle.nam_protocol.proofs.OwnLemmas.{own_asked, own_cut, own_word}
@@ -135,6 +135,8 @@ module _ (shape : Shape) (limits : FitsLimits shape) (P : ClientState → Type 0
         holds.client)
         client.call s.does s.lists;
     cut = λ session holds. record { opened = holds.opened; client = keeps.cut session.client holds.client };
+    treated = λ session medic holds.
+        record { opened = holds.opened; client = keeps.treated session.client medic holds.client };
   }
 
   -- so by each word of a verb that stands, by a stop, and of each session that occurs
@@ -142,7 +144,7 @@ module _ (shape : Shape) (limits : FitsLimits shape) (P : ClientState → Type 0
       → session_verb shape session ≡ Some verb → Holds session → Holds (session_after shape session found)
   word_holds = word_kept shape limits Holds session_holds
 
-  pub cut_holds : (session : SessionState) → Holds session → Holds (session_cut session)
+  pub cut_holds : (session : SessionState) → Holds session → Holds (session_cut shape.form session)
   cut_holds = cut_kept shape limits Holds session_holds
 
   module _ (worker start : ℕ) (jobs : List Job) (policy : Policy) (is : IsOf shape.workers worker)
@@ -171,6 +173,7 @@ carries_keeps shape = record {
   word = λ client place found fits uncut e. word_carries shape client found fits;
   asked = λ client asked fits. asked_carries shape client asked;
   cut = cut_carries;
+  treated = treated_carries;
 }
 
 pub own_keeps : (shape : Shape) (worker : ℕ) → ClientKeeps shape (OwnOk shape worker)
@@ -178,6 +181,8 @@ own_keeps shape worker = record {
   word = λ client place found fits uncut. own_word shape worker client place found fits;
   asked = λ client asked fits. own_asked shape worker client asked;
   cut = own_cut shape worker;
+  treated = λ client medic own.
+      record { worker_is = own.worker_is; start_is = own.start_is; opened = own.opened };
 }
 
 pub stage_keeps : (shape : Shape) → ClientKeeps shape StageClient
@@ -185,6 +190,7 @@ stage_keeps shape = record {
   word = λ client place found fits uncut. stage_word shape client place found fits;
   asked = λ client asked fits may stage. stage_asked shape client asked may;
   cut = stage_cut;
+  treated = λ client medic stage. stage;
 }
 
 pub open_keeps : (shape : Shape) → ClientKeeps shape OpenClient
@@ -192,6 +198,7 @@ open_keeps shape = record {
   word = λ client place found fits uncut e. open_word shape client found;
   asked = λ client asked fits may opens. open_asked shape client asked may;
   cut = open_cut;
+  treated = λ client medic open_. open_;
 }
 
 pub session_carries : SessionCarriesLaw

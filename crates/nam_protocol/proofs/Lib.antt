@@ -11,8 +11,10 @@ mod RareExample
 mod PolicyExample
 mod ClientExample
 mod BoundsExample
+mod HeldExample
 mod AnswersExample
 mod WorldExample
+mod MedicExample
 mod FitsExample
 pub mod KeyLemmas
 pub mod FallsKeys
@@ -34,7 +36,9 @@ pub mod RunsClient
 pub mod JobKeys
 pub mod FewLemmas
 pub mod EndsDriver
+pub mod StaysLemmas
 pub mod EndsSession
+pub mod EndsSettled
 pub mod EndsWorld
 pub mod RoomDriver
 pub mod EventsClient

@@ -37,8 +37,14 @@ use Rattle.nam_protocol.specs.Client.{ask_scan, ask_txn, call_after, client_ask,
 use Rattle.nam_protocol.specs.Client.{with_call}
 use Rattle.nam_protocol.specs.ClientEvents.{is_open_after}
 use Rattle.nam_protocol.specs.ClientFits.{CallFits, CallPointFits, OpenPointFits}
-use Rattle.nam_protocol.specs.CutClient.{closed_call, cut_in_txn, cut_move, cut_open, left_open}
-use Rattle.nam_protocol.specs.declared.txn.CommitPoint.TheVariants.{Freeing}
+use Rattle.nam_protocol.specs.CutClient.{closed_call, cut_in_txn, cut_tail, cut_move, cut_open, left_open}
+use Rattle.nam_protocol.specs.CutClient.{has_committed}
+use Rattle.nam_protocol.specs.CutClient.{finished_in_txn, finished_call, closed_client}
+use Rattle.si_model.specs.declared.log.Finish.{Finish}
+use Rattle.si_model.specs.declared.log.Event.TheVariants.{Finished}
+use Rattle.si_model.specs.declared.log.Outcome.TheVariants as outcome
+use Rattle.nam_calls.proofs.FallsTests.{either}
+use Rattle.nam_protocol.specs.declared.txn.CommitPoint.TheVariants.{Freeing, Ending}
 use Rattle.nam_layout.specs.Place.{bucket_of, place_of}
 use Rattle.nam_calls.specs.Mover.{move_claimed}
 use Rattle.si_model.specs.declared.log.Stamp.{Stamp}
@@ -47,7 +53,8 @@ use Rattle.nam_protocol.specs.Log.{with_event, with_reads, with_snap, with_write
 use Rattle.nam_protocol.specs.Operations.{holding}
 use Rattle.nam_protocol.specs.Own.{IsOpenAt, Rests}
 use Rattle.nam_protocol.specs.RoomLaw.{call_room}
-use Rattle.nam_protocol.specs.Telling.{go, new_locks, stepped}
+use Rattle.nam_protocol.specs.Telling.{go, new_locks, stepped, with_listed, with_commit}
+use Rattle.nam_protocol.specs.Telling.{with_end}
 use Rattle.nam_protocol.specs.Txn.{Stepped}
 use Rattle.nam_protocol.specs.TxnCalls.{taken_now}
 use Rattle.nam_protocol.specs.declared.client.Answer.TheVariants as answer
@@ -193,8 +200,8 @@ module _ (shape : Shape) (word keys : ℕ) (before after : ClientState) where
       → CommitTells shape word before after attempt at end → Lists 0 (ended keys true (has_passed end)) 0
   commit_lists attempt at few (txn_answer.Committed number) told =
       writes_more 0 keys 0 before.log after.log _ attempt.state.writes few told.log
-  commit_lists attempt at few (txn_answer.Locked lock) told = event_more 0 keys 0 before.log after.log _ told.log
-  commit_lists attempt at few (txn_answer.Newer lock) told = event_more 0 keys 0 before.log after.log _ told.log
+  commit_lists attempt at few (txn_answer.Locked lock) told = event_more 0 keys 0 before.log after.log _ told.2.log
+  commit_lists attempt at few (txn_answer.Newer lock) told = event_more 0 keys 0 before.log after.log _ told.2.log
   commit_lists attempt at few (txn_answer.Full lock) told = event_more 0 keys 0 before.log after.log _ told.1
   commit_lists attempt at few _ told = absurd told
 
@@ -554,14 +561,19 @@ module _ (shape : Shape) (keys : ℕ) (client : ClientState) where
   ended_closed now None = no_more _ _ _ client.log client.log refl
   ended_closed now (Some attempt) = event_more _ _ _ client.log _ _ refl
 
-  commit_closed : (attempt : Open) (at : CommitPoint) → length attempt.state.writes ≤ keys
-      → Closed (Some (At (InTxn (Committing at)))) (cut_in_txn client attempt (Committing at))
-  commit_closed attempt (Freeing nth) few = record {
+  tail_closed : (attempt : Open) (at : CommitPoint) → length attempt.state.writes ≤ keys
+      → Closed (Some (At (InTxn (Committing at)))) (cut_tail client attempt)
+  tail_closed attempt at few = record {
     reads = omega arith;
     writes = (let l = length-append client.log.writes attempt.state.writes in omega arith);
     locks = refl;
     snaps = omega arith;
   }
+
+  commit_closed : (attempt : Open) (at : CommitPoint) → length attempt.state.writes ≤ keys
+      → Closed (Some (At (InTxn (Committing at)))) (cut_in_txn client attempt (Committing at))
+  commit_closed attempt (Freeing nth) few = tail_closed attempt (Freeing nth) few
+  commit_closed attempt Ending few = tail_closed attempt Ending few
   commit_closed attempt _ few = event_more _ _ _ client.log _ _ refl
 
   cut_closed : (at : TxnPoint) (opened : Option Open) → WritesWithin keys opened (InTxn at)
@@ -577,7 +589,7 @@ module _ (shape : Shape) (keys : ℕ) (client : ClientState) where
   move_closed now table key bucket None = event_more _ _ _ client.log _ _ refl
   move_closed now table key bucket (Some stamp) = event_more _ _ _ client.log _ _ refl
 
-  pub closed_lists : (now : Option (Now CallPoint Answer)) → WritesNow keys client.txn now
+  closed_lists : (now : Option (Now CallPoint Answer)) → WritesNow keys client.txn now
       → Closed now (closed_call shape client now)
   closed_lists None few = ended_closed None client.txn
   closed_lists (Some (Over end)) few = ended_closed (Some (Over end)) client.txn
@@ -592,3 +604,36 @@ module _ (shape : Shape) (keys : ℕ) (client : ClientState) where
       (move_claimed place at)
   closed_lists (Some (At (Snapping bucket at))) few = event_more _ _ _ client.log _ _ refl
   closed_lists (Some (At (Collecting bucket prefix seen at))) few = event_more _ _ _ client.log _ _ refl
+
+  -- the medic has finished it
+  more_event : (now : Option (Now CallPoint Answer)) (after : ClientState) (event : Event) → Closed now after
+      → Closed now (with_listed after event)
+  more_event now after event l = record { reads = l.reads; writes = l.writes; locks = l.locks; snaps = l.snaps }
+
+  finished_closed : (at : TxnPoint) (how : Finish) (opened : Option Open) → WritesWithin keys opened (InTxn at)
+      → Closed (Some (At (InTxn at))) (finished_in_txn client at how opened)
+  finished_closed at how None few = no_more _ _ _ client.log client.log refl
+  finished_closed (Committing at) how (Some attempt) few =
+      either (Closed (Some (At (InTxn (Committing at))))) (has_committed (Committing at) how)
+      (with_commit client attempt (attempt.state.last + 1)) (with_end client attempt outcome.Cut)
+      (record {
+        reads = omega arith;
+        writes = (let l = length-append client.log.writes attempt.state.writes in omega arith);
+        locks = refl;
+        snaps = omega arith;
+      })
+      (event_more _ _ _ client.log _ _ refl)
+  finished_closed (Finding op passed) how (Some attempt) few = event_more _ _ _ client.log _ _ refl
+  finished_closed (Reading op position at) how (Some attempt) few = event_more _ _ _ client.log _ _ refl
+  finished_closed (Claiming op at) how (Some attempt) few = event_more _ _ _ client.log _ _ refl
+
+  finished_lists : (how : Finish) (now : Option (Now CallPoint Answer)) → WritesNow keys client.txn now
+      → Closed now (finished_call shape client how now)
+  finished_lists how (Some (At (InTxn at))) few = finished_closed at how client.txn few
+  finished_lists how now few = closed_lists now few
+
+  pub log_lists : (finish : Option Finish) (now : Option (Now CallPoint Answer)) → WritesNow keys client.txn now
+      → Closed now (closed_client shape client finish now)
+  log_lists None now few = closed_lists now few
+  log_lists (Some how) now few =
+      more_event now (finished_call shape client how now) (Finished how) (finished_lists how now few)

@@ -34,21 +34,24 @@ use Rattle.nam_protocol.specs.Own.{Rests}
 use Rattle.si_model.specs.declared.log.Lock.{Lock}
 use Rattle.nam_protocol.specs.ListsLaw.{KeysWithin, ListsLaw, ListsWithin}
 use Rattle.nam_protocol.specs.SessionFits.{NowRuns, OpenRuns, PlaceRuns, SessionFits, is_running, ops_of}
-use Rattle.nam_protocol.specs.CutClient.{closed_call}
+use Rattle.nam_protocol.specs.CutClient.{closed_client, finish_of}
 use Rattle.nam_protocol.specs.TxnFits.{CommitFits, CommitPointFits}
 use Rattle.nam_calls.specs.declared.lock.LockPoint.TheVariants.{GiveBack, Peek, Seize}
 use Rattle.nam_protocol.specs.declared.txn.CommitPoint.TheVariants.{Checking, Copying, Freeing, Installing, Locking}
 use Rattle.nam_protocol.specs.declared.txn.CommitPoint.TheVariants.{Publishing, Returning, Saving}
+use Rattle.nam_protocol.specs.declared.txn.CommitPoint.TheVariants.{Listing, Counting, Deciding, Clearing, Ending}
 use Rattle.nam_protocol.proofs.FallsAttempt.{guards_as_asked}
 use Rattle.nam_protocol.proofs.ListsClient.{WritesWithin, ended, open_locks}
 use Rattle.nam_protocol.proofs.RunsClient.{IsAnswered, NowDoes, take_past}
 use Rattle.nam_protocol.proofs.ListsClient.{KeepsLocks, Listed, NowSame, Same, answer_lists, answer_locks}
-use Rattle.nam_protocol.proofs.ListsClient.{ask_same, asked_lists, asked_locks, begins_snap, closed_lists}
+use Rattle.nam_protocol.proofs.ListsClient.{ask_same, asked_lists, asked_locks, begins_snap}
+use Rattle.nam_protocol.proofs.ListsClient.{log_lists}
 use Rattle.nam_protocol.proofs.ListsClient.{collects_snap}
 use Rattle.nam_protocol.proofs.ListsClient.{closing_writes, rests_snap, word_same}
 use Rattle.nam_protocol.proofs.AskedSession.{AsksSo, NowOf, job_is, session_asks}
 use Rattle.nam_protocol.proofs.AnswersOps.{no_locks}
-use Rattle.nam_protocol.proofs.AnswersClient.{answers_tell, asked_carries, cut_carries, new_carries, word_carries}
+use Rattle.nam_protocol.proofs.AnswersClient.{treated_carries, answers_tell, asked_carries, cut_carries, new_carries}
+use Rattle.nam_protocol.proofs.AnswersClient.{word_carries}
 use Rattle.nam_protocol.proofs.EndsSession.{IsReady, nth_holds}
 use Rattle.nam_protocol.proofs.OpensDriver.{asks_after, one, one_at_most}
 use Rattle.nam_protocol.proofs.GoesSession.{NextHolds, SessionKeeps, Steps, reached_kept}
@@ -91,13 +94,18 @@ taken_within : (shape : Shape) (state : TxnState) (at : CommitPoint) → CommitP
 taken_within shape state (Locking Peek) fits = let l = fits.0 in omega arith
 taken_within shape state (Locking (Seize header)) fits = let l = fits.0 in omega arith
 taken_within shape state (Locking (GiveBack given found)) fits = let l = fits.0.0 in omega arith
+taken_within shape state (Listing at) fits = let l = fits.0 in omega arith
 taken_within shape state (Checking at) fits = let l = fits.0 in omega arith
 taken_within shape state (Returning given full) fits = let l = fits.0 in omega arith
+taken_within shape state (Counting nth) fits = let l = fits.0 in omega arith
+taken_within shape state Deciding fits = let l = fits.0 in omega arith
 taken_within shape state (Saving nth got) fits = let l = fits.0 in omega arith
 taken_within shape state (Copying nth old at) fits = let l = fits.0 in omega arith
 taken_within shape state (Installing nth at) fits = let l = fits.0 in omega arith
 taken_within shape state Publishing fits = let l = fits.0 in omega arith
 taken_within shape state (Freeing nth) fits = let l = fits.0 in omega arith
+taken_within shape state (Clearing refusal) fits = let l = fits.0 in omega arith
+taken_within shape state Ending fits = let l = fits.0 in omega arith
 
 -- a commit runs only after all operations
 all_asked : (ops : List Op) (nth : ℕ) (attempt : Open) (at : CommitPoint) (o : Option Op) → slice_get ops nth ≡ o
@@ -429,6 +437,17 @@ module _ (shape : Shape) (whole : Room) (keys : ℕ) where
       locks = p.locks;
       snaps = p.snaps;
     };
+    treated = λ session medic p. record {
+      asks = (session_asks shape).treated session medic p.asks;
+      carries = treated_carries session.client medic p.carries;
+      opens = p.opens;
+      counts = p.counts;
+      few = p.few;
+      reads = p.reads;
+      writes = p.writes;
+      locks = p.locks;
+      snaps = p.snaps;
+    };
   }
 
   -- 5. The log at the end
@@ -448,9 +467,10 @@ module _ (shape : Shape) (whole : Room) (keys : ℕ) where
   closing_paid left b (Collecting bucket prefix seen at) opened stands e = omega arith
 
   log_rests : (session : SessionState) (now : Option (Now CallPoint Answer)) → session.client.call ≡ now → Rests now
-      → ListsSo shape whole keys session → ListsWithin whole keys (closed_call shape session.client now).log
+      → ListsSo shape whole keys session
+      → ListsWithin whole keys (closed_client shape session.client (finish_of session.client.medic) now).log
   log_rests session None e rests p =
-      let l = closed_lists shape keys session.client None tt in
+      let l = log_lists shape keys session.client (finish_of session.client.medic) None tt in
       let m = rests_locks session.client.last session.client.log.locks None session.client.txn rests
       (subst (λ now. OpenCarries session.client.last session.client.log.locks now session.client.txn) e
       p.carries.opened)
@@ -463,7 +483,7 @@ module _ (shape : Shape) (whole : Room) (keys : ℕ) where
         snaps = (let a = l.snaps in let b = p.snaps in omega arith);
       }
   log_rests session (Some (Over end)) e rests p =
-      let l = closed_lists shape keys session.client (Some (Over end)) tt in
+      let l = log_lists shape keys session.client (finish_of session.client.medic) (Some (Over end)) tt in
       let m = rests_locks session.client.last session.client.log.locks (Some (Over end)) session.client.txn rests
       (subst (λ now. OpenCarries session.client.last session.client.log.locks now session.client.txn) e
       p.carries.opened)
@@ -480,12 +500,13 @@ module _ (shape : Shape) (whole : Room) (keys : ℕ) where
   log_runs : (session : SessionState) (place : CallPoint) (job : Job) → SessionFits shape session
       → session.client.call ≡ Some (At place) → slice_get session.jobs session.driver.job ≡ Some job
       → ListsSo shape whole keys session
-      → ListsWithin whole keys (closed_call shape session.client (Some (At place))).log
+      → ListsWithin whole keys
+      (closed_client shape session.client (finish_of session.client.medic) (Some (At place))).log
   log_runs session place job fits e here p =
       let driver = session.driver in
       let r = runs_of session place job fits e here p in
       let asked = place_call job driver.nth driver.place in
-      let l = closed_lists shape keys session.client (Some (At place)) r.writes in
+      let l = log_lists shape keys session.client (finish_of session.client.medic) (Some (At place)) r.writes in
       let left = room_left shape session.jobs driver in
       let b = is_asking driver.place in
       let m = mine_paid b left.attempts keys (open_locks session.client.txn) r.mine
@@ -507,7 +528,7 @@ module _ (shape : Shape) (whole : Room) (keys : ℕ) where
 
   log_within : (session : SessionState) → SessionFits shape session → ListsSo shape whole keys session
       → (now : Option (Now CallPoint Answer)) → session.client.call ≡ now
-      → ListsWithin whole keys (closed_call shape session.client now).log
+      → ListsWithin whole keys (closed_client shape session.client (finish_of session.client.medic) now).log
   log_within session fits p None e = log_rests session None e tt p
   log_within session fits p (Some (Over end)) e = log_rests session (Some (Over end)) e tt p
   log_within session fits p (Some (At place)) e =

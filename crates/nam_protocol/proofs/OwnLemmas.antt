@@ -149,15 +149,16 @@ module _ (shape : Shape) (worker : ℕ) where
   commit_same state at found =
       commit_goes (λ step. SameBegin state step.state) state at found (λ next to. same_begin state)
       (λ header next e to. record { worker = refl; last = refl; seen = refl })
-      (λ place count e. record { worker = refl; last = refl; seen = refl })
-      (λ place count e. record { worker = refl; last = refl; seen = refl }) (λ answer ends. same_begin state)
+      (λ place count next e to. record { worker = refl; last = refl; seen = refl })
+      (λ answer ends. same_begin state)
 
   asked_same : (state : TxnState) → SameBegin state (ask_commit shape state).state
   asked_same state =
       ask_commit_goes (λ step. SameBegin state step.state) state shape
       (λ e. record { worker = refl; last = refl; seen = refl })
       (λ e f. record { worker = refl; last = refl; seen = refl })
-      (λ e f. record { worker = refl; last = refl; seen = refl })
+      (λ e f t. record { worker = refl; last = refl; seen = refl })
+      (λ e f t. record { worker = refl; last = refl; seen = refl })
 
   -- 3. By the sorts
 

@@ -1,20 +1,22 @@
 -- The commit is its straight program.
 use Rattle.std.proofs.Common.{◌≡◌, ℕ, zero, suc, ◌+◌, ◌-◌, ◌<◌, ◌≤◌, false, List, [], ◌∷◌, ◌++◌, length, map, Option}
 use Rattle.std.proofs.Common.{Some, None, refl, sym, subst, arith, length-append}
-use Rattle.std.specs.Prelude.{◌==◌, if◌then◌else◌, slice_index}
+use Rattle.std.specs.Prelude.{◌==◌, if◌then◌else◌, nat_lt, slice_index}
 use Rattle.std.proofs.lemmas.Bool.Decides.{nat_tests}
 use Rattle.std.proofs.lemmas.List.{length-map}
 use Rattle.si_model.specs.Rows.{item_key}
 use Rattle.si_model.specs.Evaluation.{unwritten}
 use Rattle.nam_verbs.specs.declared.now.Now.{Now}
 use Rattle.nam_verbs.specs.declared.now.Now.TheVariants.{At, Over}
-use Rattle.nam_verbs.proofs.TestLemmas.{if_in}
+use Rattle.nam_verbs.proofs.TestLemmas.{by_test, if_in}
 use Rattle.nam_catalog.specs.declared.shape.Shape.{Shape}
 use Rattle.nam_catalog.specs.Greatest.{greatest_number}
 use Rattle.nam_header.specs.Stamp.{is_locked, is_moved, sees}
 use Rattle.nam_layout.specs.declared.field.Place.{Place}
 use Rattle.nam_layout.specs.Place.{slot_of}
 use Rattle.nam_layout.specs.declared.field.Field.TheVariants as field
+use Rattle.nam_calls.specs.declared.intent.IntentKind.TheVariants.{Guard}
+use Rattle.nam_calls.specs.Intent.{count_field, data_field}
 use Rattle.nam_calls.specs.declared.record.InstallPoint.TheVariants.{InstallWord, InstallCount}
 use Rattle.nam_calls.specs.declared.ring.CopyPoint.TheVariants.{CopyMark, CopyWord, CopyHead}
 use Rattle.nam_calls.specs.declared.ring.SlotPoint.{SlotPoint}
@@ -32,15 +34,24 @@ use Rattle.nam_calls.proofs.Programs.{writes_left, writes_is, part_with, the_pro
 use Rattle.nam_calls.specs.declared.lock.LockEnd.TheVariants as lock_end
 use Rattle.nam_protocol.specs.declared.txn.TxnState.{TxnState}
 use Rattle.nam_protocol.specs.declared.txn.TxnAnswer.{TxnAnswer}
-use Rattle.nam_protocol.specs.declared.txn.TxnAnswer.TheVariants.{Committed, Full}
+use Rattle.nam_protocol.specs.declared.txn.TxnAnswer.TheVariants.{Committed}
 use Rattle.nam_protocol.specs.declared.txn.CommitPoint.TheVariants.{Locking, Checking, Returning, Saving, Copying}
 use Rattle.nam_protocol.specs.declared.txn.CommitPoint.TheVariants.{Installing, Publishing, Freeing}
-use Rattle.nam_protocol.specs.Txn.{Stepped, over}
+use Rattle.nam_protocol.specs.Txn.{Stepped}
+use Rattle.nam_protocol.specs.declared.txn.CommitPoint.TheVariants.{Listing, Counting, Deciding}
+use Rattle.nam_protocol.specs.declared.txn.ListPoint.TheVariants.{ListRow, ListData, ListNumber}
+use Rattle.nam_protocol.specs.declared.txn.Refusal.{Refusal}
+use Rattle.nam_protocol.specs.declared.txn.Refusal.TheVariants as refusal
+use Rattle.nam_protocol.specs.Commit.{checked, commit_begin, committing, ended, kind_at, kind_of, list_kind_after}
+use Rattle.nam_protocol.specs.Commit.{list_next}
+use Rattle.nam_protocol.specs.Commit.{on_list, refusal_answer, refused, tells_intent}
 use Rattle.nam_protocol.specs.Commit.{go, places, record_place, value_at, lock_at, records_of, commit_keys, record_in}
 use Rattle.nam_protocol.specs.Commit.{next_check, on_lock, on_slot, on_return, on_words, on_copy, on_install}
-use Rattle.nam_protocol.specs.ProgramCommit.{Checked, NotFree, give_all_back, lock_records, check_slots, data_words}
+use Rattle.nam_protocol.specs.ProgramCommit.{finish, kind_words, list_records, list_end, locked_records}
+use Rattle.nam_protocol.specs.ProgramCommit.{Checked, AllFree, NotFree, give_all_back, lock_records, check_slots}
+use Rattle.nam_protocol.specs.ProgramCommit.{data_words}
 use Rattle.nam_protocol.specs.ProgramCommit.{replace_versions, publish, after_check, after_locks, commit_records}
-use Rattle.nam_protocol.specs.ProgramCommit.{committing, txn_stands, txn_takes, CommitIsProgram}
+use Rattle.nam_protocol.specs.ProgramCommit.{txn_stands, txn_takes, CommitIsProgram}
 
 -- 1. The locks
 
@@ -95,6 +106,16 @@ module _ (shape : Shape) (state : TxnState) where
   module _ (some : 0 < length state.writes) (each : length state.writes ≤ length state.records)
       (all : length (places state) ≡ length state.records)
       (wide : (nth : ℕ) → nth < length state.writes → 0 < (record_place state nth).width) where
+    -- the intent is cleared where it is told
+    refused_is : (held counts : List ℕ) (refusal : Refusal)
+        → IsTxn (refused (with_locks held counts) refusal) (finish state (refusal_answer refusal))
+    refused_is held counts refusal =
+        both IsTxn (tells_intent state) _ _ _ _ (λ t. word_then refl λ cleared. refl) (λ t. refl)
+
+    ended_is : (held counts : List ℕ)
+        → IsTxn (ended (with_locks held counts)) (finish state (Committed (state.last + 1)))
+    ended_is held counts = both IsTxn (tells_intent state) _ _ _ _ (λ t. word_then refl λ cleared. refl) (λ t. refl)
+
     -- the entry and the guards
     publish_is : (held counts : List ℕ) → IsTxn (go (with_locks held counts) Publishing) (publish state held)
     publish_is held counts =
@@ -102,8 +123,8 @@ module _ (shape : Shape) (state : TxnState) where
         writes_left (txn_stands shape) (txn_takes shape) (λ k. field.Header (nth_place (places state) k).row)
         (slice_index held) (length state.records)
         (λ nth. go (with_locks held counts) (Freeing nth))
-        (over (with_locks held counts) (Committed (state.last + 1))) _
-        (λ nth. refl) (λ nth word. refl) refl (length state.records - length state.writes) (length state.writes)
+        (ended (with_locks held counts)) _
+        (λ nth. refl) (λ nth word. refl) (ended_is held counts) (length state.records - length state.writes) (length state.writes)
         (omega arith)
 
     -- the new version of the nth record, where what follows is known
@@ -178,8 +199,21 @@ module _ (shape : Shape) (state : TxnState) where
         let s = with_locks held counts in let full = lock_at state nth found in
         writes_is (txn_stands shape) (txn_takes shape) (λ k. field.Header (nth_place (places state) k).row)
         (slice_index held) (length (places state))
-        (λ k. go s (Returning k full)) (over s (Full full)) _ (λ k. refl)
-        (λ k word. if_in (on_return s full) (k + 1 == length (places state)) (Over tt) (At (k + 1))) refl (omega arith)
+        (λ k. go s (Returning k full)) (refused s (refusal.Full full)) _ (λ k. refl)
+        (λ k word. if_in (on_return s full) (k + 1 == length (places state)) (Over tt) (At (k + 1)))
+        (refused_is held counts (refusal.Full full)) (omega arith)
+
+    -- all slots are free: where an intent is told, the counts and the decision come before the copies
+    checked_is : (held counts : List ℕ)
+        → IsTxn (checked (with_locks held counts)) (after_check state held (AllFree counts))
+    checked_is held counts =
+        let s = with_locks held counts in
+        let replaced = records_are held counts (length state.writes) refl in
+        both IsTxn (tells_intent state) _ _ _ _
+        (λ t. writes_is (txn_stands shape) (txn_takes shape) (count_field state.worker) (slice_index counts)
+        (length state.writes) (λ k. go s (Counting k)) (go s Deciding) _ (λ k. refl) (λ k word. refl)
+        (word_then refl λ decided. replaced) some)
+        (λ t. replaced)
 
     checks_from : (held : List ℕ) (rest : ℕ) (counts : List ℕ) → length counts + rest ≡ length state.writes
         → IsTxn (next_check (with_locks held counts)) (check_slots state rest counts >>= after_check state held)
@@ -187,7 +221,7 @@ module _ (shape : Shape) (state : TxnState) where
         at_last (λ call. IsTxn call (check_slots state zero counts >>= after_check state held)) (length counts)
         (length state.writes) _ _
         (omega arith)
-        (records_are held counts (length state.writes) refl)
+        (checked_is held counts)
     checks_from held (suc rest) counts e =
         let s = with_locks held counts in let place = record_place state (length counts) in
         before_last (λ call. IsTxn call (check_slots state (suc rest) counts >>= after_check state held))
@@ -206,7 +240,7 @@ module _ (shape : Shape) (state : TxnState) where
     checks_are held =
         let t : (0 == length state.writes) ≡ false = grind (arith, nat_tests) in
         let s = with_locks held [] in
-        subst (λ b. IsTxn (if b then go s (Saving 0 []) else go s (Checking CheckCount))
+        subst (λ b. IsTxn (if b then checked s else go s (Checking CheckCount))
         (check_slots state (length state.writes) []
         >>= after_check state held)) t
         (checks_from held (length state.writes) [] (omega arith))
@@ -217,17 +251,78 @@ module _ (shape : Shape) (state : TxnState) where
         subst (λ counts. IsTxn (go (with_locks held counts) (Checking CheckCount))
         (after_locks state (lock_end.Held held))) (sym fresh)
         (checks_are held)
-    after_locks_is fresh before (lock_end.Locked nth found) = refl
-    after_locks_is fresh before (lock_end.Newer nth found) = refl
+    after_locks_is fresh before (lock_end.Locked nth found) =
+        refused_is before state.counts (refusal.Locked (lock_at state nth found))
+    after_locks_is fresh before (lock_end.Newer nth found) =
+        refused_is before state.counts (refusal.Newer (lock_at state nth found))
 
-    pub records_commit : state.counts ≡ []
-        → IsTxn (go (record state { held = [] }) (Locking lock_begin)) (commit_records state)
-    records_commit fresh =
+    locks_commit : state.counts ≡ []
+        → IsTxn (go (record state { held = [] }) (Locking lock_begin)) (locked_records state)
+    locks_commit fresh =
         part_with (txn_stands shape) (txn_takes shape) (of_locks (lock_verb state.worker (places state)))
         (of_locks (lock_after (places state) state.seen)) (λ (held : List ℕ). on_lock (record state { held = held }))
         (λ held locks. locks.held)
         (λ held locks. refl) (λ held locks found. refl) _ (after_locks_is fresh) [] (At (locks_at [] lock_begin)) _
         (locks_are state.worker (places state) state.seen (omega arith))
+
+    -- the records are listed
+    module _ (after : Prog TxnAnswer) (counts : List ℕ)
+        (ends : IsTxn (go (with_locks [] counts) (Listing ListNumber)) after) where
+      abbrev listing : TxnState
+      listing = with_locks [] counts
+
+      data_is : (nth : ℕ) (value : Option (List ℕ)) (next : Prog TxnAnswer) → 0 < (record_place state nth).width
+          → IsTxn (on_list listing (list_next listing nth)) next
+          → IsTxn (on_list listing (list_kind_after listing nth (kind_of value)))
+          (write_words (data_field state.worker nth) (word_in (value_at state nth))
+          (kind_words state (record_place state nth) (kind_of value)) 0 >>= λ end. next)
+      data_is nth None next l f = f
+      data_is nth (Some value) next l f =
+          writes_is (txn_stands shape) (txn_takes shape) (data_field state.worker nth) (word_in (value_at state nth))
+          (record_place state nth).width (λ k. go listing (Listing (ListData nth k)))
+          (on_list listing (list_next listing nth)) next (λ k. refl)
+          (λ k found. if_in (on_list listing) (k + 1 == (record_place state nth).width) (list_next listing nth)
+          (At (ListData nth (k + 1)))) f l
+
+      record_listed : (nth : ℕ) (next : Prog TxnAnswer) → IsTxn (on_list listing (list_next listing nth)) next
+          → IsTxn (on_list listing (list_kind_after listing nth (kind_at state nth)))
+          (write_words (data_field state.worker nth) (word_in (value_at state nth))
+          (kind_words state (record_place state nth) (kind_at state nth)) 0 >>= λ end. next)
+      record_listed nth next f =
+          by_test (λ kind. IsTxn (on_list listing (list_kind_after listing nth kind))
+          (write_words (data_field state.worker nth) (word_in (value_at state nth))
+          (kind_words state (record_place state nth) kind) 0 >>= λ end. next))
+          (nat_lt nth (length state.writes)) (kind_of (value_at state nth)) Guard
+          (λ t. let m : nth < length state.writes = grind (arith, nat_tests) in
+          data_is nth (value_at state nth) next (wide nth m) f) (λ t. f)
+
+      listed_from : (rest nth : ℕ) → nth + suc rest ≡ length state.records
+          → IsTxn (go listing (Listing (ListRow nth))) (list_records state after (suc rest) nth)
+      listed_from zero nth e =
+          word_then refl λ row. word_then refl λ kind.
+          record_listed nth _ (
+          subst (λ now. IsTxn (on_list listing now) after)
+          (sym (is_last (λ now. now ≡ At ListNumber) nth (length state.records) _ _ (omega arith) refl)) ends)
+      listed_from (suc rest) nth e =
+          word_then refl λ row. word_then refl λ kind.
+          record_listed nth _ (
+          subst (λ now. IsTxn (on_list listing now) (list_records state after (suc rest) (nth + 1)))
+          (sym (is_more (λ now. now ≡ At (ListRow (nth + 1))) nth (length state.records) _ _ rest (omega arith) refl))
+          (listed_from rest (nth + 1) (omega arith)))
+
+      listed_all : (count : ℕ) → count ≡ length state.records
+          → IsTxn (go listing (Listing (ListRow 0))) (list_records state after count 0)
+      listed_all zero e = absurd (omega arith)
+      listed_all (suc rest) e = listed_from rest 0 (omega arith)
+
+    pub records_commit : state.counts ≡ []
+        → IsTxn (go (record state { held = [] }) (commit_begin state)) (commit_records state)
+    records_commit fresh =
+        let locks = locks_commit fresh in
+        both (λ place (p : Prog TxnAnswer). IsTxn (go (record state { held = [] }) place) p) (tells_intent state) _ _ _ _
+        (λ t. listed_all (list_end state (locked_records state)) state.counts
+        (word_then refl λ number. word_then refl λ told. locks) (length state.records) refl)
+        (λ t. locks)
 
 -- 3. The commit from its asking on
 

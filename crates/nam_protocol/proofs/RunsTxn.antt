@@ -43,9 +43,13 @@ use Rattle.nam_calls.specs.declared.reading.ReadingEnd.TheVariants as read_end
 use Rattle.nam_calls.specs.declared.lock.LockEnd.TheVariants as lock_end
 use Rattle.nam_protocol.specs.declared.txn.Record.{Record}
 use Rattle.nam_protocol.specs.declared.txn.TxnState.{TxnState}
+use Rattle.nam_protocol.specs.declared.txn.ListPoint.{ListPoint}
 use Rattle.nam_protocol.specs.declared.txn.CommitPoint.{CommitPoint}
 use Rattle.nam_protocol.specs.declared.txn.CommitPoint.TheVariants.{Locking, Checking, Returning, Saving, Copying}
 use Rattle.nam_protocol.specs.declared.txn.CommitPoint.TheVariants.{Installing, Publishing, Freeing}
+use Rattle.nam_protocol.specs.declared.txn.CommitPoint.TheVariants.{Listing, Counting, Deciding, Clearing, Ending}
+use Rattle.nam_protocol.specs.declared.txn.Refusal.{Refusal}
+use Rattle.nam_protocol.specs.declared.txn.Refusal.TheVariants as refusal
 use Rattle.nam_protocol.specs.declared.txn.TxnPoint.{TxnPoint}
 use Rattle.nam_protocol.specs.declared.txn.TxnPoint.TheVariants.{Finding, Reading, Claiming, Committing}
 use Rattle.nam_protocol.specs.declared.txn.TxnAnswer.{TxnAnswer}
@@ -54,6 +58,9 @@ use Rattle.nam_protocol.specs.Operations.{holding, own_value, read_of, answer_of
 use Rattle.nam_protocol.specs.Txn.{Stepped, at, over, with_op, ask_op, on_value, on_find, on_read, on_claim}
 use Rattle.nam_protocol.specs.TxnCalls.{txn_after}
 use Rattle.nam_protocol.specs.Commit.{record_in, record_place, records_of, places, no_record}
+use Rattle.nam_protocol.specs.Commit.{lock_at, checked, committing, commit_begin, ended, list_after, list_begin}
+use Rattle.nam_protocol.specs.Commit.{next_count, on_list}
+use Rattle.nam_protocol.specs.Commit.{refusal_answer, refused, tells_intent}
 use Rattle.nam_protocol.specs.Commit.{ask_commit, go, on_lock, next_check, on_slot, on_return, on_words, on_copy}
 use Rattle.nam_protocol.specs.Commit.{on_install, next_free, commit_after}
 use Rattle.nam_protocol.specs.AttemptLaw.{HasAsked, has_passed, IsOfOp}
@@ -197,17 +204,37 @@ module _ (shape : Shape) where
   CommitStands ops step = HasAsked step.state ops × CommitRuns ops step.state step.call
 
   module _ (ops : List Op) (state : TxnState) (asked : HasAsked state ops) where
+    refused_runs : (refusal : Refusal) → (tells_intent state ≡ true → FullIsWritten state (Clearing refusal))
+        → (has_passed (refusal_answer refusal) ≡ false) × FullFits (written_keys ops) (refusal_answer refusal)
+        → CommitStands ops (refused state refusal)
+    refused_runs refusal clearing done =
+        by_test (CommitStands ops) (tells_intent state) (go state (Clearing refusal))
+        (over state (refusal_answer refusal)) (λ e. (asked, clearing e)) (λ e. (asked, done))
+
     on_lock_runs : (now : Now Locks LockEnd) → CommitStands ops (on_lock state now)
     on_lock_runs (At locks) = (asked, tt)
     on_lock_runs (Over (lock_end.Held headers)) = (asked, tt)
-    on_lock_runs (Over (lock_end.Locked nth found)) = (asked, (refl, tt))
-    on_lock_runs (Over (lock_end.Newer nth found)) = (asked, (refl, tt))
+    on_lock_runs (Over (lock_end.Locked nth found)) =
+        refused_runs (refusal.Locked (lock_at state nth found)) (λ e. tt) (refl, tt)
+    on_lock_runs (Over (lock_end.Newer nth found)) =
+        refused_runs (refusal.Newer (lock_at state nth found)) (λ e. tt) (refl, tt)
 
     next_check_runs : (count : ℕ) → CommitStands ops (next_check (record state { counts = state.counts ++ count ∷ [] }))
     next_check_runs count =
         let state' = record state { counts = state.counts ++ count ∷ [] } in
-        either (CommitStands ops) (length state'.counts == length state.writes) (go state' (Saving 0 words_begin))
-        (go state' (Checking slot_begin)) (asked, tt) (asked, tt)
+        either (CommitStands ops) (length state'.counts == length state.writes) (checked state')
+        (go state' (Checking slot_begin))
+        (either (CommitStands ops) (tells_intent state) (go state' (Counting 0)) (go state' (Saving 0 words_begin))
+        (asked, tt) (asked, tt)) (asked, tt)
+
+    next_count_runs : (nth : ℕ) → CommitStands ops (next_count state nth)
+    next_count_runs nth =
+        either (CommitStands ops) (nth == length state.writes) (go state Deciding) (go state (Counting nth)) (asked, tt)
+        (asked, tt)
+
+    on_list_runs : (now : Now ListPoint (Unit {0})) → CommitStands ops (on_list state now)
+    on_list_runs (At place) = (asked, tt)
+    on_list_runs (Over done) = (asked, tt)
 
     on_slot_runs : (now : Now SlotPoint SlotEnd) → StateFits shape state → state.records ≡ records_of state
         → length state.counts < length state.writes
@@ -222,21 +249,22 @@ module _ (shape : Shape) where
           fits.written),
     )
 
+    full_fits : (full : Lock) → StateFits shape state → writes_key state.writes (lock_key full) ≡ true
+        → (has_passed (Full full) ≡ false) × FullFits (written_keys ops) (Full full)
+    full_fits full fits e = (
+      refl,
+      (
+        written_is_key state (lock_key full) fits e,
+        subst (λ keys. key_bound shape (lock_key full) ≤ keys_bound shape keys) asked.written
+            (written_bound state.writes (lock_key full) e),
+      ),
+    )
+
     on_return_runs : (full : Lock) (now : Now ℕ (Unit {0})) → StateFits shape state
         → writes_key state.writes (lock_key full) ≡ true
         → CommitStands ops (on_return state full now)
     on_return_runs full (At given) fits e = (asked, e)
-    on_return_runs full (Over done) fits e = (
-      asked,
-      (
-        refl,
-        (
-          written_is_key state (lock_key full) fits e,
-          subst (λ keys. key_bound shape (lock_key full) ≤ keys_bound shape keys) asked.written
-              (written_bound state.writes (lock_key full) e),
-        ),
-      ),
-    )
+    on_return_runs full (Over done) fits e = refused_runs (refusal.Full full) (λ t. e) (full_fits full fits e)
 
     on_words_runs : (nth : ℕ) (now : Now (List ℕ) (List ℕ)) → CommitStands ops (on_words state nth now)
     on_words_runs nth (At got) = (asked, tt)
@@ -255,18 +283,22 @@ module _ (shape : Shape) where
 
     next_free_runs : (nth : ℕ) → CommitStands ops (next_free state nth)
     next_free_runs nth =
-        either (CommitStands ops) (nth == length state.records) (over state (Committed (state.last + 1)))
-        (go state (Freeing nth)) (asked, (refl, tt)) (asked, tt)
+        either (CommitStands ops) (nth == length state.records) (ended state) (go state (Freeing nth))
+        (either (CommitStands ops) (tells_intent state) (go state Ending) (over state (Committed (state.last + 1)))
+        (asked, tt) (asked, (refl, tt))) (asked, tt)
 
     -- a word is taken
     pub commit_runs : (at : CommitPoint) (found : ℕ) → StateFits shape state → CommitFits shape state at
         → FullIsWritten state at
         → CommitStands ops (commit_after state at found)
+    commit_runs (Listing at) found fits c w = on_list_runs (list_after state at)
     commit_runs (Locking at) found fits c w = on_lock_runs (lock_after (places state) state.seen state.held at found)
     commit_runs (Checking at) found fits c w =
         on_slot_runs (slot_after (record_place state (length state.counts)) at found) fits c.0 c.2.1
     commit_runs (Returning given full) found fits c w =
         on_return_runs full (unlock_after (places state) given) fits w
+    commit_runs (Counting nth) found fits c w = next_count_runs (nth + 1)
+    commit_runs Deciding found fits c w = (asked, tt)
     commit_runs (Saving nth got) found fits c w =
         on_words_runs nth (words_after (record_place state nth) got found)
     commit_runs (Copying nth old at) found fits c w = on_copy_runs nth old (copy_after (record_place state nth) at)
@@ -274,14 +306,19 @@ module _ (shape : Shape) where
         on_install_runs nth (install_after (record_place state nth) at)
     commit_runs Publishing found fits c w = next_free_runs (length state.writes)
     commit_runs (Freeing nth) found fits c w = next_free_runs (nth + 1)
+    commit_runs (Clearing (refusal.Locked lock)) found fits c w = (asked, (refl, tt))
+    commit_runs (Clearing (refusal.Newer lock)) found fits c w = (asked, (refl, tt))
+    commit_runs (Clearing (refusal.Full lock)) found fits c w = (asked, full_fits lock fits w)
+    commit_runs Ending found fits c w = (asked, (refl, tt))
 
     -- the commit is asked
     pub ask_commit_runs : CommitStands ops (ask_commit shape state)
     ask_commit_runs =
         let none = record state { read = None } in
-        let locking = at (record state { read = None; records = records_of state; held = []; counts = [] })
-        (Committing (Locking lock_begin)) in
+        let locking = at (committing state) (Committing (commit_begin (committing state))) in
         either (CommitStands ops) (length state.writes == 0) (over none ReadOnly)
         (if state.last == greatest_number shape.form then over none Spent else locking) (asked, (refl, tt))
         (either (CommitStands ops) (state.last == greatest_number shape.form) (over none Spent) locking
-        (asked, (refl, tt)) (asked, tt))
+        (asked, (refl, tt))
+        (either (λ place. CommitStands ops (at (committing state) (Committing place))) (tells_intent (committing state))
+        (Listing list_begin) (Locking lock_begin) (asked, tt) (asked, tt)))

@@ -22,13 +22,16 @@ use Rattle.nam_protocol.specs.declared.client.Open.{Open}
 use Rattle.nam_protocol.specs.declared.txn.CommitPoint.{CommitPoint}
 use Rattle.nam_protocol.specs.declared.txn.CommitPoint.TheVariants.{Checking, Copying, Freeing, Installing, Locking}
 use Rattle.nam_protocol.specs.declared.txn.CommitPoint.TheVariants.{Publishing, Returning, Saving}
+use Rattle.nam_protocol.specs.declared.txn.CommitPoint.TheVariants.{Listing, Counting, Deciding, Clearing, Ending}
+use Rattle.nam_protocol.specs.declared.txn.Refusal.{Refusal}
 use Rattle.nam_protocol.specs.declared.txn.TxnAnswer.{TxnAnswer}
 use Rattle.nam_protocol.specs.declared.txn.TxnPoint.{TxnPoint}
 use Rattle.nam_protocol.specs.declared.txn.TxnPoint.TheVariants.{Finding, Reading, Claiming, Committing}
 use Rattle.nam_protocol.specs.declared.txn.TxnState.{TxnState}
 use Rattle.nam_protocol.specs.Client.{client_abandon, client_after, client_ask}
 use Rattle.nam_protocol.specs.ClientFits.{ClientFits}
-use Rattle.nam_protocol.specs.Commit.{ask_commit, commit_after, on_install, on_lock, places, record_place, value_at}
+use Rattle.nam_protocol.specs.Commit.{ask_commit, commit_after, on_install, on_lock, places, record_place, refused}
+use Rattle.nam_protocol.specs.Commit.{value_at}
 use Rattle.nam_protocol.specs.CutClient.{client_cut}
 use Rattle.nam_protocol.specs.Own.{MayAsk, Rests, StageAt, StageClient, StageIn, StageNow}
 use Rattle.nam_protocol.specs.Plain.{IsAside, Plain}
@@ -38,7 +41,7 @@ use Rattle.nam_protocol.specs.Telling.{go, stepped, new_client}
 use Rattle.nam_protocol.specs.Txn.{Stepped}
 use Rattle.nam_protocol.proofs.GoesClient.{begin_goes, snap_goes}
 use Rattle.nam_protocol.proofs.GoesCommit.{ask_commit_goes, next_free_goes, on_copy_goes, on_return_goes, on_slot_goes}
-use Rattle.nam_protocol.proofs.GoesCommit.{on_words_goes}
+use Rattle.nam_protocol.proofs.GoesCommit.{on_words_goes, on_list_goes, next_count_goes, refused_goes}
 use Rattle.nam_protocol.proofs.SortsLemmas.{ask_sort, word_sort}
 use Rattle.nam_protocol.proofs.SteppedLemmas.{abandoned_view}
 use Rattle.nam_protocol.specs.Commit.{go as go_to}
@@ -63,10 +66,13 @@ module _ (state : TxnState) where
   abbrev Stage : Stepped → Type 0
   Stage step = StageNow step.state step.call
 
+  refused_stage : (refusal : Refusal) → Stage (refused state refusal)
+  refused_stage refusal = refused_goes Stage state refusal (λ e. tt) (λ e. tt)
+
   given_back : (held : List ℕ) (given found : ℕ) → Stage (on_lock state (give_back (places state) held given found))
   given_back held given found =
-      give_back_goes (λ now. Stage (on_lock state now)) (places state) held given found (λ e f. tt) (λ e f. tt)
-      (λ e. tt)
+      give_back_goes (λ now. Stage (on_lock state now)) (places state) held given found
+      (λ e f. refused_stage _) (λ e f. refused_stage _) (λ e. tt)
 
   lock_stage : (held : List ℕ) (at : LockPoint) (found : ℕ)
       → Stage (on_lock state (lock_after (places state) state.seen held at found))
@@ -95,16 +101,25 @@ module _ (state : TxnState) where
       (λ e. tt) (λ e. tt)
 
   commit_stage : (at : CommitPoint) (found : ℕ) → StageAt state at → Stage (commit_after state at found)
+  commit_stage (Listing at) found stage = on_list_goes Stage state _ (λ next e. tt) (λ e. tt)
   commit_stage (Locking at) found stage = lock_stage state.held at found
   commit_stage (Checking at) found stage =
-      on_slot_goes Stage state _ (λ next e. tt) (λ count e f. tt) (λ count e f. tt) (λ slot word e. tt)
-  commit_stage (Returning given full) found stage = on_return_goes Stage state full _ (λ next e. tt) (λ e. tt)
+      on_slot_goes Stage state _ (λ next e. tt) (λ count e f t. tt) (λ count e f t. tt) (λ count e f. tt)
+      (λ slot word e. tt)
+  commit_stage (Returning given full) found stage =
+      on_return_goes Stage state full _ (λ next e. tt) (λ e f. tt) (λ e f. tt)
+  commit_stage (Counting nth) found stage = next_count_goes Stage state (nth + 1) (λ e. tt) (λ e. tt)
+  commit_stage Deciding found stage = tt
   commit_stage (Saving nth got) found stage = on_words_goes Stage state nth _ (λ more e. tt) (λ old e. tt)
   commit_stage (Copying nth old at) found stage =
       on_copy_goes Stage state nth old _ (λ next e. tt) (λ e. install_starts nth (value_at state nth) refl)
   commit_stage (Installing nth at) found stage = install_stage nth at stage
-  commit_stage Publishing found stage = next_free_goes Stage state (length state.writes) (λ e. tt) (λ e. tt)
-  commit_stage (Freeing nth) found stage = next_free_goes Stage state (nth + 1) (λ e. tt) (λ e. tt)
+  commit_stage Publishing found stage =
+      next_free_goes Stage state (length state.writes) (λ e f. tt) (λ e f. tt) (λ e. tt)
+  commit_stage (Freeing nth) found stage =
+      next_free_goes Stage state (nth + 1) (λ e f. tt) (λ e f. tt) (λ e. tt)
+  commit_stage (Clearing refusal) found stage = tt
+  commit_stage Ending found stage = tt
 
 -- 2. By the sorts
 
@@ -142,7 +157,8 @@ module _ (shape : Shape) where
 
   asked_stage : (state : TxnState) → let step = ask_commit shape state in StageNow step.state step.call
   asked_stage state =
-      ask_commit_goes (λ step. StageNow step.state step.call) state shape (λ e. tt) (λ e f. tt) (λ e f. tt)
+      ask_commit_goes (λ step. StageNow step.state step.call) state shape (λ e. tt) (λ e f. tt) (λ e f t. tt)
+      (λ e f t. tt)
 
   pub stage_ask : (before after : ClientState) → AskOf shape before after → StageClient after
   stage_ask _ _ (AsksPlain client asked plain none) = plain_stage _ _ plain

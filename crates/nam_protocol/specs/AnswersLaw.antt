@@ -31,7 +31,7 @@ use Rattle.nam_protocol.specs.declared.txn.TxnAnswer.{TxnAnswer}
 use Rattle.nam_protocol.specs.declared.txn.TxnAnswer.TheVariants.{Committed, ReadOnly, TooOld, NoSpace, Declined}
 use Rattle.nam_protocol.specs.declared.txn.TxnAnswer.TheVariants.{Spent, Locked, Newer, Full, Astray}
 use Rattle.nam_protocol.specs.declared.txn.CommitPoint.{CommitPoint}
-use Rattle.nam_protocol.specs.declared.txn.CommitPoint.TheVariants.{Locking}
+use Rattle.nam_protocol.specs.declared.txn.CommitPoint.TheVariants.{Locking, Clearing}
 use Rattle.nam_protocol.specs.declared.client.Call.{Call}
 use Rattle.nam_protocol.specs.declared.client.Answer.{Answer}
 use Rattle.nam_protocol.specs.declared.client.CallPoint.{CallPoint}
@@ -72,10 +72,11 @@ module _ (shape : Shape) (word : ℕ) where
   IsOn state (Claiming op at) value = value ≡ value_in state.read
   IsOn state (Committing at) value = ⊥
 
--- the word that was found in the way of a lock: while locks are given back, an earlier one
-abbrev pub word_in_way : ℕ → CommitPoint → ℕ
-word_in_way word (Locking (GiveBack given earlier)) = earlier
-word_in_way word _ = word
+-- the word that was found in the way of a lock: an earlier one while locks are given back, or the intent is cleared
+abbrev pub IsWordInWay : ℕ → CommitPoint → ℕ → Type 0
+IsWordInWay word (Locking (GiveBack given earlier)) found = found ≡ earlier
+IsWordInWay word (Clearing refusal) found = Unit {0}
+IsWordInWay word _ found = found ≡ word
 
 module _ (shape : Shape) (word : ℕ) (before after : ClientState) where
   abbrev pub OpTells : Open → TxnPoint → Op → TxnAnswer → Type 0
@@ -98,9 +99,9 @@ module _ (shape : Shape) (word : ℕ) (before after : ClientState) where
   abbrev pub CommitTells : Open → CommitPoint → TxnAnswer → Type 0
   CommitTells attempt at (Committed number) = HasCommitted before after attempt number
   CommitTells attempt at (Locked lock) =
-      LockMissed before after attempt (word_in_way word at) lock true (outcome.Locked lock)
+      (found : ℕ) × IsWordInWay word at found × LockMissed before after attempt found lock true (outcome.Locked lock)
   CommitTells attempt at (Newer lock) =
-      LockMissed before after attempt (word_in_way word at) lock false (outcome.Newer lock)
+      (found : ℕ) × IsWordInWay word at found × LockMissed before after attempt found lock false (outcome.Newer lock)
   CommitTells attempt at (Full lock) = IsFullAt attempt.state lock × Ends before after attempt (outcome.Full lock)
   CommitTells attempt at _ = ⊥
 

@@ -1,5 +1,5 @@
 -- How many verbs a transaction takes at the most: of each call to come, and of a whole attempt.
-use Rattle.std.specs.Prelude.{ℕ, ◌+◌, ◌-◌, ◌*◌, if◌then◌else◌, List, [], ◌∷◌, length, drop, take}
+use Rattle.std.specs.Prelude.{ℕ, zero, suc, ◌+◌, ◌-◌, ◌*◌, if◌then◌else◌, List, [], ◌∷◌, length, drop, take}
 use Rattle.si_model.specs.declared.row.Key.{Key}
 use Rattle.si_model.specs.declared.op.Op.{Op}
 use Rattle.si_model.specs.declared.op.Op.TheVariants.{Get, Put, Add, Del, Need, Guard, Scan}
@@ -11,16 +11,19 @@ use Rattle.nam_calls.specs.Words.{width_of, capacity_of}
 use Rattle.nam_calls.specs.Index.{find_left, claim_key_left}
 use Rattle.nam_calls.specs.Record.{words_left, install_left}
 use Rattle.nam_calls.specs.Ring.{slot_left, copy_left}
-use Rattle.nam_calls.specs.Lock.{lock_left, unlock_left}
+use Rattle.nam_calls.specs.Lock.{lock_begin, lock_left, unlock_left}
 use Rattle.nam_calls.specs.Reading.{sight_of, read_left, read_most}
 use Rattle.nam_protocol.specs.declared.txn.TxnState.{TxnState}
+use Rattle.nam_protocol.specs.declared.txn.ListPoint.{ListPoint}
+use Rattle.nam_protocol.specs.declared.txn.ListPoint.TheVariants.{ListRow, ListKind, ListData, ListNumber, ListState}
 use Rattle.nam_protocol.specs.declared.txn.CommitPoint.{CommitPoint}
 use Rattle.nam_protocol.specs.declared.txn.CommitPoint.TheVariants.{Locking, Checking, Returning, Saving, Copying}
 use Rattle.nam_protocol.specs.declared.txn.CommitPoint.TheVariants.{Installing, Publishing, Freeing}
+use Rattle.nam_protocol.specs.declared.txn.CommitPoint.TheVariants.{Listing, Counting, Deciding, Clearing, Ending}
 use Rattle.nam_protocol.specs.declared.txn.TxnPoint.{TxnPoint}
 use Rattle.nam_protocol.specs.declared.txn.TxnPoint.TheVariants.{Finding, Reading, Claiming, Committing}
 use Rattle.nam_protocol.specs.Operations.{op_path}
-use Rattle.nam_protocol.specs.Commit.{places, record_place}
+use Rattle.nam_protocol.specs.Commit.{places, record_place, has_intents, tells_intent}
 
 -- 1. What is to come of a commit
 
@@ -41,19 +44,59 @@ written_from state nth = drop nth (take (length state.writes) (places state))
 abbrev pub rest_from : TxnState → ℕ → ℕ
 rest_from state nth = installs_most (written_from state nth) + publish_most state
 
+-- what the commit writes to an intent, where it tells one
+abbrev pub of_intent : TxnState → ℕ → ℕ
+of_intent state n = if tells_intent state then n else 0
+
+-- the rows, the kinds and the data of these records, of which so many are written
+abbrev pub listed_most : ℕ → List Place → ℕ
+listed_most written [] = 0
+listed_most zero (place ∷ rest) = 2 + listed_most zero rest
+listed_most (suc written) (place ∷ rest) = place.width + 2 + listed_most written rest
+
+-- the records from the nth on
+abbrev pub listed_from : TxnState → ℕ → ℕ
+listed_from state nth = listed_most (length state.writes - nth) (drop nth (places state))
+
+-- the number and the state follow the records
+abbrev pub list_left : TxnState → ListPoint → ℕ
+list_left state (ListRow nth) = listed_from state nth + 2
+list_left state (ListKind nth) = listed_from state nth + 1
+list_left state (ListData nth word) = (record_place state nth).width - word + listed_from state (nth + 1) + 2
+list_left state ListNumber = 2
+list_left state ListState = 1
+
+-- what follows the locks and what follows the slots, but for the clearing of the intent
+abbrev pub after_checks : TxnState → ℕ
+after_checks state = of_intent state (length state.writes + 1) + rest_from state 0
+
+abbrev pub after_locks : TxnState → ℕ
+after_locks state = 2 * length state.writes + after_checks state
+
+abbrev pub clear_left : TxnState → ℕ
+clear_left state = of_intent state 1
+
 abbrev pub commit_left : TxnState → CommitPoint → ℕ
-commit_left state (Locking at) =
-    lock_left (places state) (2 * length state.writes + rest_from state 0) state.held at
+commit_left state (Listing at) =
+    list_left state at + lock_left (places state) (after_locks state) state.held lock_begin + clear_left state
+commit_left state (Locking at) = lock_left (places state) (after_locks state) state.held at + clear_left state
 commit_left state (Checking at) =
-    slot_left at + (2 * (length state.writes - length state.counts - 1) + rest_from state 0)
-commit_left state (Returning given full) = unlock_left (places state) given
+    slot_left at + (2 * (length state.writes - length state.counts - 1) + after_checks state) + clear_left state
+commit_left state (Returning given full) = unlock_left (places state) given + clear_left state
+commit_left state (Counting nth) = length state.writes - nth + 1 + rest_from state 0 + clear_left state
+commit_left state Deciding = 1 + rest_from state 0 + clear_left state
 commit_left state (Saving nth got) =
     words_left (record_place state nth) got + (2 * (record_place state nth).width + 5) + rest_from state (nth + 1)
+    + clear_left state
 commit_left state (Copying nth old at) =
     copy_left (record_place state nth) at + ((record_place state nth).width + 2) + rest_from state (nth + 1)
-commit_left state (Installing nth at) = install_left (record_place state nth) at + rest_from state (nth + 1)
-commit_left state Publishing = publish_most state
-commit_left state (Freeing nth) = unlock_left (places state) nth
+    + clear_left state
+commit_left state (Installing nth at) =
+    install_left (record_place state nth) at + rest_from state (nth + 1) + clear_left state
+commit_left state Publishing = publish_most state + clear_left state
+commit_left state (Freeing nth) = unlock_left (places state) nth + clear_left state
+commit_left state (Clearing refusal) = 1
+commit_left state Ending = 1
 
 module _ (shape : Shape) where
   -- 2. What is to come of an operation
@@ -97,10 +140,21 @@ module _ (shape : Shape) where
   writes_bound [] = 0
   writes_bound (key ∷ keys) = 3 * width_of shape key.table + 9 + writes_bound keys
 
-  -- the snapshot, the operations, the written keys, the guarded keys, and the worker's entry
+  -- what is written to an intent: of each written key row, kind, data and count
+  abbrev pub values_bound : List Key → ℕ
+  values_bound [] = 0
+  values_bound (key ∷ keys) = width_of shape key.table + 3 + values_bound keys
+
+  -- of each guarded key row and kind, the number, and three times the state
+  abbrev pub intent_bound : List Key → ℕ → ℕ
+  intent_bound written guarded =
+      if has_intents shape.form then values_bound written + 2 * guarded + 4 else 0
+
+  -- the snapshot, the operations, the written keys, the guarded keys, the worker's entry, and the intent
   abbrev pub verb_bound : List Op → ℕ
   verb_bound ops =
       2 * shape.workers + ops_bound ops + writes_bound (written_keys ops) + 3 * length (guard_keys ops) + 1
+      + intent_bound (written_keys ops) (length (guard_keys ops))
 
   -- 4. A tidying, and a collection
 

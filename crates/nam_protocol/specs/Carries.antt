@@ -1,5 +1,6 @@
 -- What a client has kept of the call that runs, since it began: what was read, locked, gathered, and found in the way.
-use Rattle.std.specs.Prelude.{◌≡◌, ◌≢◌, ◌⊎◌, ℕ, ◌<◌, ◌≤◌, true, false, List, [], ◌∷◌, ◌++◌, length, Option, Some, None}
+use Rattle.std.specs.Prelude.{◌≡◌, ◌≢◌, ◌⊎◌, ℕ, ◌<◌, ◌≤◌, Bool, true, false, List, [], ◌∷◌, ◌++◌, length, Option, Some}
+use Rattle.std.specs.Prelude.{None}
 use Rattle.std.specs.List.{AllByRecursion}
 use Rattle.si_model.specs.declared.op.Op.{Op}
 use Rattle.si_model.specs.declared.log.Lock.{Lock}
@@ -14,7 +15,9 @@ use Rattle.nam_protocol.specs.declared.txn.TxnState.{TxnState}
 use Rattle.nam_protocol.specs.declared.txn.TxnPoint.{TxnPoint}
 use Rattle.nam_protocol.specs.declared.txn.TxnPoint.TheVariants.{Claiming, Committing}
 use Rattle.nam_protocol.specs.declared.txn.CommitPoint.{CommitPoint}
-use Rattle.nam_protocol.specs.declared.txn.CommitPoint.TheVariants.{Locking, Returning}
+use Rattle.nam_protocol.specs.declared.txn.CommitPoint.TheVariants.{Locking, Returning, Clearing}
+use Rattle.nam_protocol.specs.declared.txn.Refusal.{Refusal}
+use Rattle.nam_protocol.specs.declared.txn.Refusal.TheVariants as refusal
 use Rattle.nam_protocol.specs.declared.client.Answer.{Answer}
 use Rattle.nam_protocol.specs.declared.client.CallPoint.{CallPoint}
 use Rattle.nam_protocol.specs.declared.client.CallPoint.TheVariants.{InTxn, Scanning, Collecting}
@@ -49,11 +52,25 @@ pub record IsFullAt (state : TxnState) (full : Lock) : Type 0 where
   pub lock : full ≡ lock_at state nth head
   pub not_moved : is_moved (record_place state nth).form head ≡ false
 
+-- the word found in the way of the next lock is locked or isn't
+pub record IsMissed (state : TxnState) (word : ℕ) (lock : Lock) (locked : Bool) : Type 0 where
+  pub within : length state.held < length state.records
+  pub lock_is : lock ≡ lock_at state (length state.held) word
+  pub locked_is : is_locked (record_place state (length state.held)).form word ≡ locked
+  pub way : IsInTheWay state word
+
+-- why a commit is refused
+abbrev pub IsRefused : TxnState → Refusal → Type 0
+IsRefused state (refusal.Locked lock) = (word : ℕ) × IsMissed state word lock true
+IsRefused state (refusal.Newer lock) = (word : ℕ) × IsMissed state word lock false
+IsRefused state (refusal.Full lock) = IsFullAt state lock
+
 abbrev pub CommitCarries : TxnState → CommitPoint → Type 0
 CommitCarries state (Locking (Seize header)) =
     sees (record_place state (length state.held)).form state.seen header ≡ true
 CommitCarries state (Locking (GiveBack given word)) = IsInTheWay state word
 CommitCarries state (Returning given full) = IsFullAt state full
+CommitCarries state (Clearing refusal) = IsRefused state refusal
 CommitCarries state _ = Unit {0}
 
 abbrev pub PointCarries : TxnState → TxnPoint → Type 0

@@ -2,6 +2,7 @@
 use Rattle.std.specs.Prelude.{◌≡◌, ℕ, ◌+◌, ◌≤◌, Bool, true, if◌then◌else◌, List, length, Option, Some, None, is_some}
 use Rattle.std.specs.Prelude.{IsSome}
 use Rattle.si_model.specs.declared.log.Event.{Event}
+use Rattle.si_model.specs.declared.log.Finish.{Finish}
 use Rattle.nam_verbs.specs.declared.now.Now.{Now}
 use Rattle.nam_verbs.specs.declared.now.Now.TheVariants.{At, Over}
 use Rattle.nam_catalog.specs.declared.shape.Shape.{Shape}
@@ -13,7 +14,7 @@ use Rattle.nam_protocol.specs.declared.client.CallPoint.TheVariants.{InTxn}
 use Rattle.nam_protocol.specs.declared.client.Open.{Open}
 use Rattle.nam_protocol.specs.declared.client.ClientState.{ClientState}
 use Rattle.nam_protocol.specs.Client.{client_ask, client_after}
-use Rattle.nam_protocol.specs.CutClient.{into_log}
+use Rattle.nam_protocol.specs.CutClient.{finish_of, into_log}
 use Rattle.nam_protocol.specs.AttemptLaw.{has_passed}
 use Rattle.nam_protocol.specs.ClientFits.{CallPointFits}
 use Rattle.nam_protocol.specs.declared.client.Answer.TheVariants as answer
@@ -52,11 +53,15 @@ NeedsOpen client call = Unit {0}
 
 -- 2. A client is closed
 
--- a call that was cut in its middle lists an event, and one that has published one more; so does an open transaction
-abbrev pub closing : Option Open → Option (Now CallPoint Answer) → ℕ
-closing txn (Some (At (InTxn at))) = 2
-closing txn (Some (At place)) = 1
-closing txn _ = if is_some txn then 1 else 0
+abbrev pub event_if : Bool → ℕ
+event_if b = if b then 1 else 0
+
+-- a call that was cut in its middle lists an event, and one that has published one more; so does an open transaction.
+-- How the medic has finished the client is an event too, and a tail that was finished is none
+abbrev pub closing : Option Finish → Option Open → Option (Now CallPoint Answer) → ℕ
+closing finish txn (Some (At (InTxn at))) = 2
+closing finish txn (Some (At place)) = 1 + event_if (is_some finish)
+closing finish txn _ = event_if (is_some txn) + event_if (is_some finish)
 
 -- 3. By a word that is taken, by a call that is asked, and by closing the client
 
@@ -67,7 +72,8 @@ pub record ClientEvents (shape : Shape) : Type 0 where
   pub asked : (client : ClientState) (call : Call) → NeedsOpen client call
       → ClientLists (length client.log.events) (is_some client.txn) (client_ask shape client call)
   pub closed : (client : ClientState)
-      → length (into_log shape client).events ≤ length client.log.events + closing client.txn client.call
+      → length (into_log shape client).events ≤ length client.log.events
+      + closing (finish_of client.medic) client.txn client.call
 
 abbrev pub ClientEventsLaw : Type 0
 ClientEventsLaw = (shape : Shape) → ClientEvents shape

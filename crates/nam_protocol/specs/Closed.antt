@@ -75,6 +75,6 @@ module _ (shape : Shape) (words : List ℕ) where
   abbrev pub audit_of : List AuditRow
   audit_of = tables_rows 0 shape.tables
 
--- what is left of a world whose sessions have ended or are cut
+-- what is left of a world whose sessions have no verb to come
 abbrev pub closed : Shape → World → Closed
 closed shape world = record { logs = logs_of shape world; audit = audit_of shape world.words }

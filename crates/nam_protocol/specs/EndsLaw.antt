@@ -1,5 +1,5 @@
 -- Sessions settle, the number of their verbs to come falls with each turn, and so each simulated run reaches its end.
-use Rattle.std.specs.Prelude.{◌≡◌, ℕ, ◌+◌, ◌<◌, ◌≤◌, IsSome, List, [], ◌∷◌, Some, None}
+use Rattle.std.specs.Prelude.{◌≡◌, ℕ, ◌+◌, ◌<◌, ◌≤◌, false, IsSome, List, [], ◌∷◌, Some, None}
 use Rattle.std.specs.List.{AllByRecursion}
 use Rattle.si_model.specs.declared.op.Policy.{Policy}
 use Rattle.nam_verbs.specs.VerbAt.{VerbAt}
@@ -12,10 +12,11 @@ use Rattle.nam_calls.specs.Fits.{IsOf}
 use Rattle.nam_protocol.specs.declared.session.Job.{Job}
 use Rattle.nam_protocol.specs.declared.session.SessionState.{SessionState}
 use Rattle.nam_protocol.specs.Telling.{new_client}
+use Rattle.nam_protocol.specs.Commit.{has_intents}
 use Rattle.nam_protocol.specs.Session.{new_session, session_verb, session_after, session_cut}
-use Rattle.nam_protocol.specs.World.{World, Turn, Step, Cut, session_of, verb_in, after_turn}
+use Rattle.nam_protocol.specs.World.{World, Turn, Step, Cut, session_of, is_cut, verb_in, after_turn}
 use Rattle.nam_protocol.specs.Schedule.{Run, Owned, Scenario, Simulated, all_jobs, run_to_end}
-use Rattle.nam_protocol.specs.Left.{jobs_bound, session_left}
+use Rattle.nam_protocol.specs.Left.{jobs_bound, medic_room, session_left}
 use Rattle.nam_protocol.specs.SessionFits.{OpsFit, JobFits, SessionFits, IsSettled}
 
 -- 1. A session
@@ -32,7 +33,8 @@ NewSessionLaw =
     (shape : Shape) → FitsLimits shape → (worker start : ℕ) (jobs : List Job) (policy : Policy)
     → IsOf shape.workers worker → start ≤ greatest_number shape.form → AllByRecursion (JobFits shape) jobs
     → 1 ≤ policy.tries
-    → FitsWithin shape (jobs_bound shape policy jobs) (new_session shape (new_client worker start) jobs policy)
+    → FitsWithin shape (jobs_bound shape policy jobs + medic_room shape.form)
+    (new_session shape (new_client worker start) jobs policy)
 
 abbrev pub SessionWordLaw : Type 0
 SessionWordLaw =
@@ -41,11 +43,20 @@ SessionWordLaw =
     → SessionFits shape (session_after shape session found)
     × (session_left shape (session_after shape session found) < session_left shape session)
 
--- nothing is to come of a session that was cut
+-- a stop leaves no more verbs to come, and fewer of a session that was not cut and had one; without a medic it leaves
+-- none
+pub record StopsSession (shape : Shape) (session : SessionState) : Type 0 where
+  pub fits : SessionFits shape (session_cut shape.form session)
+  pub within : session_left shape (session_cut shape.form session) ≤ session_left shape session
+  pub falls : session.client.cut ≡ false → IsSome (session_verb shape session)
+      → session_left shape (session_cut shape.form session) < session_left shape session
+  pub rests : has_intents shape.form ≡ false
+      → (session_left shape (session_cut shape.form session) ≡ 0)
+      × (session_verb shape (session_cut shape.form session) ≡ None)
+
 abbrev pub SessionCutLaw : Type 0
-SessionCutLaw = (shape : Shape) (session : SessionState) → SessionFits shape session
-    → SessionFits shape (session_cut session) × (session_left shape (session_cut session) ≡ 0)
-    × (session_verb shape (session_cut session) ≡ None)
+SessionCutLaw = (shape : Shape) → FitsLimits shape → (session : SessionState) → SessionFits shape session
+    → StopsSession shape session
 
 -- 2. A world
 
@@ -59,15 +70,17 @@ world_left shape world = sessions_left shape world.sessions
 abbrev pub WorldFits : Shape → World → Type 0
 WorldFits shape world = AllByRecursion (SessionFits shape) world.sessions
 
-abbrev pub worker_in : Turn → ℕ
-worker_in (Step worker) = worker
-worker_in (Cut worker) = worker
+-- the worker has a verb to come, and one that is stopped was not cut before
+abbrev pub IsTurn : Shape → World → Turn → Type 0
+IsTurn shape world (Step worker) = IsSome (verb_in shape (session_of world worker))
+IsTurn shape world (Cut worker) =
+    IsSome (verb_in shape (session_of world worker)) × (is_cut (session_of world worker) ≡ false)
 
 -- a turn of a worker that has a verb to come leaves fewer, and no turn leaves more
 pub record TurnFalls (shape : Shape) (world : World) (turn : Turn) : Type 0 where
   pub fits : WorldFits shape (after_turn shape world turn)
   pub within : world_left shape (after_turn shape world turn) ≤ world_left shape world
-  pub falls : IsSome (verb_in shape (session_of world (worker_in turn)))
+  pub falls : IsTurn shape world turn
       → world_left shape (after_turn shape world turn) < world_left shape world
 
 abbrev pub TurnLaw : Type 0
@@ -84,9 +97,10 @@ pub record ScenarioFits (c : Scenario) : Type 0 where
 
 abbrev pub lists_bound : Shape → Policy → List (List Job) → ℕ
 lists_bound shape policy [] = 0
-lists_bound shape policy (jobs ∷ rest) = jobs_bound shape policy jobs + lists_bound shape policy rest
+lists_bound shape policy (jobs ∷ rest) =
+    jobs_bound shape policy jobs + medic_room shape.form + lists_bound shape policy rest
 
--- how many verbs all workers take at the most
+-- how many verbs all workers take at the most, with those of their medics
 abbrev pub scenario_bound : Scenario → ℕ
 scenario_bound c = lists_bound c.shape c.policy (all_jobs c.shape.workers c.txns)
 

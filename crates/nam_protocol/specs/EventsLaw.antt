@@ -21,9 +21,10 @@ module _ (shape : Shape) (worker start : ℕ) (jobs : List Job) (policy : Policy
     is_new : IsReached (new_session shape (new_client worker start) jobs policy)
     by_word : (session : SessionState) (verb : VerbAt Field) (found : ℕ) → IsReached session
         → session_verb shape session ≡ Some verb → IsReached (session_after shape session found)
-    by_cut : (session : SessionState) → IsReached session → IsReached (session_cut session)
+    by_cut : (session : SessionState) → IsReached session → IsReached (session_cut shape.form session)
 
--- an event for each attempt and each tidying, and one for a commit that was stopped after it has published
+-- an event for each attempt and each tidying, and one for a commit that was stopped after it has published, or for how
+-- the medic has finished the session
 abbrev pub EventsWithin : Shape → Room → SessionState → Type 0
 EventsWithin shape room session = length (session_log shape session).events ≤ room.attempts + room.tidies + 1
 

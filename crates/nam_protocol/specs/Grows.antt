@@ -31,4 +31,4 @@ module _ (shape : Shape) where
   pub record SessionLogsGrow : Type 0 where
     pub word : (session : SessionState) (found : ℕ)
         → Grows session.client.log (session_after shape session found).client.log
-    pub cut : (session : SessionState) → (session_cut session).client.log ≡ session.client.log
+    pub cut : (session : SessionState) → (session_cut shape.form session).client.log ≡ session.client.log

@@ -5,6 +5,7 @@ use Rattle.si_model.specs.declared.op.Op.{Op}
 use Rattle.si_model.specs.declared.op.Op.TheVariants.{Get, Put, Add, Del, Need, Guard, Scan}
 use Rattle.si_model.specs.declared.row.Item.{Item}
 use Rattle.si_model.specs.declared.row.Row.{Row}
+use Rattle.si_model.specs.declared.log.Finish.{Finish}
 use Rattle.si_model.specs.Evaluation.{new_number, field_of}
 use Rattle.nam_verbs.specs.declared.now.Now.{Now}
 use Rattle.nam_verbs.specs.declared.now.Now.TheVariants.{At}
@@ -14,6 +15,9 @@ use Rattle.nam_catalog.specs.Greatest.{greatest_number}
 use Rattle.nam_calls.specs.Holds.{AreWords, CollectHolds, HasWords, HoldsNow, LockHolds, MoveHolds, ReadHolds, IsWord}
 use Rattle.nam_calls.specs.Holds.{SnapHolds}
 use Rattle.nam_calls.specs.Words.{key_word}
+use Rattle.nam_calls.specs.declared.medic.MedicPoint.{MedicPoint}
+use Rattle.nam_calls.specs.MedicFits.{MedicHolds}
+use Rattle.nam_calls.specs.declared.ring.SlotPoint.TheVariants.{CheckHead}
 use Rattle.nam_protocol.specs.declared.client.Answer.{Answer}
 use Rattle.nam_protocol.specs.declared.client.Call.{Call}
 use Rattle.nam_protocol.specs.declared.client.CallPoint.{CallPoint}
@@ -23,7 +27,7 @@ use Rattle.nam_protocol.specs.declared.client.Open.{Open}
 use Rattle.nam_protocol.specs.declared.session.Job.{Job}
 use Rattle.nam_protocol.specs.declared.session.SessionState.{SessionState}
 use Rattle.nam_protocol.specs.declared.txn.CommitPoint.{CommitPoint}
-use Rattle.nam_protocol.specs.declared.txn.CommitPoint.TheVariants.{Copying, Locking, Saving}
+use Rattle.nam_protocol.specs.declared.txn.CommitPoint.TheVariants.{Checking, Copying, Locking, Saving}
 use Rattle.nam_protocol.specs.declared.txn.TxnCall.{TxnCall}
 use Rattle.nam_protocol.specs.declared.txn.TxnPoint.{TxnPoint}
 use Rattle.nam_protocol.specs.declared.txn.TxnPoint.TheVariants.{Finding, Reading, Claiming, Committing}
@@ -71,12 +75,15 @@ RowHolds row = IsWord (key_word row.key) × AreWords row.value
 abbrev pub ItemHolds : Item → Type 0
 ItemHolds item = HasWords item.value
 
--- its last number is one of the form; the values that it writes, the one that it has read, and the headers of its locks
-pub record HandHolds (form : Form) (last : ℕ) (writes : List Item) (read : Option Item) (held : List ℕ) : Type 0 where
-  pub last_is : last ≤ greatest_number form
-  pub written : AllByRecursion ItemHolds writes
-  pub found : HasWords (value_in read)
-  pub headers : AreWords held
+-- its last number is one of the form; the values that it writes, the one that it has read, the headers of its locks, and
+-- the counts
+pub record HandHolds (form : Form) (last : ℕ) (writes : List Item) (read : Option Item) (held counts : List ℕ) : Type 0
+  where
+    pub last_is : last ≤ greatest_number form
+    pub written : AllByRecursion ItemHolds writes
+    pub found : HasWords (value_in read)
+    pub headers : AreWords held
+    pub counted : AreWords counts
 
 -- the field that an addition leaves is a word
 abbrev pub ResultHolds : Op → Option (List ℕ) → Type 0
@@ -85,13 +92,14 @@ ResultHolds _ value = Unit {0}
 
 abbrev pub CommitPlaceHolds : CommitPoint → Type 0
 CommitPlaceHolds (Locking at) = LockHolds at
+CommitPlaceHolds (Checking (CheckHead count)) = IsWord count
 CommitPlaceHolds (Saving nth got) = AreWords got
 CommitPlaceHolds (Copying nth old at) = AreWords old
 CommitPlaceHolds _ = Unit {0}
 
 module _ (form : Form) where
   abbrev pub StateHolds : TxnState → Type 0
-  StateHolds state = HandHolds form state.last state.writes state.read state.held
+  StateHolds state = HandHolds form state.last state.writes state.read state.held state.counts
 
   -- a commit has a number of the form to publish
   abbrev pub TxnPlaceHolds : TxnState → TxnPoint → Type 0
@@ -138,8 +146,14 @@ pub record HoldsWords (shape : Shape) (client : ClientState) : Type 0 where
 abbrev pub JobHolds : Job → Type 0
 JobHolds job = AllByRecursion (λ op. CallHolds (call_of op)) job.ops
 
+-- what the medic may still write
+abbrev pub TreatmentHolds : Option (Now MedicPoint Finish) → Type 0
+TreatmentHolds (Some (At place)) = MedicHolds place
+TreatmentHolds _ = Unit {0}
+
 abbrev pub SessionHolds : Shape → SessionState → Type 0
-SessionHolds shape session = HoldsWords shape session.client × AllByRecursion JobHolds session.jobs
+SessionHolds shape session =
+    HoldsWords shape session.client × AllByRecursion JobHolds session.jobs × TreatmentHolds session.client.medic
 
 abbrev pub WorldHolds : Shape → World → Type 0
 WorldHolds shape world = AreWords world.words × AllByRecursion (SessionHolds shape) world.sessions

@@ -6,9 +6,11 @@ use Rattle.si_model.specs.declared.row.Key.{Key}
 use Rattle.si_model.specs.declared.op.Op.{Op}
 use Rattle.si_model.specs.declared.op.Op.TheVariants.{Scan}
 use Rattle.si_model.specs.declared.op.Policy.{Policy}
+use Rattle.si_model.specs.declared.log.Finish.{Finish}
 use Rattle.si_model.specs.Evaluation.{key_written, written_keys, guard_keys}
 use Rattle.nam_verbs.specs.declared.now.Now.{Now}
-use Rattle.nam_verbs.specs.declared.now.Now.TheVariants.{At}
+use Rattle.nam_verbs.specs.declared.now.Now.TheVariants.{At, Over}
+use Rattle.nam_catalog.specs.declared.form.Form.{Form}
 use Rattle.nam_catalog.specs.declared.shape.Shape.{Shape}
 use Rattle.nam_layout.specs.Place.{place_of, cells_of, cells_by}
 use Rattle.nam_vector.specs.Snap.{snap_left}
@@ -17,6 +19,8 @@ use Rattle.nam_calls.specs.Index.{find_left}
 use Rattle.nam_calls.specs.Mover.{move_left}
 use Rattle.nam_calls.specs.Horizon.{collect_left}
 use Rattle.nam_calls.specs.Left.{move_most, collect_most}
+use Rattle.nam_calls.specs.declared.medic.MedicPoint.{MedicPoint}
+use Rattle.nam_calls.specs.MedicLeft.{medic_left, medic_most}
 use Rattle.nam_protocol.specs.declared.txn.TxnPoint.{TxnPoint}
 use Rattle.nam_protocol.specs.declared.client.Answer.{Answer}
 use Rattle.nam_protocol.specs.declared.client.CallPoint.{CallPoint}
@@ -30,7 +34,13 @@ use Rattle.nam_protocol.specs.declared.session.DriverPoint.TheVariants.{ToBegin,
 use Rattle.nam_protocol.specs.declared.session.DriverState.{DriverState}
 use Rattle.nam_protocol.specs.declared.session.SessionState.{SessionState}
 use Rattle.nam_protocol.specs.Scan.{scan_left}
-use Rattle.nam_protocol.specs.Bound.{txn_left, ops_bound, writes_bound, verb_bound, tidy_bound, collect_bound}
+use Rattle.nam_protocol.specs.Commit.{has_intents}
+use Rattle.nam_protocol.specs.Bound.{txn_left, ops_bound, writes_bound, intent_bound, verb_bound, tidy_bound}
+use Rattle.nam_protocol.specs.Bound.{collect_bound}
+
+-- what a medic may take
+abbrev pub medic_room : Form → ℕ
+medic_room form = if has_intents form then medic_most else 0
 
 module _ (shape : Shape) where
   -- 1. What is to come of a client's call
@@ -73,7 +83,9 @@ module _ (shape : Shape) where
 
   -- the commit after these operations
   abbrev pub commit_bound : List Op → ℕ
-  commit_bound ops = writes_bound shape (written_keys ops) + 3 * length (guard_keys ops) + 1
+  commit_bound ops =
+      writes_bound shape (written_keys ops) + 3 * length (guard_keys ops) + 1
+      + intent_bound shape (written_keys ops) (length (guard_keys ops))
 
   -- a try, with the tidying of each written key
   abbrev pub try_bound : List Op → ℕ
@@ -102,11 +114,17 @@ module _ (shape : Shape) where
       after_call_bound job.ops driver.place + (driver.policy.tries - driver.nth) * try_bound job.ops
       + jobs_bound driver.policy jobs
 
-  -- the call that runs, and what follows it
-  abbrev pub session_left : SessionState → ℕ
-  session_left session =
+  -- the call that runs, what follows it, and the medic of a session that may still be cut
+  abbrev pub left_by : SessionState → Option (Now MedicPoint Finish) → ℕ
+  left_by session None =
       if session.client.cut then 0
       else client_left session.client + rest_bound session.driver (drop session.driver.job session.jobs)
+      + medic_room shape.form
+  left_by session (Some (At place)) = medic_left shape place
+  left_by session (Some (Over how)) = 0
+
+  abbrev pub session_left : SessionState → ℕ
+  session_left session = left_by session session.client.medic
 
 -- 3. The room that a client reserves for jobs
 

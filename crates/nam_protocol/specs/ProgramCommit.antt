@@ -11,6 +11,11 @@ use Rattle.nam_layout.specs.declared.field.Place.{Place}
 use Rattle.nam_layout.specs.Place.{slot_of}
 use Rattle.nam_layout.specs.declared.field.Field.{Field}
 use Rattle.nam_layout.specs.declared.field.Field.TheVariants as field
+use Rattle.nam_calls.specs.declared.intent.IntentKind.{IntentKind}
+use Rattle.nam_calls.specs.declared.intent.IntentKind.TheVariants.{Value, Deletion, Guard}
+use Rattle.nam_calls.specs.declared.intent.IntentPhase.TheVariants.{Listed, Decided}
+use Rattle.nam_calls.specs.Intent.{state_field, number_field, row_field, kind_field, count_field, data_field}
+use Rattle.nam_calls.specs.Intent.{no_intent, state_word, kind_word}
 use Rattle.nam_calls.specs.declared.lock.LockEnd.{LockEnd}
 use Rattle.nam_calls.specs.Record.{word_in}
 use Rattle.nam_calls.specs.Lock.{nth_place, loss_of}
@@ -23,8 +28,8 @@ use Rattle.nam_protocol.specs.declared.txn.TxnPoint.{TxnPoint}
 use Rattle.nam_protocol.specs.declared.txn.TxnAnswer.{TxnAnswer}
 use Rattle.nam_protocol.specs.declared.txn.TxnAnswer.TheVariants.{ReadOnly, Spent, Committed, Locked, Newer, Full}
 use Rattle.nam_protocol.specs.Txn.{Stepped}
-use Rattle.nam_protocol.specs.Commit.{places, record_place, value_at, lock_at, own_stamp, new_header, records_of}
-use Rattle.nam_protocol.specs.Commit.{ask_commit}
+use Rattle.nam_protocol.specs.Commit.{places, record_place, value_at, lock_at, own_stamp, new_header}
+use Rattle.nam_protocol.specs.Commit.{ask_commit, committing, kind_at, tells_intent}
 use Rattle.nam_protocol.specs.TxnCalls.{txn_verb, txn_after}
 
 -- the headers of so many records, from the nth on, are written back
@@ -56,6 +61,36 @@ pub data Checked : Type 0 where
   NotFree : (nth found : ℕ) → Checked
 
 module _ (state : TxnState) where
+  -- where an intent is told, it is cleared before the answer
+  abbrev pub finish : TxnAnswer → Prog TxnAnswer
+  finish answer =
+      if tells_intent state then (do
+        write (state_field state.worker) no_intent
+        Ret answer)
+      else Ret answer
+
+  -- only a value has data words
+  abbrev pub kind_words : Place → IntentKind → ℕ
+  kind_words place Value = place.width
+  kind_words place Deletion = 0
+  kind_words place Guard = 0
+
+  -- So many records from the nth on are listed
+  abbrev pub list_records : Prog TxnAnswer → ℕ → ℕ → Prog TxnAnswer
+  list_records after zero nth = after
+  list_records after (suc rest) nth = do
+    write (row_field state.worker nth) (record_place state nth).row
+    write (kind_field state.worker nth) (kind_word (kind_at state nth))
+    write_words (data_field state.worker nth) (word_in (value_at state nth))
+        (kind_words (record_place state nth) (kind_at state nth)) 0
+    list_records after rest (nth + 1)
+
+  abbrev pub list_end : Prog TxnAnswer → Prog TxnAnswer
+  list_end after = do
+    write (number_field state.worker) (state.last + 1)
+    write (state_field state.worker) (state_word (length state.records) Listed)
+    after
+
   -- 2. The slots: of so many written records beyond those counted
   abbrev pub check_slots : ℕ → List ℕ → Prog Checked
   check_slots zero counts = Ret (AllFree counts)
@@ -93,25 +128,37 @@ module _ (state : TxnState) where
   publish held = do
     write (field.Entry state.worker) (state.last + 1)
     write_back (places state) held (length state.records - length state.writes) (length state.writes)
-    Ret (Committed (state.last + 1))
+    finish (Committed (state.last + 1))
+
+  -- where an intent is told: the counts, and the decision
+  abbrev pub decide : List ℕ → Prog TxnAnswer → Prog TxnAnswer
+  decide counts after = do
+    write_words (count_field state.worker) (slice_index counts) (length state.writes) 0
+    write (state_field state.worker) (state_word (length state.records) Decided)
+    after
+
+  abbrev pub replace_all : List ℕ → List ℕ → Prog TxnAnswer
+  replace_all held counts = replace_versions held counts (publish held) (length state.writes) 0
 
   abbrev pub after_check : List ℕ → Checked → Prog TxnAnswer
-  after_check held (AllFree counts) = replace_versions held counts (publish held) (length state.writes) 0
+  after_check held (AllFree counts) =
+      if tells_intent state then decide counts (replace_all held counts) else replace_all held counts
   after_check held (NotFree nth found) = do
     write_back (places state) held (length (places state)) 0
-    Ret (Full (lock_at state nth found))
+    finish (Full (lock_at state nth found))
 
   abbrev pub after_locks : LockEnd → Prog TxnAnswer
   after_locks (lock_end.Held held) = check_slots (length state.writes) [] >>= after_check held
-  after_locks (lock_end.Locked nth found) = Ret (Locked (lock_at state nth found))
-  after_locks (lock_end.Newer nth found) = Ret (Newer (lock_at state nth found))
+  after_locks (lock_end.Locked nth found) = finish (Locked (lock_at state nth found))
+  after_locks (lock_end.Newer nth found) = finish (Newer (lock_at state nth found))
 
+  abbrev pub locked_records : Prog TxnAnswer
+  locked_records = lock_records state.worker (places state) state.seen (length (places state)) [] >>= after_locks
+
+  -- where an intent is told, the records are listed before the locks
   abbrev pub commit_records : Prog TxnAnswer
-  commit_records = lock_records state.worker (places state) state.seen (length (places state)) [] >>= after_locks
-
--- the state at the commit's first verb
-abbrev pub committing : TxnState → TxnState
-committing state = record state { read = None; records = records_of state; held = []; counts = [] }
+  commit_records =
+      if tells_intent state then list_records (list_end locked_records) (length state.records) 0 else locked_records
 
 module _ (shape : Shape) where
   abbrev pub commit_program : TxnState → Prog TxnAnswer

@@ -13,9 +13,10 @@ use Rattle.nam_line.specs.Plan.{Line, asked_once, refuses_next}
 use Rattle.nam_catalog.specs.declared.shape.Shape.{Shape}
 use Rattle.nam_protocol.specs.declared.session.Job.{Job}
 use Rattle.nam_protocol.specs.Session.{session_verb, session_log}
-use Rattle.nam_protocol.specs.World.{World, world_verb, step, cut, new_world, HasEnded}
+use Rattle.nam_protocol.specs.World.{World, session_of, is_cut, world_verb, step, cut, new_world, HasEnded}
 
--- 1. A turn of a simulated run: a worker that has a verb to come first asks its line, and a refusal is a cut
+-- 1. A turn of a simulated run: a worker that isn't cut and has a verb to come first asks its line, and a refusal is a
+-- cut; a worker that is cut does its medic's next verb
 
 -- a world, and the line of each worker
 pub record Run : Type 0 where
@@ -27,19 +28,23 @@ abbrev pub numbers_from : ℕ → ℕ → List ℕ
 numbers_from n zero = []
 numbers_from n (suc rest) = n ∷ numbers_from (n + 1) rest
 
+-- the line that the worker's turn asks, if any: a worker that is cut asks none
+abbrev pub line_of : Run → ℕ → Option Line
+line_of run worker = if is_cut (session_of run.world worker) then None else slice_get run.lines (worker - 1)
+
 module _ (shape : Shape) where
-  -- a worker without a line is not refused
+  -- a worker without a line is not refused, and none that is cut
   abbrev pub turn_by : Run → ℕ → Option Line → Run
   turn_by run worker None = record run { world = step shape run.world worker }
   turn_by run worker (Some line) = record {
-    world = if refuses_next line then cut run.world worker else step shape run.world worker;
+    world = if refuses_next line then cut shape run.world worker else step shape run.world worker;
     lines = slice_set run.lines (worker - 1) (asked_once line);
   }
 
-  -- a turn of an ended or cut worker, which has no verb, does nothing
+  -- a worker that has no verb to come does nothing in its turn
   abbrev pub turn_on : Run → ℕ → Option Verb → Run
   turn_on run worker None = run
-  turn_on run worker (Some verb) = turn_by run worker (slice_get run.lines (worker - 1))
+  turn_on run worker (Some verb) = turn_by run worker (line_of run worker)
 
   abbrev pub turn_of : Run → ℕ → Run
   turn_of run worker = turn_on run worker (world_verb shape run.world worker)

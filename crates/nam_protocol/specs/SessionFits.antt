@@ -1,26 +1,32 @@
 -- What holds of a session between two verbs: its driver has a point in its jobs, and the call that runs is the one that
 -- the driver asked.
-use Rattle.std.specs.Prelude.{◌≡◌, ℕ, ◌<◌, ◌≤◌, ◌||◌, Bool, true, false, not, List, [], take, length, slice_get, Option}
+use Rattle.std.specs.Prelude.{◌≡◌, ℕ, ◌<◌, ◌≤◌, ◌||◌, ◌&&◌, Bool, true, false, not, List, [], take, length, slice_get}
+use Rattle.std.specs.Prelude.{Option}
 use Rattle.std.specs.Prelude.{Some, None, is_some}
 use Rattle.std.specs.List.{AllByRecursion}
 use Rattle.si_model.specs.declared.row.Key.{Key}
 use Rattle.si_model.specs.declared.op.Op.{Op}
 use Rattle.si_model.specs.declared.op.Op.TheVariants.{Scan}
+use Rattle.si_model.specs.declared.log.Finish.{Finish}
 use Rattle.si_model.specs.Rows.{writes_key}
 use Rattle.si_model.specs.Evaluation.{OpFits, op_key, key_claimed, keys_from}
 use Rattle.si_model.specs.Answers.{lock_key}
 use Rattle.nam_verbs.specs.declared.now.Now.{Now}
 use Rattle.nam_verbs.specs.declared.now.Now.TheVariants.{At}
 use Rattle.nam_catalog.specs.declared.bounds.TheConstants.{MOST_KEYS}
+use Rattle.nam_catalog.specs.declared.form.Form.TheVariants.{Held}
 use Rattle.nam_catalog.specs.declared.shape.Shape.{Shape}
 use Rattle.nam_catalog.specs.Tables.{widths_of}
 use Rattle.nam_calls.specs.Holds.{IsWord}
 use Rattle.nam_calls.specs.Words.{key_word}
+use Rattle.nam_calls.specs.declared.medic.MedicPoint.{MedicPoint}
+use Rattle.nam_calls.specs.MedicFits.{MedicFits}
 use Rattle.nam_protocol.specs.declared.txn.TxnState.{TxnState}
 use Rattle.nam_protocol.specs.declared.txn.TxnPoint.{TxnPoint}
 use Rattle.nam_protocol.specs.declared.txn.TxnPoint.TheVariants.{Committing}
 use Rattle.nam_protocol.specs.declared.txn.CommitPoint.{CommitPoint}
-use Rattle.nam_protocol.specs.declared.txn.CommitPoint.TheVariants.{Returning}
+use Rattle.nam_protocol.specs.declared.txn.CommitPoint.TheVariants.{Returning, Clearing}
+use Rattle.nam_protocol.specs.declared.txn.Refusal.TheVariants as refusal
 use Rattle.nam_protocol.specs.declared.client.Answer.{Answer}
 use Rattle.nam_protocol.specs.declared.client.CallPoint.{CallPoint}
 use Rattle.nam_protocol.specs.declared.client.CallPoint.TheVariants.{Beginning, InTxn, Scanning, Seeking, Moving}
@@ -34,6 +40,7 @@ use Rattle.nam_protocol.specs.declared.session.SessionState.{SessionState}
 use Rattle.nam_protocol.specs.AttemptLaw.{HasAsked, IsOfOp}
 use Rattle.nam_protocol.specs.TxnFits.{IsKeyOf}
 use Rattle.nam_protocol.specs.ClientFits.{ClientFits}
+use Rattle.nam_protocol.specs.Commit.{has_intents}
 use Rattle.nam_protocol.specs.Session.{session_verb, has_ended}
 
 -- 1. The call that runs
@@ -41,6 +48,7 @@ use Rattle.nam_protocol.specs.Session.{session_verb, has_ended}
 -- where a commit gives its locks back, the record that was full is one that it writes
 abbrev pub FullIsWritten : TxnState → CommitPoint → Type 0
 FullIsWritten state (Returning given full) = writes_key state.writes (lock_key full) ≡ true
+FullIsWritten state (Clearing (refusal.Full full)) = writes_key state.writes (lock_key full) ≡ true
 FullIsWritten state _ = Unit {0}
 
 -- a transaction is open, whose keys are those of these operations
@@ -121,7 +129,12 @@ module _ (shape : Shape) where
       (1 ≤ driver.nth) × (driver.nth ≤ driver.policy.tries)
       × DriverPointFits driver.policy.tries driver.nth driver.place
 
-  -- 3. A session: a call runs exactly as long as a job is left, and it is the driver's
+  -- 3. A session: a call runs exactly as long as a job is left, and it is the driver's; in form Held, and in no other,
+  -- a session has a medic exactly where it is cut
+
+  abbrev pub MedicStands : Option (Now MedicPoint Finish) → Type 0
+  MedicStands (Some (At place)) = (shape.form ≡ Held) × MedicFits shape place
+  MedicStands _ = Unit {0}
 
   pub record SessionFits (session : SessionState) : Type 0 where
     pub client : ClientFits shape session.client
@@ -129,8 +142,11 @@ module _ (shape : Shape) where
     pub driver : DriverFits session.driver
     pub runs : NowRuns session.driver.place (ops_of (slice_get session.jobs session.driver.job)) session.client.txn
         session.client.call
+    pub medic : MedicStands session.client.medic
+    pub treats : is_some session.client.medic ≡ (session.client.cut && has_intents shape.form)
     pub stands : is_running session.client.call ≡ is_some (slice_get session.jobs session.driver.job)
 
-  -- a verb is to come exactly where the session has neither ended nor is cut
+  -- a verb is to come exactly where the session has neither ended nor is cut without a medic
   abbrev pub IsSettled : SessionState → Type 0
-  IsSettled session = is_some (session_verb shape session) ≡ not (has_ended session || session.client.cut)
+  IsSettled session = is_some (session_verb shape session)
+      ≡ not (has_ended session || (session.client.cut && not (has_intents shape.form)))

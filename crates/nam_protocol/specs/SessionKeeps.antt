@@ -2,11 +2,14 @@
 use Rattle.std.specs.Prelude.{◌≡◌, ℕ, ◌≤◌, Bool, true, false, List, Some, is_some}
 use Rattle.std.specs.List.{AllByRecursion}
 use Rattle.si_model.specs.declared.op.Policy.{Policy}
+use Rattle.si_model.specs.declared.log.Finish.{Finish}
+use Rattle.nam_verbs.specs.declared.now.Now.{Now}
 use Rattle.nam_verbs.specs.declared.now.Now.TheVariants.{At}
 use Rattle.nam_catalog.specs.declared.shape.Shape.{Shape}
 use Rattle.nam_catalog.specs.Fits.{FitsLimits}
 use Rattle.nam_catalog.specs.Greatest.{greatest_number}
 use Rattle.nam_calls.specs.Fits.{IsOf}
+use Rattle.nam_calls.specs.declared.medic.MedicPoint.{MedicPoint}
 use Rattle.nam_protocol.specs.declared.client.Call.{Call}
 use Rattle.nam_protocol.specs.declared.client.CallPoint.{CallPoint}
 use Rattle.nam_protocol.specs.declared.client.ClientState.{ClientState}
@@ -16,7 +19,7 @@ use Rattle.nam_protocol.specs.declared.session.Job.{Job}
 use Rattle.nam_protocol.specs.declared.session.SessionState.{SessionState}
 use Rattle.nam_protocol.specs.Client.{client_after, client_ask}
 use Rattle.nam_protocol.specs.ClientFits.{ClientFits}
-use Rattle.nam_protocol.specs.CutClient.{client_cut}
+use Rattle.nam_protocol.specs.CutClient.{client_cut, client_treated}
 use Rattle.nam_protocol.specs.EventsLaw.{IsReached}
 use Rattle.nam_protocol.specs.Own.{MayAsk}
 use Rattle.nam_protocol.specs.SessionFits.{JobFits}
@@ -31,13 +34,16 @@ is_asking _ = false
 abbrev pub OpensAsked : SessionState → Type 0
 OpensAsked session = is_some session.client.txn ≡ is_asking session.driver.place
 
--- a client keeps this: with each word that it takes, with each call that it may be asked, and with a stop
+-- a client keeps this: with each word that it takes, with each call that it may be asked, with a stop, and with its
+-- medic
 pub record ClientKeeps (shape : Shape) (Holds : ClientState → Type 0) : Type 0 where
   pub word : (client : ClientState) (place : CallPoint) (found : ℕ) → ClientFits shape client → client.cut ≡ false
       → client.call ≡ Some (At place) → Holds client → Holds (client_after shape client found)
   pub asked : (client : ClientState) (asked : Call) → ClientFits shape client → MayAsk shape client asked
       → Holds client → Holds (client_ask shape client asked)
   pub cut : (client : ClientState) → Holds client → Holds (client_cut client)
+  pub treated : (client : ClientState) (medic : Now MedicPoint Finish) → Holds client
+      → Holds (client_treated client medic)
 
 -- of any test that a worker's new client passes and that a client keeps: each session that occurs passes it
 abbrev pub SessionKeepsLaw : Type 0

@@ -11,6 +11,7 @@ use Rattle.nam_protocol.specs.declared.session.SessionState.{SessionState}
 use Rattle.nam_protocol.specs.Session.{session_verb, session_after}
 use Rattle.nam_protocol.specs.World.{World, session_of, with_session, step}
 use Rattle.nam_protocol.specs.ClientFits.{ClientFits}
+use Rattle.nam_protocol.specs.SessionFits.{MedicStands}
 
 -- the worker's session does this verb, at a field of the shape: it takes the word that it finds there, and that field
 -- alone is changed
@@ -25,5 +26,5 @@ abbrev pub StepLaw : Type 0
 StepLaw =
     (shape : Shape) → FitsLimits shape → (world : World) (worker : ℕ) (session : SessionState) (verb : VerbAt Field)
     → length world.words ≡ words_of shape → session_of world worker ≡ Some session
-    → ClientFits shape session.client → session_verb shape session ≡ Some verb
+    → ClientFits shape session.client → MedicStands shape session.client.medic → session_verb shape session ≡ Some verb
     → StepsBy shape world worker session verb (step shape world worker)

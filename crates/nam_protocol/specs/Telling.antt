@@ -32,6 +32,7 @@ new_client worker start = record {
   scanned = [];
   call = None;
   cut = false;
+  medic = None;
 }
 
 -- the client at a point of its call, and with the call's answer

@@ -14,7 +14,6 @@ use Rattle.si_model.specs.declared.log.Outcome.TheVariants as outcome
 use Rattle.nam_verbs.specs.declared.now.Now.TheVariants.{Over}
 use Rattle.nam_catalog.specs.declared.shape.Shape.{Shape}
 use Rattle.nam_catalog.specs.Tables.{widths_of}
-use Rattle.nam_header.specs.Stamp.{is_locked}
 use Rattle.nam_layout.specs.Place.{place_of, bucket_of}
 use Rattle.nam_vector.specs.declared.snap.SnapPoint.{SnapPoint}
 use Rattle.nam_vector.specs.Snap.{snap_after}
@@ -26,10 +25,9 @@ use Rattle.nam_protocol.specs.declared.txn.TxnAnswer.{TxnAnswer}
 use Rattle.nam_protocol.specs.declared.client.Open.{Open}
 use Rattle.nam_protocol.specs.declared.client.ClientState.{ClientState}
 use Rattle.nam_protocol.specs.Operations.{holding, answer_of}
-use Rattle.nam_protocol.specs.Commit.{lock_at, record_place}
 use Rattle.nam_protocol.specs.Log.{with_event, with_reads, with_writes, with_snap, prefix_of, attempt_of}
 use Rattle.nam_protocol.specs.Telling.{new_attempt, with_read}
-use Rattle.nam_protocol.specs.Carries.{IsBetween, IsInTheWay, Took}
+use Rattle.nam_protocol.specs.Carries.{IsBetween, IsMissed, Took}
 
 module _ (before after : ClientState) where
   -- 1. An operation on a value: what it reads is listed, and where it ends the attempt, that too
@@ -64,10 +62,7 @@ module _ (before after : ClientState) where
 
   -- the word in the way of the next lock is locked or isn't; the locks listed before it are those that were taken
   pub record LockMissed (attempt : Open) (word : ℕ) (lock : Lock) (locked : Bool) (how : Outcome) : Type 0 where
-    pub within : length attempt.state.held < length attempt.state.records
-    pub lock_is : lock ≡ lock_at attempt.state (length attempt.state.held) word
-    pub locked_is : is_locked (record_place attempt.state (length attempt.state.held)).form word ≡ locked
-    pub way : IsInTheWay attempt.state word
+    pub missed : IsMissed attempt.state word lock locked
     pub took : Took before.log.locks attempt
     pub log : Ends attempt how
 

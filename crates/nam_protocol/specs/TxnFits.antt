@@ -36,14 +36,17 @@ use Rattle.nam_protocol.specs.declared.txn.TxnAnswer.{TxnAnswer}
 use Rattle.nam_protocol.specs.declared.txn.TxnAnswer.TheVariants.{Committed}
 use Rattle.nam_protocol.specs.declared.txn.TxnPoint.{TxnPoint}
 use Rattle.nam_protocol.specs.declared.txn.TxnPoint.TheVariants.{Finding, Reading, Claiming, Committing}
+use Rattle.nam_protocol.specs.declared.txn.ListPoint.{ListPoint}
+use Rattle.nam_protocol.specs.declared.txn.ListPoint.TheVariants.{ListRow, ListKind, ListData, ListNumber, ListState}
 use Rattle.nam_protocol.specs.declared.txn.CommitPoint.{CommitPoint}
 use Rattle.nam_protocol.specs.declared.txn.CommitPoint.TheVariants.{Locking, Checking, Returning, Saving, Copying}
 use Rattle.nam_protocol.specs.declared.txn.CommitPoint.TheVariants.{Installing, Publishing, Freeing}
+use Rattle.nam_protocol.specs.declared.txn.CommitPoint.TheVariants.{Listing, Counting, Deciding, Clearing, Ending}
 use Rattle.nam_protocol.specs.Txn.{Stepped}
 use Rattle.nam_protocol.specs.Operations.{value_in}
-use Rattle.nam_protocol.specs.Commit.{records_of, record_place}
+use Rattle.nam_protocol.specs.Commit.{records_of, record_place, tells_intent}
 use Rattle.nam_protocol.specs.Scan.{positions_left, scan_left}
-use Rattle.nam_protocol.specs.Bound.{txn_left, op_bound, writes_bound}
+use Rattle.nam_protocol.specs.Bound.{txn_left, op_bound, writes_bound, intent_bound}
 use Rattle.nam_protocol.specs.declared.scan.ScanAnswer.TheVariants as scan
 
 -- a call begins at a point that fits, with at most n verbs to come, or takes none
@@ -106,13 +109,28 @@ module _ (shape : Shape) where
 
   -- 2. Points of a commit
 
+  abbrev pub ListFits : TxnState → ListPoint → Type 0
+  ListFits state (ListRow nth) = nth < length state.records
+  ListFits state (ListKind nth) = nth < length state.records
+  ListFits state (ListData nth word) = (nth < length state.writes) × (word < (record_place state nth).width)
+  ListFits state ListNumber = Unit {0}
+  ListFits state ListState = Unit {0}
+
   abbrev pub CommitPointFits : TxnState → CommitPoint → Type 0
+  CommitPointFits state (Listing at) =
+      (length state.held ≡ 0) × (length state.counts ≡ 0) × ListFits state at × (tells_intent state ≡ true)
   CommitPointFits state (Locking at) = LockFits (length state.records) state.held at × (length state.counts ≡ 0)
   CommitPointFits state (Checking at) =
       (length state.held ≡ length state.records) × (length state.counts < length state.writes)
   CommitPointFits state (Returning given full) =
       (length state.held ≡ length state.records) × (given < length state.records)
       × (length state.counts < length state.writes)
+  CommitPointFits state (Counting nth) =
+      (length state.held ≡ length state.records) × (length state.counts ≡ length state.writes)
+      × (nth < length state.writes) × (tells_intent state ≡ true)
+  CommitPointFits state Deciding =
+      (length state.held ≡ length state.records) × (length state.counts ≡ length state.writes)
+      × (tells_intent state ≡ true)
   CommitPointFits state (Saving nth got) =
       (length state.held ≡ length state.records) × (length state.counts ≡ length state.writes)
       × (nth < length state.writes)
@@ -130,6 +148,12 @@ module _ (shape : Shape) where
   CommitPointFits state (Freeing nth) =
       (length state.held ≡ length state.records) × (length state.counts ≡ length state.writes)
       × (length state.writes ≤ nth) × (nth < length state.records)
+  CommitPointFits state (Clearing refusal) =
+      (length state.held ≤ length state.records) × (length state.counts ≤ length state.writes)
+      × (tells_intent state ≡ true)
+  CommitPointFits state Ending =
+      (length state.held ≡ length state.records) × (length state.counts ≡ length state.writes)
+      × (tells_intent state ≡ true)
 
   -- the records of the commit are those of its keys, of which at least one is written, and a number of the form is left
   -- for it
@@ -180,10 +204,11 @@ module _ (shape : Shape) where
   TxnCallFits state (Guard t k) = OpStands state.claims (op.Guard t k)
   TxnCallFits state Commit = Unit {0}
 
-  -- the written keys, the keys that are guarded only, and the worker's entry
+  -- the written keys, the keys that are guarded only, the worker's entry, and the intent
   abbrev pub commit_bound : TxnState → ℕ
   commit_bound state =
       writes_bound shape (map item_key state.writes) + 3 * length (unwritten state.writes state.guards) + 1
+      + intent_bound shape (map item_key state.writes) (length (unwritten state.writes state.guards))
 
   abbrev pub txn_call_bound : TxnState → TxnCall → ℕ
   txn_call_bound state (Get t k) = op_bound shape (op.Get t k)

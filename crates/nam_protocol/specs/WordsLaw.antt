@@ -16,8 +16,10 @@ use Rattle.nam_protocol.specs.declared.session.SessionState.{SessionState}
 use Rattle.nam_protocol.specs.Client.{client_abandon, client_after, client_ask, client_verb}
 use Rattle.nam_protocol.specs.ClientFits.{ClientFits}
 use Rattle.nam_protocol.specs.CutClient.{client_cut}
-use Rattle.nam_protocol.specs.HoldsWords.{CallHolds, HoldsWords, JobHolds, SessionHolds, WorldHolds, RowHolds}
+use Rattle.nam_protocol.specs.HoldsWords.{CallHolds, HoldsWords, JobHolds, SessionHolds, TreatmentHolds, WorldHolds}
+use Rattle.nam_protocol.specs.HoldsWords.{RowHolds}
 use Rattle.nam_protocol.specs.Session.{new_session, session_after, session_cut}
+use Rattle.nam_protocol.specs.SessionFits.{MedicStands}
 use Rattle.nam_protocol.specs.Telling.{new_client}
 use Rattle.nam_protocol.specs.World.{Step, Cut, Turn, World, after_turn, session_of, new_world}
 
@@ -45,10 +47,11 @@ ClientWritesLaw = (shape : Shape) → FitsLimits shape → (client : ClientState
 
 pub record SessionKeepsWords (shape : Shape) : Type 0 where
   pub new : (client : ClientState) (jobs : List Job) (policy : Policy) → HoldsWords shape client
-      → AllByRecursion JobHolds jobs → SessionHolds shape (new_session shape client jobs policy)
+      → TreatmentHolds client.medic → AllByRecursion JobHolds jobs
+      → SessionHolds shape (new_session shape client jobs policy)
   pub word : (session : SessionState) (found : ℕ) → SessionHolds shape session → IsWord found
       → SessionHolds shape (session_after shape session found)
-  pub cut : (session : SessionState) → SessionHolds shape session → SessionHolds shape (session_cut session)
+  pub cut : (session : SessionState) → SessionHolds shape session → SessionHolds shape (session_cut shape.form session)
 
 abbrev pub SessionKeepsLaw : Type 0
 SessionKeepsLaw = (shape : Shape) → SessionKeepsWords shape
@@ -61,10 +64,10 @@ NewWorldLaw = (shape : Shape) → FitsLimits shape → (rows : List Row) (policy
     → AllByRecursion RowHolds rows → AllByRecursion (AllByRecursion JobHolds) jobs
     → WorldHolds shape (new_world shape rows policy jobs)
 
--- the worker's client, where there is one, fits
+-- the worker's client, where there is one, fits, and its medic
 abbrev pub WorkerFits : Shape → Option SessionState → Type 0
 WorkerFits shape None = Unit {0}
-WorkerFits shape (Some session) = ClientFits shape session.client
+WorkerFits shape (Some session) = ClientFits shape session.client × MedicStands shape session.client.medic
 
 abbrev pub TurnFits : Shape → World → Turn → Type 0
 TurnFits shape world (Step worker) = WorkerFits shape (session_of world worker)

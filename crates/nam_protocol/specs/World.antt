@@ -1,5 +1,6 @@
 -- A world: words, and the sessions that change them verb by verb.
-use Rattle.std.specs.Prelude.{ℕ, ◌≡◌, ◌+◌, ◌-◌, List, [], ◌∷◌, Option, Some, None, option_map, slice_get, slice_set}
+use Rattle.std.specs.Prelude.{ℕ, ◌≡◌, ◌+◌, ◌-◌, Bool, false, List, [], ◌∷◌, Option, Some, None, option_map, slice_get}
+use Rattle.std.specs.Prelude.{slice_set}
 use Rattle.std.specs.List.{AllByRecursion}
 use Rattle.si_model.specs.declared.row.Row.{Row}
 use Rattle.si_model.specs.declared.op.Policy.{Policy}
@@ -20,7 +21,7 @@ pub record World : Type 0 where
   pub words : List ℕ
   pub sessions : List SessionState
 
--- one worker's turn: its next verb is done, or it is stopped before it
+-- one worker's turn: its next verb is done, which is its medic's once it is cut, or it is stopped before it
 pub data Turn : Type 0 where
   Step : (worker : ℕ) → Turn
   Cut : (worker : ℕ) → Turn
@@ -58,17 +59,22 @@ module _ (shape : Shape) where
   abbrev pub step : World → ℕ → World
   step world worker = step_of world worker (session_of world worker)
 
--- the worker is stopped before its next verb
-abbrev pub cut_of : World → ℕ → Option SessionState → World
-cut_of world worker None = world
-cut_of world worker (Some session) = with_session world worker (session_cut session)
+  -- the worker is stopped before its next verb
+  abbrev pub cut_of : World → ℕ → Option SessionState → World
+  cut_of world worker None = world
+  cut_of world worker (Some session) = with_session world worker (session_cut shape.form session)
 
-abbrev pub cut : World → ℕ → World
-cut world worker = cut_of world worker (session_of world worker)
+  abbrev pub cut : World → ℕ → World
+  cut world worker = cut_of world worker (session_of world worker)
+
+-- is this session cut
+abbrev pub is_cut : Option SessionState → Bool
+is_cut None = false
+is_cut (Some session) = session.client.cut
 
 abbrev pub after_turn : Shape → World → Turn → World
 after_turn shape world (Step worker) = step shape world worker
-after_turn shape world (Cut worker) = cut world worker
+after_turn shape world (Cut worker) = cut shape world worker
 
 abbrev pub after_turns : Shape → World → List Turn → World
 after_turns shape world [] = world
@@ -85,7 +91,7 @@ abbrev pub new_world : Shape → List Row → Policy → List (List Job) → Wor
 new_world shape rows policy jobs =
     record { words = opening_words shape rows; sessions = new_sessions shape policy 1 jobs }
 
--- each session has ended or is cut: none has a verb to come
+-- no session has a verb to come: each has ended, or is cut and has no medic
 abbrev pub HasNoVerb : Shape → SessionState → Type 0
 HasNoVerb shape session = session_verb shape session ≡ None
 

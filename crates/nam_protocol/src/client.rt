@@ -3,10 +3,10 @@
 use crate::scan::ScanPoint;
 use crate::txn::{TxnAnswer, TxnCall, TxnPoint, TxnState};
 use lists::List;
-use nam_calls::{CollectPoint, MovePoint};
+use nam_calls::{CollectPoint, MedicPoint, MovePoint};
 use nam_vector::SnapPoint;
 use nam_verbs::Now;
-use si_model::{Log, Snapshot, Value};
+use si_model::{Finish, Log, Snapshot, Value};
 
 /// A call of a client.
 #[derive(Debug, Drop, PartialEq, Eq)]
@@ -171,4 +171,6 @@ pub struct ClientState {
     pub call: Option<Now<CallPoint, Answer>>,
     /// It was stopped for good.
     pub cut: bool,
+    /// The medic of a client that was stopped, or how it has finished.
+    pub medic: Option<Now<MedicPoint, Finish>>,
 }

@@ -23,8 +23,8 @@ pub fn answers_tell()
 {}
 
 /// What a client keeps its session keeps: of any test of a client that a worker's new client passes, and that is kept
-/// by each word that a client takes, by each call that it may be asked and by a stop, the client of each session that
-/// occurs passes it.
+/// by each word that a client takes, by each call that it may be asked, by a stop and by what its medic does, the
+/// client of each session that occurs passes it.
 pub fn session_keeps()
     ensures { SessionKeepsLaw }
 {}

@@ -16,7 +16,7 @@ pub fn room_suffices()
 /// that was cut, and the tail of a commit that has published.
 ///
 /// So a session, at each moment and however it is closed, has no more events than its jobs have attempts and tidyings,
-/// and that one tail cut.
+/// and one more: that tail cut, or how its medic has finished it.
 pub fn events_within()
     ensures client { ClientEventsLaw }
     ensures session { EventsLaw }

@@ -3,9 +3,9 @@
 ghost use Rattle.nam_protocol.specs.StepLaw.{StepLaw};
 ghost use Rattle.nam_protocol.specs.UnreadLaw.{UnreadLaw};
 
-/// A step of a worker whose client fits is said by the words as a function of fields: its verb is at a field of the
-/// shape, the session takes the word that the verb finds there, and the step changes that field to what the verb leaves
-/// there, and no other field.
+/// A step of a worker whose client fits, and its medic where it has one, is said by the words as a function of fields:
+/// its verb is at a field of the shape, the session takes the word that the verb finds there, and the step changes that
+/// field to what the verb leaves there, and no other field.
 pub fn step_law()
     ensures { StepLaw }
 {}

@@ -92,15 +92,48 @@ pub struct TxnState {
     pub counts: ShortList<u64, 16>,
 }
 
+/// Where the listing of a commit's records in its worker's intent stands. Records are counted from 0, in the commit's
+/// order.
+#[derive(Clone, Copy, Debug, PartialEq, Eq)]
+pub enum ListPoint {
+    /// Write a record's row.
+    ListRow { nth: u32 },
+    /// Write what the commit does with a record.
+    ListKind { nth: u32 },
+    /// Write a data word of a record's next version.
+    ListData { nth: u32, word: u32 },
+    /// Write the number of the commit.
+    ListNumber,
+    /// Write the state: the records are listed.
+    ListState,
+}
+
+/// Why a commit changes nothing.
+#[derive(Clone, Copy, Debug, PartialEq, Eq)]
+pub enum Refusal {
+    /// The record is locked by another.
+    Locked(Lock),
+    /// The record has a newer version than the snapshot sees.
+    Newer(Lock),
+    /// The slot that the record's next version needs has a version that was not moved yet.
+    Full(Lock),
+}
+
 /// Where a commit stands. Records are counted from 0, in the commit's order.
 #[derive(Debug, Drop)]
 pub enum CommitPoint {
+    /// List the records in the worker's intent, in form Held.
+    Listing { at: ListPoint },
     /// Lock the records.
     Locking { at: LockPoint },
     /// Look at the slot of the next written record.
     Checking { at: SlotPoint },
     /// Write a record's header back, since a written record's slot is not free.
     Returning { given: u32, full: Lock },
+    /// Write the number of a written record's current version to the intent, in form Held.
+    Counting { nth: u32 },
+    /// Write the intent's state, in form Held: the commit is decided.
+    Deciding,
     /// Read a written record's data word after those got.
     Saving { nth: u32, got: Value },
     /// Copy a written record's current version into its slot.
@@ -111,6 +144,10 @@ pub enum CommitPoint {
     Publishing,
     /// Write a guarded record's header back.
     Freeing { nth: u32 },
+    /// Write the intent's state, in form Held: there is none. Then the commit was refused.
+    Clearing { refusal: Refusal },
+    /// Write the intent's state, in form Held: there is none. Then the commit is over.
+    Ending,
 }
 
 /// Where a transaction's call stands.

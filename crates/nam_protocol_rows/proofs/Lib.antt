@@ -1,5 +1,6 @@
 mod FuseGetExample
 mod FusePutExample
+mod FuseMedicExample
 mod RandomExample
 mod RandomMoreExample
 mod RandomThirdExample

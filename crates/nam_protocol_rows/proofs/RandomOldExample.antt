@@ -57,7 +57,7 @@ old_1 = refl
 
 unfoldable of_old_2 : Scenario
 of_old_2 = record {
-  shape = shape Held 2 (table 1 2 1 ∷ []) 1 1 0;
+  shape = shape Narrow 2 (table 1 2 1 ∷ []) 1 1 0;
   rows = loaded 0 3 (1 ∷ []) ∷ loaded 0 2 (18446744073709551614 ∷ []) ∷ [];
   policy = record { tries = 2; tidy = true };
   txns = txn 1 (Add 0 1 1 true 0 ∷ Scan 0 2 3 ∷ Get 0 2 ∷ Scan 0 0 18446744073709551614 ∷ []) ∷
@@ -100,7 +100,7 @@ old_2 = refl
 
 unfoldable of_old_3 : Scenario
 of_old_3 = record {
-  shape = shape Held 2 (table 1 2 1 ∷ []) 1 1 0;
+  shape = shape Narrow 2 (table 1 2 1 ∷ []) 1 1 0;
   rows = loaded 0 2 (5 ∷ []) ∷ loaded 0 3 (1 ∷ []) ∷ [];
   policy = record { tries = 3; tidy = true };
   txns = txn 1 (Scan 0 0 18446744073709551614 ∷ Scan 0 2 18446744073709551614 ∷ []) ∷

@@ -83,7 +83,7 @@ more_picks_2 = refl
 
 unfoldable of_more_picks_3 : Scenario
 of_more_picks_3 = record {
-  shape = shape Held 2 (table 1 4 3 ∷ table 1 2 2 ∷ []) 1 1 0;
+  shape = shape Narrow 2 (table 1 4 3 ∷ table 1 2 2 ∷ []) 1 1 0;
   rows = loaded 0 5 (1 ∷ []) ∷ loaded 0 0 (5 ∷ []) ∷ loaded 0 2 (5 ∷ []) ∷ loaded 0 8 (1 ∷ []) ∷ [];
   policy = record { tries = 1; tidy = true };
   txns = txn 1 (Del 0 2 ∷ []) ∷ txn 1 (Add 0 2 1 true 1 ∷ []) ∷ txn 2 (Need 0 2 1 0 ∷ []) ∷

@@ -1,6 +1,6 @@
 -- Random scripts in which rare events come, of a simulator of its own.
 use Rattle.std.proofs.Common.{◌≡◌, true, false, [], ◌∷◌, Some, None, refl}
-use Rattle.nam_catalog.specs.declared.form.Form.TheVariants.{Narrow, Wide, Held}
+use Rattle.nam_catalog.specs.declared.form.Form.TheVariants.{Narrow, Wide}
 use Rattle.si_model.specs.declared.op.Op.TheVariants.{Get, Put, Add, Del, Need, Guard, Scan}
 use Rattle.si_model.specs.declared.log.Outcome.TheVariants.{Commit, ReadOnly, Declined, NoSpace, Again, Locked, Newer}
 use Rattle.si_model.specs.declared.log.Outcome.TheVariants.{Full, Cut}
@@ -403,7 +403,7 @@ rare_11 = refl
 
 unfoldable of_rare_12 : Scenario
 of_rare_12 = record {
-  shape = shape Held 1 (table 1 4 1 ∷ []) 1 1 4294967294;
+  shape = shape Narrow 1 (table 1 4 1 ∷ []) 1 1 4294967294;
   rows = [];
   policy = record { tries = 3; tidy = true };
   txns = txn 1 (Need 0 4 1 5 ∷ Get 0 4 ∷ Need 0 4 1 1 ∷ Put 0 4 (4 ∷ []) ∷ []) ∷

@@ -1,6 +1,6 @@
 -- More random scripts in which rare events come, of a simulator of its own.
 use Rattle.std.proofs.Common.{◌≡◌, true, false, [], ◌∷◌, Some, None, refl}
-use Rattle.nam_catalog.specs.declared.form.Form.TheVariants.{Narrow, Wide, Held}
+use Rattle.nam_catalog.specs.declared.form.Form.TheVariants.{Narrow, Wide}
 use Rattle.si_model.specs.declared.op.Op.TheVariants.{Get, Put, Add, Del, Need, Guard, Scan}
 use Rattle.si_model.specs.declared.log.Outcome.TheVariants.{Commit, ReadOnly, Declined, NoSpace, Again, Locked, Newer}
 use Rattle.si_model.specs.declared.log.Outcome.TheVariants.{Full}
@@ -44,7 +44,7 @@ more_rare_1 = refl
 
 unfoldable of_more_rare_2 : Scenario
 of_more_rare_2 = record {
-  shape = shape Held 3 (table 1 3 1 ∷ []) 1 1 0;
+  shape = shape Narrow 3 (table 1 3 1 ∷ []) 1 1 0;
   rows = [];
   policy = record { tries = 1; tidy = true };
   txns = txn 3 (Scan 0 1 18446744073709551614 ∷ Scan 0 0 5 ∷ []) ∷
@@ -116,7 +116,7 @@ more_rare_3 = refl
 
 unfoldable of_more_rare_4 : Scenario
 of_more_rare_4 = record {
-  shape = shape Held 2 (table 1 2 1 ∷ []) 1 1 7;
+  shape = shape Narrow 2 (table 1 2 1 ∷ []) 1 1 7;
   rows = loaded 0 8 (5 ∷ []) ∷ [];
   policy = record { tries = 1; tidy = true };
   txns = txn 1 (Need 0 2 1 1 ∷ Add 0 2 1 true 3 ∷ Del 0 18446744073709551614 ∷ Need 0 18446744073709551614 1 1 ∷ []) ∷
@@ -185,7 +185,7 @@ more_rare_5 = refl
 
 unfoldable of_more_rare_6 : Scenario
 of_more_rare_6 = record {
-  shape = shape Held 2 (table 2 3 1 ∷ []) 1 1 0;
+  shape = shape Narrow 2 (table 2 3 1 ∷ []) 1 1 0;
   rows = loaded 0 1 (5 ∷ 18446744073709551614 ∷ []) ∷ loaded 0 0 (1 ∷ 1 ∷ []) ∷ loaded 0 8 (1 ∷ 5 ∷ []) ∷ [];
   policy = record { tries = 1; tidy = true };
   txns = txn 1 (Add 0 1 2 false 3 ∷ Add 0 8 2 true 1 ∷ Put 0 8 (1 ∷ 0 ∷ []) ∷ Add 0 8 1 false 0 ∷ []) ∷
@@ -221,7 +221,7 @@ more_rare_6 = refl
 
 unfoldable of_more_rare_7 : Scenario
 of_more_rare_7 = record {
-  shape = shape Held 1 (table 2 3 1 ∷ table 1 3 2 ∷ []) 1 2 0;
+  shape = shape Narrow 1 (table 2 3 1 ∷ table 1 3 2 ∷ []) 1 2 0;
   rows = loaded 0 3 (5 ∷ 1 ∷ []) ∷ loaded 0 18446744073709551614 (1 ∷ 18446744073709551614 ∷ []) ∷ loaded 1 8 (5 ∷ []) ∷
       loaded 1 3 (40 ∷ []) ∷ [];
   policy = record { tries = 1; tidy = true };
@@ -331,7 +331,7 @@ more_rare_9 = refl
 
 unfoldable of_more_rare_10 : Scenario
 of_more_rare_10 = record {
-  shape = shape Held 3 (table 1 3 3 ∷ table 1 3 3 ∷ []) 2 2 0;
+  shape = shape Narrow 3 (table 1 3 3 ∷ table 1 3 3 ∷ []) 2 2 0;
   rows = loaded 0 2 (18446744073709551614 ∷ []) ∷ loaded 0 18446744073709551614 (0 ∷ []) ∷ loaded 1 2 (0 ∷ []) ∷
       loaded 1 3 (1 ∷ []) ∷ loaded 1 1 (40 ∷ []) ∷ [];
   policy = record { tries = 3; tidy = true };

@@ -50,7 +50,7 @@ scans_1 = refl
 
 unfoldable of_scans_2 : Scenario
 of_scans_2 = record {
-  shape = shape Held 2 (table 1 3 1 ∷ []) 1 1 4294967294;
+  shape = shape Narrow 2 (table 1 3 1 ∷ []) 1 1 4294967294;
   rows = loaded 0 2 (18446744073709551614 ∷ []) ∷ loaded 0 3 (1 ∷ []) ∷ loaded 0 5 (18446744073709551614 ∷ []) ∷ [];
   policy = record { tries = 4; tidy = true };
   txns = txn 2 (Get 0 4 ∷ Add 0 5 1 true 0 ∷ []) ∷ txn 1 (Scan 0 0 5 ∷ Scan 0 0 18446744073709551614 ∷ []) ∷
@@ -165,7 +165,7 @@ scans_4 = refl
 
 unfoldable of_scans_5 : Scenario
 of_scans_5 = record {
-  shape = shape Held 2 (table 1 4 1 ∷ table 1 1 3 ∷ []) 1 2 0;
+  shape = shape Narrow 2 (table 1 4 1 ∷ table 1 1 3 ∷ []) 1 2 0;
   rows = loaded 0 4 (5 ∷ []) ∷ loaded 0 5 (1 ∷ []) ∷ loaded 0 0 (0 ∷ []) ∷ loaded 1 0 (40 ∷ []) ∷ [];
   policy = record { tries = 4; tidy = false };
   txns = txn 1 (Del 0 5 ∷ []) ∷ txn 2 (Put 0 3 (7 ∷ []) ∷ Add 0 0 1 true 1 ∷ Scan 0 0 5 ∷ Put 0 0 (1 ∷ []) ∷ []) ∷
@@ -384,7 +384,7 @@ scans_10 = refl
 
 unfoldable of_scans_11 : Scenario
 of_scans_11 = record {
-  shape = shape Held 2 (table 2 2 3 ∷ []) 1 3 0;
+  shape = shape Narrow 2 (table 2 2 3 ∷ []) 1 3 0;
   rows = loaded 0 1 (1 ∷ 1 ∷ []) ∷ [];
   policy = record { tries = 4; tidy = true };
   txns = txn 1 (Add 0 4 2 true 1 ∷ []) ∷ txn 1 (Del 0 1 ∷ []) ∷ txn 1 (Scan 0 1 3 ∷ Guard 0 4 ∷ Add 0 3 2 true 0 ∷ []) ∷

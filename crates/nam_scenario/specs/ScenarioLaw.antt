@@ -10,7 +10,8 @@ use Rattle.nam_scenario.specs.Scenario.{scenario_of}
 abbrev pub ScriptFitsLaw : Type 0
 ScriptFitsLaw = (script : Script) → IsScript script → ScenarioFits (scenario_of script)
 
--- the run of the script under these lines, computed: rounds until all have ended, no more than all jobs have verbs
+-- the run of the script under these lines, computed: rounds until all have ended, no more than all jobs and medics have
+-- verbs
 abbrev pub script_run : Script → List Line → Run
 script_run script lines = run_to_end (scenario_bound (scenario_of script)) (scenario_of script) lines
 

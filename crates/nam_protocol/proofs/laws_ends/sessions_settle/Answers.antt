@@ -1,4 +1,5 @@
-use Rattle.nam_protocol.proofs.EndsSession.{sessions_settle, new_session_ends, session_word, session_cut_ends}
+use Rattle.nam_protocol.proofs.EndsSession.{new_session_ends, session_word}
+use Rattle.nam_protocol.proofs.EndsSettled.{sessions_settle, session_cut_ends}
 use Rattle.nam_protocol.proofs.laws_ends.sessions_settle.Goals as goal
 
 pub returns-clause-settles : goal.returns-clause-settles

@@ -34,10 +34,10 @@ use Rattle.nam_protocol.specs.declared.txn.CommitPoint.TheVariants.{Locking, Che
 use Rattle.nam_protocol.specs.declared.txn.CommitPoint.TheVariants.{Installing, Publishing, Freeing}
 use Rattle.nam_protocol.specs.declared.txn.CommitPoint.TheVariants.{Listing, Counting, Deciding, Clearing, Ending}
 use Rattle.nam_protocol.specs.Txn.{Stepped, over}
-use Rattle.nam_protocol.specs.Commit.{go, lock_at, places, record_place, value_at, tells_intent, kind_at, list_next}
-use Rattle.nam_protocol.specs.Commit.{list_after, list_kind_after, list_begin, committing, ask_commit, refusal_answer, refused}
+use Rattle.nam_protocol.specs.Commit.{go, lock_at, places, value_at, tells_intent}
+use Rattle.nam_protocol.specs.Commit.{list_begin, committing, ask_commit, refusal_answer, refused}
 use Rattle.nam_protocol.specs.Commit.{on_list, on_lock, on_slot, on_return, next_count, on_words, on_copy, on_install}
-use Rattle.nam_protocol.specs.Commit.{ended, next_free, commit_after}
+use Rattle.nam_protocol.specs.Commit.{next_free, commit_after}
 
 -- the state with these locks, and with one more count
 abbrev pub holding_locks : TxnState → List ℕ → TxnState

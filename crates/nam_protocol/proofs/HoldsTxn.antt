@@ -62,7 +62,7 @@ use Rattle.nam_protocol.specs.TxnCalls.{txn_after, txn_ask}
 use Rattle.nam_protocol.proofs.FallsKeys.{all_wrote}
 use Rattle.nam_protocol.proofs.FallsTxn.{answer_fits}
 use Rattle.nam_protocol.proofs.GoesCommit.{ask_commit_goes, next_free_goes, on_copy_goes, on_install_goes}
-use Rattle.nam_protocol.proofs.GoesCommit.{on_return_goes, on_slot_goes, on_list_goes, next_count_goes, refused_goes}
+use Rattle.nam_protocol.proofs.GoesCommit.{on_return_goes, on_list_goes, next_count_goes, refused_goes}
 use Rattle.nam_protocol.proofs.GoesCommit.{with_count}
 use Rattle.nam_protocol.proofs.GoesTxn.{ask_goes, decided_goes, knowing}
 use Rattle.nam_protocol.specs.declared.txn.TxnCall.TheVariants as txn_call

@@ -34,10 +34,10 @@ use Rattle.nam_calls.proofs.Programs.{writes_left, writes_is, part_with, the_pro
 use Rattle.nam_calls.specs.declared.lock.LockEnd.TheVariants as lock_end
 use Rattle.nam_protocol.specs.declared.txn.TxnState.{TxnState}
 use Rattle.nam_protocol.specs.declared.txn.TxnAnswer.{TxnAnswer}
-use Rattle.nam_protocol.specs.declared.txn.TxnAnswer.TheVariants.{Committed, Full}
+use Rattle.nam_protocol.specs.declared.txn.TxnAnswer.TheVariants.{Committed}
 use Rattle.nam_protocol.specs.declared.txn.CommitPoint.TheVariants.{Locking, Checking, Returning, Saving, Copying}
 use Rattle.nam_protocol.specs.declared.txn.CommitPoint.TheVariants.{Installing, Publishing, Freeing}
-use Rattle.nam_protocol.specs.Txn.{Stepped, over}
+use Rattle.nam_protocol.specs.Txn.{Stepped}
 use Rattle.nam_protocol.specs.declared.txn.CommitPoint.TheVariants.{Listing, Counting, Deciding}
 use Rattle.nam_protocol.specs.declared.txn.ListPoint.TheVariants.{ListRow, ListData, ListNumber}
 use Rattle.nam_protocol.specs.declared.txn.Refusal.{Refusal}

@@ -28,7 +28,7 @@ use Rattle.nam_protocol.specs.declared.txn.TxnPoint.{TxnPoint}
 use Rattle.nam_protocol.specs.declared.txn.TxnAnswer.{TxnAnswer}
 use Rattle.nam_protocol.specs.declared.txn.TxnAnswer.TheVariants.{ReadOnly, Spent, Committed, Locked, Newer, Full}
 use Rattle.nam_protocol.specs.Txn.{Stepped}
-use Rattle.nam_protocol.specs.Commit.{places, record_place, value_at, lock_at, own_stamp, new_header, records_of}
+use Rattle.nam_protocol.specs.Commit.{places, record_place, value_at, lock_at, own_stamp, new_header}
 use Rattle.nam_protocol.specs.Commit.{ask_commit, committing, kind_at, tells_intent}
 use Rattle.nam_protocol.specs.TxnCalls.{txn_verb, txn_after}
 

@@ -14,7 +14,6 @@ use Rattle.si_model.specs.declared.log.Outcome.TheVariants as outcome
 use Rattle.nam_verbs.specs.declared.now.Now.TheVariants.{Over}
 use Rattle.nam_catalog.specs.declared.shape.Shape.{Shape}
 use Rattle.nam_catalog.specs.Tables.{widths_of}
-use Rattle.nam_header.specs.Stamp.{is_locked}
 use Rattle.nam_layout.specs.Place.{place_of, bucket_of}
 use Rattle.nam_vector.specs.declared.snap.SnapPoint.{SnapPoint}
 use Rattle.nam_vector.specs.Snap.{snap_after}
@@ -26,7 +25,6 @@ use Rattle.nam_protocol.specs.declared.txn.TxnAnswer.{TxnAnswer}
 use Rattle.nam_protocol.specs.declared.client.Open.{Open}
 use Rattle.nam_protocol.specs.declared.client.ClientState.{ClientState}
 use Rattle.nam_protocol.specs.Operations.{holding, answer_of}
-use Rattle.nam_protocol.specs.Commit.{lock_at, record_place}
 use Rattle.nam_protocol.specs.Log.{with_event, with_reads, with_writes, with_snap, prefix_of, attempt_of}
 use Rattle.nam_protocol.specs.Telling.{new_attempt, with_read}
 use Rattle.nam_protocol.specs.Carries.{IsBetween, IsMissed, Took}

@@ -72,6 +72,12 @@ pub installs_least : (xs : List Place) → length xs ≤ installs_most xs
 installs_least [] = omega arith
 installs_least (x ∷ xs) = let r = installs_least xs in omega arith
 
+-- no more headers are held than there are records
+pub held_within : (records : ℕ) (held : List ℕ) (at : LockPoint) → LockFits records held at → length held ≤ records
+held_within records held Peek l = omega arith
+held_within records held (Seize header) l = omega arith
+held_within records held (GiveBack given found) l = let m = l.0 in omega arith
+
 -- 2. A commit goes on, or is over
 
 goes : (shape : Shape) (state : TxnState) (n : ℕ) (place : CommitPoint) → StateFits shape state
@@ -142,11 +148,6 @@ module _ (shape : Shape) (limits : FitsLimits shape) (state : TxnState) (fits : 
       (λ e. let c = clear_is e in
       goes shape state (n + clear) (Clearing refusal) fits are some room (held, counts, e) (omega arith))
       (λ e. ends shape state (n + clear) (refusal_answer refusal) fits is (omega arith))
-
-  held_within : (at : LockPoint) → LockFits records state.held at → length state.held ≤ records
-  held_within Peek l = omega arith
-  held_within (Seize header) l = omega arith
-  held_within (GiveBack given found) l = let m = l.0 in omega arith
 
   on_lock_falls : (n : ℕ) (now : Now Locks LockEnd) → length state.counts ≡ 0 → length state.held ≤ records
       → LockFalls (places state) (after_locks state) enough n now
@@ -423,7 +424,7 @@ module _ (shape : Shape) (limits : FitsLimits shape) (state : TxnState) (fits : 
   commit_falls (Locking at) found c =
       let e = as_many shape limits state fits c.0 c.1 c.3 in
       on_lock_falls shape limits state fits c.0 c.1 c.3 _ _ c.2.1
-      (held_within shape limits state fits c.0 c.1 c.3 at c.2.0)
+      (held_within (length state.records) state.held at c.2.0)
       (lock_falls (places state) _ (enough shape limits state fits c.0 c.1 c.3) state.seen state.held at found
       (subst (λ m. LockFits m state.held at) (sym e) c.2.0))
   commit_falls (Checking at) found c =

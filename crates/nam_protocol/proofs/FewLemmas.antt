@@ -1,5 +1,5 @@
 -- How many keys, records, headers and counts a transaction has that fits.
-use Rattle.std.proofs.Common.{◌≡◌, ℕ, ◌≤◌, List, length, ap, arith, true}
+use Rattle.std.proofs.Common.{◌≡◌, ◌≤◌, List, length, ap, arith, true}
 use Rattle.std.specs.List.{AllByRecursion}
 use Rattle.std.specs.Set.{is_member}
 use Rattle.std.proofs.lemmas.List.{length-map}
@@ -7,9 +7,6 @@ use Rattle.si_model.specs.declared.row.Key.{Key}
 use Rattle.si_model.specs.Rows.{same_key}
 use Rattle.si_model.proofs.ListLemmas.{All-map}
 use Rattle.nam_catalog.specs.declared.shape.Shape.{Shape}
-use Rattle.nam_calls.specs.declared.lock.LockPoint.{LockPoint}
-use Rattle.nam_calls.specs.declared.lock.LockPoint.TheVariants.{Peek, Seize, GiveBack}
-use Rattle.nam_calls.specs.Fits.{LockFits}
 use Rattle.nam_protocol.specs.declared.txn.CommitPoint.{CommitPoint}
 use Rattle.nam_protocol.specs.declared.txn.CommitPoint.TheVariants.{Locking, Checking, Returning, Saving, Copying}
 use Rattle.nam_protocol.specs.declared.txn.CommitPoint.TheVariants.{Installing, Publishing, Freeing}
@@ -21,6 +18,7 @@ use Rattle.nam_protocol.specs.TxnFits.{is_claimed, is_used, StateFits, CommitPoi
 use Rattle.nam_protocol.specs.FewLaw.{FewKeys, FewKeysLaw, FewPlaces, FewPlacesLaw, FewTidiesLaw, KeyWordLaw}
 use Rattle.nam_protocol.proofs.KeyLemmas.{AreOnce, member_holds, claimed_keys, claimed_is_member, used_once}
 use Rattle.nam_protocol.proofs.KeyLemmas.{used_member, once_within}
+use Rattle.nam_protocol.proofs.FallsCommit.{held_within}
 use Rattle.nam_protocol.proofs.FallsKeys.{claims_each, keys_claimed, records_length, writes_within}
 use Rattle.nam_protocol.proofs.JobKeys.{written_few}
 
@@ -74,11 +72,6 @@ module _ (shape : Shape) (state : TxnState) (fits : StateFits shape state) where
         guards = omega arith;
         records = omega arith;
       }
-
-  held_within : (records : ℕ) (held : List ℕ) (at : LockPoint) → LockFits records held at → length held ≤ records
-  held_within records held Peek l = omega arith
-  held_within records held (Seize header) l = omega arith
-  held_within records held (GiveBack given found) l = let m = l.0 in omega arith
 
   -- the headers and the counts are no more than the records
   places_within : (at : CommitPoint) → length state.writes ≤ length state.records → CommitPointFits shape state at

@@ -36,10 +36,10 @@ use Rattle.nam_protocol.specs.ListsLaw.{KeysWithin, ListsLaw, ListsWithin}
 use Rattle.nam_protocol.specs.SessionFits.{NowRuns, OpenRuns, PlaceRuns, SessionFits, is_running, ops_of}
 use Rattle.nam_protocol.specs.CutClient.{closed_client, finish_of}
 use Rattle.nam_protocol.specs.TxnFits.{CommitFits, CommitPointFits}
-use Rattle.nam_calls.specs.declared.lock.LockPoint.TheVariants.{GiveBack, Peek, Seize}
 use Rattle.nam_protocol.specs.declared.txn.CommitPoint.TheVariants.{Checking, Copying, Freeing, Installing, Locking}
 use Rattle.nam_protocol.specs.declared.txn.CommitPoint.TheVariants.{Publishing, Returning, Saving}
 use Rattle.nam_protocol.specs.declared.txn.CommitPoint.TheVariants.{Listing, Counting, Deciding, Clearing, Ending}
+use Rattle.nam_protocol.proofs.FallsCommit.{held_within}
 use Rattle.nam_protocol.proofs.FallsAttempt.{guards_as_asked}
 use Rattle.nam_protocol.proofs.ListsClient.{WritesWithin, ended, open_locks}
 use Rattle.nam_protocol.proofs.RunsClient.{IsAnswered, NowDoes, take_past}
@@ -91,9 +91,7 @@ module _ (state : TxnState) (ops : List Op) (asked : HasAsked state ops) (keys :
 
 taken_within : (shape : Shape) (state : TxnState) (at : CommitPoint) → CommitPointFits shape state at
     → length state.held ≤ length state.records
-taken_within shape state (Locking Peek) fits = let l = fits.0 in omega arith
-taken_within shape state (Locking (Seize header)) fits = let l = fits.0 in omega arith
-taken_within shape state (Locking (GiveBack given found)) fits = let l = fits.0.0 in omega arith
+taken_within shape state (Locking at) fits = held_within (length state.records) state.held at fits.0
 taken_within shape state (Listing at) fits = let l = fits.0 in omega arith
 taken_within shape state (Checking at) fits = let l = fits.0 in omega arith
 taken_within shape state (Returning given full) fits = let l = fits.0 in omega arith

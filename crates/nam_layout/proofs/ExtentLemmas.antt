@@ -1,8 +1,8 @@
 -- where tables stand
 use Rattle.std.proofs.Common.{◌≡◌, ℕ, zero, suc, ◌+◌, ◌-◌, ◌*◌, ◌/◌, ◌%◌, ◌^◌, ◌<◌, ◌≤◌, inl, inr, List, [], ◌∷◌}
 use Rattle.std.proofs.Common.{length, get_or, refl, sym, ◌∙◌, ap, arith}
-use Rattle.std.specs.Prelude.{All, slice_index}
-use Rattle.std.proofs.lemmas.Bool.{cases_lt}
+use Rattle.std.specs.Prelude.{All, slice_index, nat_lt, if◌then◌else◌, Bool, Some, None}
+use Rattle.std.proofs.lemmas.Bool.{cases_lt, lt-ltb, le-ltb}
 use Rattle.std.proofs.lemmas.Nat.{div_below, mul-le}
 use Rattle.std.proofs.lemmas.List.Elements.{All-head, All-tail}
 use Rattle.nam_catalog.specs.declared.shape.Table.{Table}
@@ -10,11 +10,18 @@ use Rattle.nam_catalog.specs.Fits.{FitsTable}
 use Rattle.nam_catalog.specs.Tables.{widths_of, capacities_of, rings_of}
 use Rattle.nam_catalog.specs.Words.{position_words, table_words, tables_words}
 use Rattle.nam_layout.specs.declared.extent.Extent.{Extent}
-use Rattle.nam_layout.specs.Rows.{rows_in, row_of, width_at, row_at}
+use Rattle.nam_layout.specs.Rows.{rows_in, row_of, table_of, position_of, width_at, row_at}
 use Rattle.nam_layout.specs.FieldAt.{row_in, rest_in, field_in_position}
-use Rattle.nam_layout.specs.Extent.{extents_of, IsIn, field_in_extents}
+use Rattle.nam_layout.specs.Extent.{extents_of, IsIn, field_in_extents, position_in}
 use Rattle.nam_layout.proofs.TestLemmas.{if_less, if_not_less}
 use Rattle.nam_layout.proofs.RowLemmas.{row_stands}
+
+-- a number is below a sum exactly where what is left of it is below the rest
+less_both : (n a b : ℕ) → a ≤ n → nat_lt (n - a) b ≡ nat_lt n (a + b)
+less_both n a b past = elim (cases_lt (n - a) b) [
+  | inl less ↦ lt-ltb (n - a) b less ∙ sym (lt-ltb n (a + b) (omega arith))
+  | inr least ↦ le-ltb (n - a) b least ∙ sym (le-ltb n (a + b) (omega arith))
+]
 
 -- the extent is that of the table, where the first table's first position begins at `at` and is this row
 pub record IsExtent (at row : ℕ) (tables : List Table) (table : ℕ) (e : Extent) : Type 0 where
@@ -126,4 +133,31 @@ field_is at row address (t ∷ ts) least less = elim (cases_lt address (at + tab
       ∙ ap (λ n. field_in_position (width_at ts r) n (rest_in ts after)) rows
       ∙ sym (named (t ∷ ts) row offset (t.capacity + r) (rest_in ts after) (width_at ts r)
       (if_not_less _ _ _ _ beyond) (if_not_less _ _ _ _ beyond) (if_not_less _ _ _ _ later ∙ ap (width_at ts) before))
+]
+
+-- the position of a row in the extents is that in the tables, of which the first has this number
+pub position_is : (at row nth : ℕ) (tables : List Table) (n : ℕ)
+    → position_in nth (extents_of at row tables) n
+    ≡ (if nat_lt n (rows_in tables) then Some (nth + table_of tables n, position_of tables n) else None)
+position_is at row nth [] n = sym (if_not_less n 0 _ _ (omega arith))
+position_is at row nth (t ∷ ts) n = elim (cases_lt n t.capacity) [
+  | inl here ↦
+      let first : nth ≡ nth + table_of (t ∷ ts) n
+      = omega arith ∙ ap (λ k. nth + k) (sym (if_less _ _ _ _ here)) in
+      if_less _ _ _ _ here
+      ∙ ap (λ k. Some (k, n)) first
+      ∙ ap (λ k. Some (nth + table_of (t ∷ ts) n, k)) (sym (if_less _ _ _ _ here))
+      ∙ sym (if_less n (t.capacity + rows_in ts) _ _ (omega arith))
+  | inr past ↦
+      let rest = n - t.capacity in
+      let later = position_is (at + table_words t) (row + t.capacity) (nth + 1) ts rest in
+      let table_is : nth + 1 + table_of ts rest ≡ nth + table_of (t ∷ ts) n
+      = omega arith ∙ ap (λ k. nth + k) (sym (if_not_less _ _ _ _ past)) in
+      let position_same : position_of ts rest ≡ position_of (t ∷ ts) n = sym (if_not_less _ _ _ _ past) in
+      if_not_less _ _ _ _ past
+      ∙ later
+      ∙ ap (λ k. if nat_lt rest (rows_in ts) then Some (k, position_of ts rest) else None) table_is
+      ∙ ap (λ k. if nat_lt rest (rows_in ts) then Some (nth + table_of (t ∷ ts) n, k) else None) position_same
+      ∙ ap (λ (b : Bool). if b then Some (nth + table_of (t ∷ ts) n, position_of (t ∷ ts) n) else None)
+      (less_both n t.capacity (rows_in ts) past)
 ]

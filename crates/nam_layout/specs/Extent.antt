@@ -1,5 +1,6 @@
 -- Where tables stand.
 use Rattle.std.specs.Prelude.{ℕ, ◌+◌, ◌-◌, ◌*◌, ◌/◌, ◌%◌, ◌^◌, ◌<◌, ◌≤◌, nat_lt, List, [], ◌∷◌, if◌then◌else◌}
+use Rattle.std.specs.Prelude.{Option, Some, None}
 use Rattle.nam_catalog.specs.declared.bounds.TheConstants.{MOST_WIDTH}
 use Rattle.nam_catalog.specs.declared.form.Form.{Form}
 use Rattle.nam_catalog.specs.declared.shape.Table.{Table}
@@ -61,3 +62,9 @@ place_in e position form =
       ring = e.ring;
       form = form;
     }
+
+-- the extent that has a row, where the first of these has this number, and the row's position there
+abbrev pub position_in : ℕ → List Extent → ℕ → Option (ℕ × ℕ)
+position_in table [] row = None
+position_in table (e ∷ es) row =
+    if nat_lt row e.capacity then Some (table, row) else position_in (table + 1) es (row - e.capacity)

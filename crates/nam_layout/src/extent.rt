@@ -3,7 +3,7 @@
 ghost use Rattle.std.specs.Prelude.{◌≡◌, ◌+◌, ◌*◌, ◌≤◌, ◌^◌, ◌<◌, length, All};
 ghost use Rattle.nam_catalog.specs.Words.{tables_words};
 ghost use Rattle.nam_catalog.specs.Fits.{FitsTable};
-ghost use Rattle.nam_layout.specs.Extent.{extents_of, IsIn, field_in_extents, place_in};
+ghost use Rattle.nam_layout.specs.Extent.{extents_of, IsIn, field_in_extents, place_in, position_in};
 
 use crate::field::{Field, Place};
 use crate::within::field_in_position;
@@ -90,4 +90,21 @@ pub fn field_in(extents: &[Extent], address: u64) -> Field
         }
     }
     unreachable!()
+}
+
+/// The extent that has a row, and the row's position there, and none where no extent has it.
+pub fn position_in(extents: &[Extent], row: u64) -> Option<(u32, u32)>
+    requires { length extents.now ≤ MOST_TABLES }
+    ensures { result ≡ position_in 0 extents.now row }
+{
+    let mut table: u32 = 0;
+    let mut position = row;
+    for extent in extents {
+        if position < extent.capacity as u64 {
+            return Some((table, position as u32));
+        }
+        table += 1;
+        position -= extent.capacity as u64;
+    }
+    None
 }

@@ -1,6 +1,7 @@
 //! Layouts.
 
-ghost use Rattle.std.specs.Prelude.{◌≡◌, ◌+◌, ◌≤◌, ◌<◌, length, slice_index, None};
+ghost use Rattle.std.specs.Prelude.{◌≡◌, ◌+◌, ◌≤◌, ◌<◌, length, slice_index, nat_lt, Some, None, IfSome};
+ghost use Rattle.std.specs.Prelude.{if◌then◌else◌};
 ghost use Rattle.nam_catalog.specs.declared.form.Form.TheVariants.{Held};
 ghost use Rattle.nam_catalog.specs.Tables.{capacities_of};
 ghost use Rattle.nam_catalog.specs.Words.{words_of};
@@ -10,11 +11,12 @@ ghost use Rattle.nam_layout.specs.declared.field.Field.TheVariants.{Entry, Horiz
 ghost use Rattle.nam_layout.specs.RowLaw.{IsPosition};
 ghost use Rattle.nam_layout.specs.Address.{IsWorker, address};
 ghost use Rattle.nam_layout.specs.FieldAt.{field_at};
-ghost use Rattle.nam_layout.specs.Place.{place_of, cells_of, bucket_of};
+ghost use Rattle.nam_layout.specs.Place.{place_at, place_of, cells_of, bucket_of};
+ghost use Rattle.nam_layout.specs.Rows.{rows_in};
 ghost use Rattle.nam_layout.specs.PlaceFits.{FitsPlace, FitsCells};
 
 use crate::address::horizon_at;
-use crate::extent::{Extent, Extents, field_in, lay_out, place_in};
+use crate::extent::{Extent, Extents, field_in, lay_out, place_in, position_in};
 use crate::field::{Cells, Field, Place};
 use crate::within::{field_in_cells, field_in_intents};
 use lists::ShortList;
@@ -131,6 +133,17 @@ impl Layout {
         ensures fits { FitsPlace result }
     {
         place_in(self.extents.at(table as usize), position, self.shape.form)
+    }
+
+    /// The place of a row, which is within the limits of places, and none where the word is no row.
+    pub fn place_of_row(&self, row: u64) -> Option<Place>
+        ensures value { result ≡ (if nat_lt row (rows_in self.now.tables) then Some (place_at self.now row) else None) }
+        ensures fits { IfSome result FitsPlace }
+    {
+        match position_in(self.extents.as_slice(), row) {
+            Some((table, position)) => Some(self.place(table, position)),
+            None => None,
+        }
     }
 
     /// The cells of a bucket, which are within the limits of cells.

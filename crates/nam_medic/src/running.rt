@@ -1,13 +1,13 @@
 //! The medic as a machine.
 
-ghost use Rattle.std.specs.Prelude.{◌≡◌, ◌<◌, ◌≤◌, IsSome, IfSome, None};
-ghost use Rattle.nam_verbs.specs.Verb.{address_of};
-ghost use Rattle.nam_verbs.specs.Now.{end_now};
+ghost use Rattle.std.specs.Prelude.{◌≡◌, ◌<◌, IsSome};
+ghost use Rattle.nam_verbs.specs.Now.{end_now, FitsNow};
 ghost use Rattle.nam_verbs.specs.declared.now.Now.TheVariants.{At};
-ghost use Rattle.nam_verbs.specs.Running.{after_found, verbs_left};
+ghost use Rattle.nam_verbs.specs.Running.{after_found};
 ghost use Rattle.nam_catalog.specs.declared.form.Form.TheVariants.{Held};
 ghost use Rattle.nam_layout.specs.Address.{IsWorker};
 ghost use Rattle.nam_calls.specs.Medic.{medic_begin};
+ghost use Rattle.nam_calls.specs.MedicFits.{MedicFits};
 ghost use Rattle.nam_calls.specs.MedicLeft.{medic_most};
 ghost use Rattle.nam_medic.specs.Medic.{running, Serves};
 
@@ -39,6 +39,30 @@ impl Model for Medic {
     ghost view = { λ a. record { worker = a.worker; state = a.state; verb = a.verb; left = a.left } };
 }
 
+// The medic where it stands.
+fn standing(layout: &Layout, worker: u32, state: Now<MedicPoint, Finish>) -> Medic
+    requires form { layout.now.form ≡ Held }
+    requires worker { IsWorker layout.now worker }
+    requires fits { FitsNow (MedicFits layout.now) state }
+    ensures worker { result.worker ≡ worker }
+    ensures state { result.state ≡ state }
+    ensures serves { Serves layout.now result }
+{
+    let (verb, left) = match &state {
+        Now::At(at) => (
+            Some(medic_verb(layout, worker, at)),
+            medic_left(layout, at),
+        ),
+        Now::Over(_) => (None, 0),
+    };
+    Medic {
+        worker,
+        state,
+        verb,
+        left,
+    }
+}
+
 impl Medic {
     /// The medic of a worker of a store that has intents. Its verbs to come are no more than its greatest number.
     pub fn new(layout: &Layout, worker: u32) -> Medic
@@ -49,15 +73,7 @@ impl Medic {
         ensures left { result.left ≡ medic_most }
         ensures serves { Serves layout.now result }
     {
-        let begin = medic_begin();
-        let verb = Some(medic_verb(layout, worker, &begin));
-        let left = medic_left(layout, &begin);
-        Medic {
-            worker,
-            state: Now::At(begin),
-            verb,
-            left,
-        }
+        standing(layout, worker, Now::At(medic_begin()))
     }
 
     /// The verb that stands, and none exactly where the medic has ended.
@@ -76,20 +92,13 @@ impl Medic {
         ensures worker { self.new.worker ≡ self.old.worker }
         ensures serves { Serves layout.now self.new }
     {
-        self.state = match replace(&mut self.state, Now::Over(Finish::Clean)) {
+        // A layout's total says that the shape is within its limits.
+        let _words = layout.total();
+        let state = match replace(&mut self.state, Now::Over(Finish::Clean)) {
             Now::At(at) => medic_after(layout, self.worker, at, found),
             Now::Over(end) => Now::Over(end),
         };
-        match &self.state {
-            Now::At(at) => {
-                self.verb = Some(medic_verb(layout, self.worker, at));
-                self.left = medic_left(layout, at);
-            }
-            Now::Over(_) => {
-                self.verb = None;
-                self.left = 0;
-            }
-        }
+        *self = standing(layout, self.worker, state);
     }
 
     /// A number of verbs that are to come at the most. Each word that is taken lowers it.

@@ -14,7 +14,7 @@ ghost use Rattle.nam_calls.specs.Record.{install_verb};
 ghost use Rattle.nam_calls.specs.Ring.{copy_verb};
 ghost use Rattle.nam_calls.specs.Fits.{WordsEnd, CopyFits, InstallFits};
 ghost use Rattle.nam_calls.specs.MedicFits.{NextFits, MedicFits};
-ghost use Rattle.nam_calls.specs.Medic.{without_lock, commit_stamp, next_header, medic_begin, free_verb, medic_verb};
+ghost use Rattle.nam_calls.specs.Medic.{without_lock, commit_stamp, next_header, medic_begin, medic_verb};
 ghost use Rattle.nam_verbs.specs.declared.verb.Verb.TheVariants.{Read, Write};
 ghost use Rattle.nam_layout.specs.declared.field.Field.TheVariants.{Header, SlotHeader};
 ghost use Rattle.nam_layout.specs.Place.{slot_of};
@@ -74,9 +74,9 @@ fn slot_read(layout: &Layout, next: &NextVersion) -> Verb
 }
 
 // A header is written back without lock.
-fn free_verb(layout: &Layout, row: u32, header: u64) -> Verb
+fn free_write(layout: &Layout, row: u32, header: u64) -> Verb
     requires { IsRow layout.now row }
-    ensures { result ≡ verb_by (address layout.now) (free_verb layout.now row header) }
+    ensures { result ≡ Write (address layout.now (Header row)) (without_lock layout.now.form header) }
 {
     Verb::Write {
         at: place_at(layout, row).header_at,
@@ -85,7 +85,7 @@ fn free_verb(layout: &Layout, row: u32, header: u64) -> Verb
 }
 
 // The state is written that says there is no intent.
-fn clear_verb(layout: &Layout, worker: u32) -> Verb
+fn clear_write(layout: &Layout, worker: u32) -> Verb
     requires form { layout.now.form ≡ Held }
     requires worker { IsWorker layout.now worker }
     ensures { result ≡ Write (address layout.now (state_field worker)) no_intent }
@@ -139,8 +139,7 @@ fn installed_verb(
     install_verb(&place, &next.value, next.count, header, at)
 }
 
-/// The verb that stands at a point. Where words of an intent follow each other, a record's are its row, its kind, its
-/// count and its data words.
+/// The verb that stands at a point.
 pub fn medic_verb(layout: &Layout, worker: u32, at: &MedicPoint) -> Verb
     requires form { layout.now.form ≡ Held }
     requires worker { IsWorker layout.now worker }
@@ -148,7 +147,18 @@ pub fn medic_verb(layout: &Layout, worker: u32, at: &MedicPoint) -> Verb
     ensures value { result ≡ verb_by (address layout.now) (medic_verb layout.now worker at.now) }
     ensures within { address_of result < words_of layout.now }
 {
+    // A layout's total says that the shape is within its limits: each field has an address below it.
     let _words = layout.total();
+    verb_at(layout, worker, at)
+}
+
+// The same, without saying where it stands. The words of a listed record are its row, its kind, its count and its data.
+fn verb_at(layout: &Layout, worker: u32, at: &MedicPoint) -> Verb
+    requires form { layout.now.form ≡ Held }
+    requires worker { IsWorker layout.now worker }
+    requires at { MedicFits layout.now at.now }
+    ensures { result ≡ verb_by (address layout.now) (medic_verb layout.now worker at.now) }
+{
     match at {
         MedicPoint::MedicState => intent_read(layout, worker, 0),
         MedicPoint::UndoRow { nth, .. } => intent_read(layout, worker, record_from(*nth)),
@@ -156,9 +166,9 @@ pub fn medic_verb(layout: &Layout, worker: u32, at: &MedicPoint) -> Verb
             header_read(layout, *row)
         }
         MedicPoint::UndoBack { row, header, .. } | MedicPoint::GuardBack { row, header, .. } => {
-            free_verb(layout, *row, *header)
+            free_write(layout, *row, *header)
         }
-        MedicPoint::UndoClear | MedicPoint::RollClear => clear_verb(layout, worker),
+        MedicPoint::UndoClear | MedicPoint::RollClear => clear_write(layout, worker),
         MedicPoint::RollNumber { .. } => intent_read(layout, worker, 1),
         MedicPoint::RollRow { walk } => intent_read(layout, worker, record_from(walk.nth)),
         MedicPoint::RollKind { walk, .. } => intent_read(layout, worker, record_from(walk.nth) + 1),

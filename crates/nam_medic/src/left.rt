@@ -66,7 +66,10 @@ pub fn medic_left(layout: &Layout, at: &MedicPoint) -> u64
             walk_left(walk) + 3 * place_at(layout, next.row).width as u64 + 6
         }
         MedicPoint::RollOld {
-            walk, next, got, ..
+            walk,
+            next,
+            got,
+            ..
         } => {
             let place = place_at(layout, next.row);
             walk_left(walk) + words_left(&place, got) + 2 * place.width as u64 + 5

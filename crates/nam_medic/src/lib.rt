@@ -10,6 +10,8 @@
 mod after;
 mod left;
 mod running;
+#[cfg(test)]
+mod tests;
 mod verb;
 mod words;
 

@@ -49,10 +49,7 @@ fn standing(layout: &Layout, worker: u32, state: Now<MedicPoint, Finish>) -> Med
     ensures serves { Serves layout.now result }
 {
     let (verb, left) = match &state {
-        Now::At(at) => (
-            Some(medic_verb(layout, worker, at)),
-            medic_left(layout, at),
-        ),
+        Now::At(at) => (Some(medic_verb(layout, worker, at)), medic_left(layout, at)),
         Now::Over(_) => (None, 0),
     };
     Medic {

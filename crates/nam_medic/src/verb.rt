@@ -177,11 +177,7 @@ fn verb_at(layout: &Layout, worker: u32, at: &MedicPoint) -> Verb
         }
         MedicPoint::RollData { walk, row, got, .. } => {
             let _place = place_at(layout, *row);
-            intent_read(
-                layout,
-                worker,
-                record_from(walk.nth) + 3 + got.len() as u32,
-            )
+            intent_read(layout, worker, record_from(walk.nth) + 3 + got.len() as u32)
         }
         MedicPoint::RollHead { next, .. } => header_read(layout, next.row),
         MedicPoint::RollSlot { next, .. } => slot_read(layout, next),

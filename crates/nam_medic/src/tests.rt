@@ -4,7 +4,7 @@ ghost use Rattle.nam_medic.specs.Medic.{Serves};
 
 use crate::Medic;
 use nam_catalog::{Form, Shape, check};
-use nam_header::with_lock;
+use nam_header::{with_lock, with_moved};
 use nam_layout::Layout;
 use nam_trial::{PlainStore, plain_shape, read, write};
 use nam_verbs::Verb;
@@ -170,7 +170,7 @@ fn a_decided_commit_is_rolled_on(rt: HostRuntime) -> Result<(), AllocError> {
         (18, locked(3, 2)),
         (20, 61),
         (21, 62),
-        (22, old(2) + 4),
+        (22, with_moved(old(2))),
         (5, locked(1, 2)),
     ];
     let expected = [

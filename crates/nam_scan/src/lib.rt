@@ -1,0 +1,10 @@
+//! A scan of a table's positions for the keys of a range, and the read at a position under a snapshot.
+//!
+//! The read goes by eight steps, as functions on its points: the current version, the ring where that was locked, the
+//! header once more, the ring, the cells, and the horizon.
+#![tactic(auto)]
+
+mod reading;
+
+pub use nam_calls::{ReadPoint, ReadingEnd, Sight};
+pub use reading::{read_after, read_begin, read_left, read_verb, sight_of};

@@ -4,7 +4,14 @@
 //! header once more, the ring, the cells, and the horizon.
 #![tactic(auto)]
 
+mod points;
+mod range;
 mod reading;
+mod scan;
 
 pub use nam_calls::{ReadPoint, ReadingEnd, Sight};
+pub use nam_protocol::{ScanAnswer, ScanPoint};
+pub use points::{scan_after, scan_begin, scan_left, scan_read, scan_skip, scan_verb};
+pub use range::ScanRange;
 pub use reading::{read_after, read_begin, read_left, read_verb, sight_of};
+pub use scan::Scan;

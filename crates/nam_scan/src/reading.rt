@@ -171,7 +171,8 @@ pub fn read_after(
     }
 }
 
-fn ring_whole(place: &Place) -> u64
+// A whole search of the ring.
+pub(crate) fn ring_whole(place: &Place) -> u64
     requires { FitsPlace place.now }
     ensures value { result ≡ place.now.ring * (place.now.width + 3) }
     ensures few { result < 1024 }
@@ -179,7 +180,8 @@ fn ring_whole(place: &Place) -> u64
     place.ring as u64 * (place.width as u64 + 3)
 }
 
-fn cells_whole(sight: &Sight) -> u64
+// A whole search of the cells.
+pub(crate) fn cells_whole(sight: &Sight) -> u64
     requires { SightFits sight.now }
     ensures value { result ≡ cells_whole sight.now }
     ensures few { result < 1024 }

@@ -8,6 +8,8 @@ mod points;
 mod range;
 mod reading;
 mod scan;
+#[cfg(test)]
+mod tests;
 
 pub use nam_calls::{ReadPoint, ReadingEnd, Sight};
 pub use nam_protocol::{ScanAnswer, ScanPoint};

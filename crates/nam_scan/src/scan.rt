@@ -187,9 +187,11 @@ impl Scan {
         ensures of { IsScanOf layout.now self.new }
     {
         let position = position_after(self.position, &now);
-        let workers = self.seen.len() as u32;
-        self.sight = sight_of(layout, workers, self.range.table, position);
-        self.position = position;
+        if position != self.position {
+            let workers = self.seen.len() as u32;
+            self.sight = sight_of(layout, workers, self.range.table, position);
+            self.position = position;
+        }
         self.state = now;
     }
 }

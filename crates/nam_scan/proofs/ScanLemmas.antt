@@ -111,8 +111,8 @@ module _ (shape : Shape) (a : Scanning) (of : IsScanOf shape a) (fits : Scanning
   reached at verb stands is =
       let fits = point_fits at stands in
       let there = is
-          ∙ ap (λ (sight : Sight). verb_by (sight_address sight) (scan_verb shape a.range.table at)) (sight_at at stands)
-          ∙ verb_is shape of.limits a.range.table of.table_is at fits in
+      ∙ ap (λ (sight : Sight). verb_by (sight_address sight) (scan_verb shape a.range.table at)) (sight_at at stands)
+      ∙ verb_is shape of.limits a.range.table of.table_is at fits in
       rw there (verb_within shape of.limits a.range.table of.table_is at fits)
 
   -- what follows a word fits, with fewer verbs to come

@@ -4,6 +4,7 @@
 //! header once more, the ring, the cells, and the horizon.
 #![tactic(auto)]
 
+mod laws;
 mod points;
 mod range;
 mod reading;
@@ -11,6 +12,7 @@ mod scan;
 #[cfg(test)]
 mod tests;
 
+pub use laws::answer_law;
 pub use nam_calls::{ReadPoint, ReadingEnd, Sight};
 pub use nam_protocol::{ScanAnswer, ScanPoint};
 pub use points::{scan_after, scan_begin, scan_left, scan_read, scan_skip, scan_verb};

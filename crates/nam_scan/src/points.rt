@@ -87,11 +87,13 @@ fn on_scan_read(
     match now {
         Now::At(at) => Now::At(ScanPoint::ScanRead { position, key, at }),
         Now::Over(ReadingEnd::Got(value)) => Now::Over(ScanAnswer::Row(Item { table, key, value })),
-        Now::Over(ReadingEnd::Passed {
-            worker,
-            entry,
-            horizon,
-        }) => Now::Over(ScanAnswer::TooOld {
+        Now::Over(
+            ReadingEnd::Passed {
+                worker,
+                entry,
+                horizon,
+            },
+        ) => Now::Over(ScanAnswer::TooOld {
             worker,
             entry,
             horizon,
@@ -124,7 +126,12 @@ pub fn scan_after(
             }
         }
         ScanPoint::ScanRead { position, key, at } => {
-            on_scan_read(range.table, position, key, read_after(sight, seen, at, found))
+            on_scan_read(
+                range.table,
+                position,
+                key,
+                read_after(sight, seen, at, found),
+            )
         }
     }
 }

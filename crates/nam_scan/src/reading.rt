@@ -58,7 +58,10 @@ pub fn read_verb(sight: &Sight, at: &ReadPoint) -> Verb
 {
     match at {
         ReadPoint::ReadCurrent { at } => current_verb(&sight.place, at),
-        ReadPoint::ReadUnsure { at, .. } | ReadPoint::ReadRing { at } => ring_verb(&sight.place, at),
+        ReadPoint::ReadUnsure { at, .. } | ReadPoint::ReadRing { at } => ring_verb(
+            &sight.place,
+            at,
+        ),
         ReadPoint::ReadRecheck { .. } => recheck_verb(&sight.place),
         ReadPoint::ReadCells { at } => cell_verb(&sight.cells, &sight.place, at),
         ReadPoint::ReadHorizon { worker } => old_verb(sight.workers, *worker),
@@ -123,11 +126,13 @@ fn on_horizon(now: Now<u32, OldEnd>) -> Now<ReadPoint, ReadingEnd>
 {
     match now {
         Now::At(worker) => Now::At(ReadPoint::ReadHorizon { worker }),
-        Now::Over(OldEnd::TooOld {
-            worker,
-            entry,
-            horizon,
-        }) => Now::Over(ReadingEnd::Passed {
+        Now::Over(
+            OldEnd::TooOld {
+                worker,
+                entry,
+                horizon,
+            },
+        ) => Now::Over(ReadingEnd::Passed {
             worker,
             entry,
             horizon,
@@ -200,7 +205,12 @@ pub fn read_left(sight: &Sight, at: &ReadPoint) -> u64
     let ring = ring_whole(place);
     let cells = cells_whole(sight);
     match at {
-        ReadPoint::ReadCurrent { at } => current_left(place, at) + ring + 1 + ring + cells + workers,
+        ReadPoint::ReadCurrent { at } => current_left(place, at)
+            + ring
+            + 1
+            + ring
+            + cells
+            + workers,
         ReadPoint::ReadUnsure { at, .. } => ring_left(place, at) + 1 + ring + cells + workers,
         ReadPoint::ReadRecheck { .. } => 1 + ring + cells + workers,
         ReadPoint::ReadRing { at } => ring_left(place, at) + cells + workers,

@@ -49,7 +49,8 @@ fn position_after(position: u32, now: &Now<ScanPoint, ScanAnswer>) -> u32
     ensures { result ≡ position_after position now.now }
 {
     match now {
-        Now::At(ScanPoint::ScanKey { position } | ScanPoint::ScanRead { position, .. }) => *position,
+        Now::At(ScanPoint::ScanKey { position } | ScanPoint::ScanRead { position, .. }) =>
+            *position,
         Now::Over(_) => position,
     }
 }

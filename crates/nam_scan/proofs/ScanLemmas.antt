@@ -1,5 +1,5 @@
 -- A scan that is of a table of the shape: where its verbs are, and how many are to come.
-use Rattle.std.proofs.Common.{◌≡◌, ℕ, ◌+◌, ◌-◌, ◌*◌, ◌<◌, refl, sym, ◌∙◌, ap, subst, arith}
+use Rattle.std.proofs.Common.{◌≡◌, ℕ, ◌+◌, ◌-◌, ◌*◌, ◌<◌, refl, sym, ◌∙◌, ap, arith}
 use Rattle.nam_verbs.specs.VerbAt.{VerbAt, ReadAt, WriteAt, ExchangeAt, target, verb_by}
 use Rattle.nam_verbs.specs.declared.verb.Verb.{Verb}
 use Rattle.nam_verbs.specs.declared.now.Now.{Now}
@@ -13,7 +13,7 @@ use Rattle.nam_catalog.specs.Words.{words_of}
 use Rattle.nam_layout.specs.declared.field.Field.{Field}
 use Rattle.nam_layout.specs.Rows.{row_of}
 use Rattle.nam_layout.specs.Address.{address}
-use Rattle.nam_layout.specs.Place.{place_of, bucket_of}
+use Rattle.nam_layout.specs.Place.{bucket_of}
 use Rattle.nam_layout.proofs.PlaceLemmas.{known_stands}
 use Rattle.nam_calls.specs.declared.reading.Sight.{Sight}
 use Rattle.nam_calls.specs.declared.reading.ReadPoint.{ReadPoint}
@@ -30,7 +30,7 @@ use Rattle.nam_protocol.specs.TxnFits.{ScanFits}
 use Rattle.nam_protocol.proofs.FallsScan.{scan_falls}
 use Rattle.nam_protocol.proofs.FieldLemmas.{scan_at, reached_within}
 use Rattle.nam_scan.specs.Reading.{sight_address}
-use Rattle.nam_scan.specs.Scan.{ReadsIn, position_whole, Scanning, StandsAt, ScanningFits, IsScanOf}
+use Rattle.nam_scan.specs.Scan.{position_whole, Scanning, StandsAt, ScanningFits, IsScanOf}
 
 -- a verb is the same where its word has the same address
 same_verb : (verb : VerbAt Field) (f g : Field → ℕ) → f (target verb) ≡ g (target verb) → verb_by f verb ≡ verb_by g verb

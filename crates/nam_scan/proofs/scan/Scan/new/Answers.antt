@@ -1,4 +1,4 @@
-use Rattle.std.proofs.Common.{refl, ap, ◌∙◌, subst}
+use Rattle.std.proofs.Common.{refl}
 use Rattle.nam_calls.proofs.FallsTables.{has_capacity}
 use Rattle.nam_scan.proofs.scan.Scan.new.Goals as goal
 

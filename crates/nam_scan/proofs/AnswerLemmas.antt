@@ -26,7 +26,8 @@ next capacity position = if position + 1 == capacity then Over Done else At (Sca
 abbrev after : Bool → ℕ → ℕ → ℕ → Now ScanPoint ScanAnswer
 after within found capacity position = if within then Over (Key (found - 1)) else next capacity position
 
-no_key : (test : Bool) (position key : ℕ) → (if test then Over Done else At (ScanKey (position + 1))) ≡ Over (Key key) → ⊥
+no_key : (test : Bool) (position key : ℕ)
+    → (if test then Over Done else At (ScanKey (position + 1))) ≡ Over (Key key) → ⊥
 no_key true position key same = absurd (cc)
 no_key false position key same = absurd (cc)
 

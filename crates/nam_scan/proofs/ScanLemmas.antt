@@ -33,7 +33,8 @@ use Rattle.nam_scan.specs.Reading.{sight_address}
 use Rattle.nam_scan.specs.Scan.{position_whole, Scanning, StandsAt, ScanningFits, IsScanOf}
 
 -- a verb is the same where its word has the same address
-same_verb : (verb : VerbAt Field) (f g : Field → ℕ) → f (target verb) ≡ g (target verb) → verb_by f verb ≡ verb_by g verb
+same_verb : (verb : VerbAt Field) (f g : Field → ℕ) → f (target verb) ≡ g (target verb)
+    → verb_by f verb ≡ verb_by g verb
 same_verb (ReadAt at) f g same = rw same refl
 same_verb (WriteAt at word) f g same = rw same refl
 same_verb (ExchangeAt at expect word) f g same = rw same refl

@@ -1,7 +1,9 @@
 //! A scan of a table's positions for the keys of a range, and the read at a position under a snapshot.
 //!
 //! The read goes by eight steps, as functions on its points: the current version, the ring where that was locked, the
-//! header once more, the ring, the cells, and the horizon.
+//! header once more, the ring, the cells, and the horizon. `Scan` goes over the positions one after another; at a key
+//! of the range its caller reads there or leaves the position. What stands in `nam_calls` and `nam_protocol` as
+//! definitions stands here in code, and `answer_law` says where a scan answers. No call takes memory.
 #![tactic(auto)]
 
 mod laws;

@@ -28,8 +28,8 @@ fn laid_out() -> Option<Layout>
     Some(layout)
 }
 
-// Four positions of one word, whose key words stand at 4, 11, 18 and 25. The third is free, and the others bear the keys
-// 8, 1 and 3.
+// Four positions of one word, whose key words stand at 4, 11, 18 and 25. The third is free, and the others bear the
+// keys 8, 1 and 3.
 fn opened(alloc: Global) -> Result<Option<PlainStore>, AllocError> {
     let Some(mut store) = PlainStore::new(alloc, plain_shape(1, 4, 1, 1))? else {
         return Ok(None);

@@ -12,5 +12,5 @@ pub returns-in-ScanRead : goal.returns-in-ScanRead
 returns-in-ScanRead c = λ shape table limits is same sees.
     let here = c.in-ScanRead.is in
     rw here
-    (read_at_left shape limits table is _ _ c.in-ScanRead.key _ _ _ _ c.read_left.ensures c.position_whole-whole.ensures.value same
-    (rw here at c.requires.position) (rw here at sees))
+    (read_at_left shape limits table is _ _ c.in-ScanRead.key _ _ _ _ c.read_left.ensures
+    c.position_whole-whole.ensures.value same (rw here at c.requires.position) (rw here at sees))

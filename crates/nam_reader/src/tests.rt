@@ -47,7 +47,8 @@ fn reads(
     ensures { reader.new.sight ≡ reader.old.sight }
 {
     for address in expected {
-        if reader.verb() != Some(read(*address)) {
+        let verb = reader.verb()?;
+        if verb != read(*address) {
             return None;
         }
         let found = store.word(*address);

@@ -1,2 +1,5 @@
 pub mod CopyLemmas
 pub mod LoadLemmas
+pub mod SortLemmas
+pub mod ReadLemmas
+pub mod AuditLemmas

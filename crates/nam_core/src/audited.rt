@@ -1,9 +1,8 @@
 //! What is left in the words of a store.
 
-ghost use Rattle.std.specs.Prelude.{◌≡◌, ◌<◌, ◌≤◌, ℕ, List, length, take, IfOk};
+ghost use Rattle.std.specs.Prelude.{◌≡◌, ◌<◌, ◌≤◌, ◌++◌, length, take, IfOk, OnOk};
 ghost use Rattle.std.specs.Option.{option_to_list};
 ghost use Rattle.nam_verbs.specs.Verb.{address_of, found_by};
-ghost use Rattle.nam_catalog.specs.declared.bounds.TheConstants.{MOST_WORKERS};
 ghost use Rattle.nam_catalog.specs.Words.{words_of};
 ghost use Rattle.nam_layout.specs.Rows.{row_of};
 ghost use Rattle.nam_layout.specs.RowLaw.{IsPosition};
@@ -13,6 +12,7 @@ ghost use Rattle.nam_core.specs.Audit.{value_in};
 
 use lists::List;
 use nam_catalog::Shape;
+use nam_catalog::bounds::MOST_WORKERS;
 use nam_header::is_locked;
 use nam_layout::Layout;
 use nam_reader::{Reader, ReaderEnd};
@@ -113,6 +113,16 @@ fn audit_row(
     })
 }
 
+// Appends the row, if there is one.
+fn push_some(rows: &mut Vec<AuditRow>, row: Option<AuditRow>) -> Result<(), AllocError>
+    ensures { OnOk result (rows.new.items ≡ rows.old.items ++ option_to_list row) }
+{
+    if let Some(row) = row {
+        rows.push(row)?;
+    }
+    Ok(())
+}
+
 // The rows of a table in order of keys. Of positions that bear one key, which are in no world, the last comes first.
 fn table_rows(
     alloc: Global,
@@ -131,9 +141,8 @@ fn table_rows(
     let mut rows = Vec::new(alloc);
     for passed in 0..capacity {
         let position = capacity - 1 - passed;
-        if let Some(row) = audit_row(reader, layout, seen, words, table, position) {
-            rows.push(row)?;
-        }
+        let row = audit_row(reader, layout, seen, words, table, position);
+        push_some(&mut rows, row)?;
     }
     rows.sort_by_key(|row| row.key)?;
     Ok(List::from_vec(rows))

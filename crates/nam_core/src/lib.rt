@@ -6,6 +6,7 @@
 #![tactic(auto)]
 
 
+mod audited;
 mod blank;
 mod load;
 mod make_error;
@@ -13,6 +14,7 @@ mod opened;
 mod turn;
 
 
+pub use audited::audit;
 pub use make_error::MakeError;
 pub use opened::opening;
 pub use turn::Turn;

@@ -1,7 +1,7 @@
 -- Where a row is loaded.
 use Rattle.std.proofs.Common.{◌≡◌, ◌≢◌, ℕ, zero, suc, ◌+◌, ◌-◌, ◌<◌, ◌≤◌, ◌%◌, Bool, true, false, List, length, refl}
 use Rattle.std.proofs.Common.{sym, ◌∙◌, ap, subst, arith}
-use Rattle.std.specs.Prelude.{◌==◌, slice_index}
+use Rattle.std.specs.Prelude.{slice_index}
 use Rattle.std.proofs.Math.Nat.{mod-eq_of_lt, mod_self, suc-mod}
 use Rattle.std.proofs.lemmas.Bool.{eq-eqb, ne_eqb}
 use Rattle.std.proofs.lemmas.Nat.{mod_below}
@@ -12,14 +12,13 @@ use Rattle.nam_catalog.specs.Fits.{FitsLimits}
 use Rattle.nam_layout.specs.declared.field.Place.{Place}
 use Rattle.nam_layout.specs.declared.field.Field.TheVariants.{Key, Word}
 use Rattle.nam_layout.specs.Rows.{row_of}
-use Rattle.nam_layout.specs.Address.{address, position_at}
+use Rattle.nam_layout.specs.Address.{position_at}
 use Rattle.nam_layout.specs.Place.{place_of}
 use Rattle.nam_layout.proofs.AddressLemmas.{found_there}
 use Rattle.nam_calls.specs.declared.index.Path.{Path}
-use Rattle.nam_calls.specs.Words.{capacity_of, width_of, on_path, path_of}
+use Rattle.nam_calls.specs.Words.{capacity_of, on_path, path_of}
 use Rattle.nam_calls.specs.Index.{nth_position, nth_key}
 use Rattle.nam_calls.specs.Memory.{memory}
-use Rattle.nam_calls.specs.Fits.{IsTableOf}
 use Rattle.nam_calls.proofs.FallsTables.{width_is, place_fits}
 use Rattle.nam_calls.proofs.FieldLemmas.{row_after, row_within}
 use Rattle.nam_protocol.specs.Opening.{with_row, load_from}

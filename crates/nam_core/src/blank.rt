@@ -77,7 +77,15 @@ pub(crate) fn blank_words(
     let mut words = Vec::with_capacity(alloc, layout.total() as usize)?;
     push_times(&mut words, 2 * shape.workers, shape.start)?;
     push_tables(alloc, &mut words, shape.tables.as_slice())?;
-    push_times(&mut words, shape.buckets * shape.cells * CELL_WORDS as u32, 0)?;
-    push_times(&mut words, shape.workers * intent_words(shape.form) as u32, 0)?;
+    push_times(
+        &mut words,
+        shape.buckets * shape.cells * CELL_WORDS as u32,
+        0,
+    )?;
+    push_times(
+        &mut words,
+        shape.workers * intent_words(shape.form) as u32,
+        0,
+    )?;
     Ok(words)
 }

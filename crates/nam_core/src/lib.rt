@@ -5,14 +5,12 @@
 //! `nam_protocol`. Where memory is refused, nothing is given.
 #![tactic(auto)]
 
-
 mod audited;
 mod blank;
 mod load;
 mod make_error;
 mod opened;
 mod turn;
-
 
 pub use audited::audit;
 pub use make_error::MakeError;

@@ -1,4 +1,4 @@
-use Rattle.std.proofs.Common.{◌≡◌, ◌++◌, ◌+◌, ◌<◌, List, length, drop, sym, ap, ◌∙◌, arith, append_assoc}
+use Rattle.std.proofs.Common.{◌++◌, ◌+◌, ◌<◌, List, length, drop, sym, ap, ◌∙◌, arith, append_assoc}
 use Rattle.si_model.specs.declared.report.AuditRow.{AuditRow}
 use Rattle.nam_catalog.specs.declared.shape.Shape.{Shape}
 use Rattle.nam_calls.specs.Words.{capacity_of}

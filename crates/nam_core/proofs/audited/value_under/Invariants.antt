@@ -8,7 +8,7 @@ use Rattle.nam_core.proofs.audited.value_under.Given as goal
 abbrev pub invariant-loop-verb : goal.invariant-loop-verb
 invariant-loop-verb l = record {
   sight : l.reader.sight ≡ sight_of l.layout l.table l.position;
-  goes : GoesOn l.layout l.table l.position l.words l.reader.state
+  goes : GoesOn l.layout l.table l.position l.words l.reader.state;
 }
 
 abbrev pub decreases-loop-verb : goal.decreases-loop-verb

@@ -1,4 +1,4 @@
-use Rattle.std.proofs.Common.{◌≡◌, ◌++◌, ◌+◌, ◌-◌, ap, sym, ◌∙◌}
+use Rattle.std.proofs.Common.{◌++◌, ◌+◌, ◌-◌, ap, sym, ◌∙◌}
 use Rattle.nam_protocol.specs.Opening.{copies}
 use Rattle.nam_core.proofs.CopyLemmas.{copies_next, copies_done}
 use Rattle.nam_core.proofs.blank.push_copies.Goals as goal

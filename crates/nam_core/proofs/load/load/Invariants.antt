@@ -10,5 +10,5 @@ invariant-loop l = let capacity = capacity_of l.layout l.row.table in record {
   rest :
       load_from l.layout l.row (capacity - l.counter) l.counter l.fn.words
       ≡ load_from l.layout l.row capacity 0 l.fn.words;
-  same : l.words ≡ l.fn.words
+  same : l.words ≡ l.fn.words;
 }

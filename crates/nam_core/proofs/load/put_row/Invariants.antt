@@ -9,5 +9,5 @@ invariant-loop-nth l = record {
   long : length l.words ≡ length l.fn.words;
   rest :
       (shape : Shape) (at : ℕ) → l.place ≡ place_at shape at
-      → with_value shape at l.nth (drop l.nth l.row.value) l.words ≡ with_row shape at l.row l.fn.words
+      → with_value shape at l.nth (drop l.nth l.row.value) l.words ≡ with_row shape at l.row l.fn.words;
 }

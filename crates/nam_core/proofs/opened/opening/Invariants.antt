@@ -6,5 +6,5 @@ use Rattle.nam_core.proofs.opened.opening.Given as goal
 abbrev pub invariant-loop-row : goal.invariant-loop-row
 invariant-loop-row l = record {
   long : length l.words.items ≡ words_of l.shape;
-  rest : with_rows l.shape (drop l.row-index l.rows) l.words.items ≡ opening_words l.shape l.rows
+  rest : with_rows l.shape (drop l.row-index l.rows) l.words.items ≡ opening_words l.shape l.rows;
 }

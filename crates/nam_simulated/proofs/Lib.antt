@@ -1,0 +1,7 @@
+pub mod LogGrows
+pub mod ItemsFit
+pub mod ClientSo
+pub mod AnswersKept
+pub mod ScanKept
+pub mod WordKept
+pub mod ClosedKept

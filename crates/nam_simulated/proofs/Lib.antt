@@ -5,3 +5,4 @@ pub mod AnswersKept
 pub mod ScanKept
 pub mod WordKept
 pub mod ClosedKept
+pub mod AuditLemmas

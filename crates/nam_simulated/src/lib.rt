@@ -6,4 +6,4 @@
 
 mod laws;
 
-pub use laws::logs_fit;
+pub use laws::{audits_fit, logs_fit};

@@ -6,3 +6,4 @@ pub mod ScanKept
 pub mod WordKept
 pub mod ClosedKept
 pub mod AuditLemmas
+pub mod WorldKept

@@ -1,2 +1,3 @@
 pub mod LogLaw
 pub mod AuditLaw
+pub mod RunLaw

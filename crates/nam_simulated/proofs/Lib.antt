@@ -7,3 +7,4 @@ pub mod WordKept
 pub mod ClosedKept
 pub mod AuditLemmas
 pub mod WorldKept
+pub mod ReportLemmas

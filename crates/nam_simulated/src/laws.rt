@@ -3,6 +3,7 @@
 ghost use Rattle.nam_simulated.specs.LogLaw.{SessionLogLaw};
 ghost use Rattle.nam_simulated.specs.AuditLaw.{AuditLaw};
 ghost use Rattle.nam_simulated.specs.RunLaw.{RunLaw, WorldLaw};
+ghost use Rattle.nam_simulated.specs.ReportLaw.{OneReportLaw, ReportFitsLaw, SimulatedFitsLaw};
 
 /// Each log of a session that occurs fits its shape, at each moment and however the session is closed.
 ///
@@ -28,4 +29,19 @@ pub fn worlds_fit()
 /// The same of each simulated run, after its schedule and any number of rounds, whatever the lines of its workers do.
 pub fn runs_fit()
     ensures { RunLaw }
+{}
+
+/// A report on what is left of a script's world fits the script, so that `report_text` of `nam_report` spells it: its
+/// history is any order of the entries of the commits that the logs publish, and its numbers fit their fields, which
+/// `numbers_fit` of `nam_report` tells of any report.
+///
+/// So does each report of a simulated run, under any order of a history that adds no commit and drops none.
+pub fn reports_fit()
+    ensures left { ReportFitsLaw }
+    ensures simulated { SimulatedFitsLaw }
+{}
+
+/// Each script within the limits has a report of a simulated run under any lines of its workers, and no other.
+pub fn one_report()
+    ensures { OneReportLaw }
 {}

@@ -6,4 +6,4 @@
 
 mod laws;
 
-pub use laws::{audits_fit, logs_fit, runs_fit, worlds_fit};
+pub use laws::{audits_fit, logs_fit, one_report, reports_fit, runs_fit, worlds_fit};

@@ -265,7 +265,8 @@ module _ (shape : Shape) (word : ℕ) (before after : ClientState) where
         txn_kept at before.txn end fits stands so told (is_open true end open_ e)
     answer_kept (Scanning table low high at) end other fits stands open_ so told e = absurd other
     answer_kept (Seeking table key passed) end other fits stands open_ so told e =
-        seek_kept table key passed end (open_before shape before.txn before.log open_ so) told (is_open false end open_ e)
+        seek_kept table key passed end (open_before shape before.txn before.log open_ so) told
+        (is_open false end open_ e)
     answer_kept (Moving table key position at) end other fits stands open_ so told e =
         move_kept table key position at end stands.0 (open_before shape before.txn before.log open_ so) told
         (is_open false end open_ e)

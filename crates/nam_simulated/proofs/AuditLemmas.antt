@@ -1,6 +1,6 @@
 -- The audit of any words fits their shape.
-use Rattle.std.proofs.Common.{◌≡◌, ℕ, zero, suc, ◌+◌, ◌<◌, ◌≤◌, List, [], ◌∷◌, length, subst, sym, ap, refl, ◌∙◌, arith}
-use Rattle.std.proofs.Common.{Option, Some, None}
+use Rattle.std.proofs.Common.{◌≡◌, ℕ, zero, suc, ◌+◌, ◌<◌, ◌≤◌, List, [], ◌∷◌, length, subst, ap, ◌∙◌, arith}
+use Rattle.std.proofs.Common.{Option}
 use Rattle.std.specs.Prelude.{nat_lt, slice_index, not, ◌==◌, ◌||◌}
 use Rattle.std.specs.List.{AllByRecursion}
 use Rattle.si_model.specs.declared.report.AuditRow.{AuditRow}
@@ -27,7 +27,8 @@ use Rattle.nam_calls.specs.declared.reading.ReadingEnd.TheVariants.{Got, Passed,
 use Rattle.nam_calls.specs.declared.reading.Sight.{Sight}
 use Rattle.nam_calls.proofs.FallsRead.{ReadFalls, read_falls}
 use Rattle.nam_calls.proofs.FallsTables.{sight_fits, width_is}
-use Rattle.nam_protocol.specs.Closed.{read_alone, inserted, inserted_all, audit_row, is_audited, table_rows, tables_rows}
+use Rattle.nam_protocol.specs.Closed.{read_alone, inserted, inserted_all, audit_row, is_audited, table_rows}
+use Rattle.nam_protocol.specs.Closed.{tables_rows}
 use Rattle.nam_protocol.specs.Closed.{value_under, vector}
 use Rattle.nam_report.specs.Fits.{AuditRowFits}
 use Rattle.nam_simulated.specs.AuditLaw.{AuditLaw}

@@ -6,16 +6,13 @@ use Rattle.nam_catalog.specs.Tables.{widths_of}
 use Rattle.nam_catalog.specs.declared.shape.Shape.{Shape}
 use Rattle.nam_layout.specs.Place.{bucket_of, place_of}
 use Rattle.nam_protocol.proofs.KeptSession.{reached_holds}
-use Rattle.nam_protocol.specs.ClientEvents.{listed}
 use Rattle.nam_protocol.specs.ClientFits.{CallPointFits, NowFits, OpenFits, OpenPointFits}
 use Rattle.nam_protocol.specs.CutClient.{closed_call, closed_client, cut_call, cut_in_txn, cut_move, cut_open, cut_tail}
 use Rattle.nam_protocol.specs.CutClient.{finish_of, finished_call, finished_in_txn, has_committed, left_open}
 use Rattle.nam_protocol.specs.Own.{IsOpenAt, IsOpenNow}
-use Rattle.nam_protocol.specs.ProgramCommit.{finish}
 use Rattle.nam_protocol.specs.Session.{session_log}
 use Rattle.nam_protocol.specs.Telling.{with_commit, with_end}
 use Rattle.nam_protocol.specs.TxnFits.{StateFits}
-use Rattle.nam_protocol.specs.World.{cut}
 use Rattle.nam_protocol.specs.declared.client.Answer.{Answer}
 use Rattle.nam_protocol.specs.declared.client.CallPoint.{CallPoint}
 use Rattle.nam_protocol.specs.declared.client.CallPoint.TheVariants.{Beginning, Collecting, InTxn, Moving, Scanning}
@@ -24,7 +21,6 @@ use Rattle.nam_protocol.specs.declared.client.ClientState.{ClientState}
 use Rattle.nam_protocol.specs.declared.client.Open.{Open}
 use Rattle.nam_protocol.specs.declared.txn.CommitPoint.{CommitPoint}
 use Rattle.nam_protocol.specs.declared.txn.CommitPoint.TheVariants.{Ending, Freeing}
-use Rattle.nam_protocol.specs.declared.txn.TxnCall.TheVariants.{Commit}
 use Rattle.nam_protocol.specs.declared.txn.TxnPoint.{TxnPoint}
 use Rattle.nam_protocol.specs.declared.txn.TxnPoint.TheVariants.{Claiming, Committing, Finding, Reading}
 use Rattle.nam_report.specs.Fits.{OutcomeFits}
@@ -33,7 +29,6 @@ use Rattle.nam_simulated.proofs.ItemsFit.{table_named}
 use Rattle.nam_simulated.proofs.LogGrows.{LogSo, commit_so, end_so, event_so, log_is_of}
 use Rattle.nam_simulated.proofs.WordKept.{Keeps, new_keeps}
 use Rattle.nam_simulated.specs.LogLaw.{SessionLogLaw}
-use Rattle.nam_text.specs.Spelling.{last}
 use Rattle.nam_verbs.specs.declared.now.Now.{Now}
 use Rattle.nam_verbs.specs.declared.now.Now.TheVariants.{At, Over}
 use Rattle.si_model.specs.declared.log.Event.TheVariants.{CollectCut, Collected, Finished, Moved, TailCut, TidyCut}
@@ -101,14 +96,15 @@ module _ (shape : Shape) (client : ClientState) where
   moves table key bucket None is so =
       event_so shape client.log (event.TidyCut table key) 0 0 0 so (table_named shape table is) refl
   moves table key bucket (Some stamp) is so =
-      event_so shape client.log (event.Moved bucket table key stamp moved.Cut) 0 0 0 so (table_named shape table is) refl
+      event_so shape client.log (event.Moved bucket table key stamp moved.Cut) 0 0 0 so (table_named shape table is)
+      refl
 
   stopped : (place : CallPoint) → OpenFits shape client.txn → CallPointFits shape client.txn place
       → IsOpenAt client.txn place → NowSo shape client.log client.txn (Some (At place))
       → Closes (cut_call shape client place)
   stopped (Beginning txn nth at) fits stands open_ so =
-      event_so shape client.log (unbegun txn nth outcome.Cut) 0 0 0 (open_before shape client.txn client.log open_ so) tt
-      refl
+      event_so shape client.log (unbegun txn nth outcome.Cut) 0 0 0
+      (open_before shape client.txn client.log open_ so) tt refl
   stopped (InTxn at) fits stands open_ so = in_txn at client.txn so fits stands
   stopped (Scanning table low high at) fits stands open_ so = left client.txn so
   stopped (Seeking table key passed) fits stands open_ so =
@@ -119,7 +115,8 @@ module _ (shape : Shape) (client : ClientState) where
       moves table key (bucket_of shape place.row) (move_claimed place at) stands.0
       (open_before shape client.txn client.log open_ so)
   stopped (Snapping bucket at) fits stands open_ so =
-      event_so shape client.log (event.CollectCut bucket) 0 0 0 (open_before shape client.txn client.log open_ so) tt refl
+      event_so shape client.log (event.CollectCut bucket) 0 0 0
+      (open_before shape client.txn client.log open_ so) tt refl
   stopped (Collecting bucket prefix seen at) fits stands open_ so =
       event_so shape client.log (event.Collected bucket prefix seen true) 0 0 0 so stands.1 refl
 

@@ -5,11 +5,10 @@ use Rattle.nam_catalog.specs.Fits.{FitsLimits}
 use Rattle.nam_catalog.specs.Tables.{widths_of}
 use Rattle.nam_catalog.specs.declared.shape.Shape.{Shape}
 use Rattle.nam_catalog.specs.declared.shape.Table.{Table}
-use Rattle.nam_header.specs.Tag.{full, written}
+use Rattle.nam_header.specs.Tag.{full}
 use Rattle.nam_protocol.proofs.FallsKeys.{record_is_placed}
 use Rattle.nam_protocol.proofs.FieldLemmas.{placed}
 use Rattle.nam_protocol.proofs.OpensDriver.{one}
-use Rattle.nam_protocol.proofs.Shown.{item, lock, up}
 use Rattle.nam_protocol.specs.Carries.{IsFullAt, IsMissed}
 use Rattle.nam_protocol.specs.Commit.{lock_at, no_record, record_at, records_of}
 use Rattle.nam_protocol.specs.Operations.{holding}
@@ -17,9 +16,7 @@ use Rattle.nam_protocol.specs.Telling.{locks_from, new_locks}
 use Rattle.nam_protocol.specs.TxnFits.{IsPlaced, StateFits, is_claimed}
 use Rattle.nam_protocol.specs.declared.txn.Record.{Record}
 use Rattle.nam_protocol.specs.declared.txn.TxnState.{TxnState}
-use Rattle.nam_report.proofs.SpellingLemmas.{lock_is}
 use Rattle.nam_report.specs.Fits.{ItemFits, LockFits, NamesTable}
-use Rattle.nam_text.specs.Spelling.{some}
 use Rattle.nam_verbs.proofs.TestLemmas.{by_test}
 use Rattle.si_model.proofs.EvaluationLemmas.{same_key_says}
 use Rattle.si_model.specs.Evaluation.{OpFits, found, op_key}
@@ -81,7 +78,8 @@ module _ (shape : Shape) where
   claimed_table (c ∷ claims) table key placed e =
       by_test (λ b. b ≡ true → IsTableOf shape table) (same_key c.key record { table = table; key = key }) true
       (is_claimed claims record { table = table; key = key })
-      (λ same f. subst (λ (k : Key). IsTableOf shape k.table) (same_key_says c.key record { table = table; key = key } same) placed.0.1.0)
+      (λ same f. subst (λ (k : Key). IsTableOf shape k.table)
+      (same_key_says c.key record { table = table; key = key } same) placed.0.1.0)
       (λ other f. claimed_table claims table key placed.1 f) e
 
   items_fit : (claims : List Record) (items : List Item) → AllByRecursion (IsPlaced shape) claims

@@ -1,7 +1,6 @@
 -- The report of a simulated run fits its script, and there is one for each script and lines.
-use Rattle.std.proofs.Common.{◌≡◌, ℕ, zero, suc, ◌+◌, List, [], ◌∷◌, ◌++◌, map, length, take, drop, refl, sym, ap, subst, ◌∙◌}
+use Rattle.std.proofs.Common.{ℕ, zero, suc, List, [], ◌∷◌, map, take, drop, refl, sym, ap, subst, ◌∙◌}
 use Rattle.std.proofs.Common.{Option, Some, None}
-use Rattle.std.specs.Prelude.{IsPermutation, slice_index_or}
 use Rattle.std.specs.List.{AllByRecursion}
 use Rattle.si_model.specs.declared.row.Item.{Item}
 use Rattle.si_model.specs.declared.op.Op.{Op}
@@ -12,20 +11,17 @@ use Rattle.si_model.specs.declared.log.Lock.{Lock}
 use Rattle.si_model.specs.declared.log.Log.{Log}
 use Rattle.si_model.specs.declared.log.Outcome.{Outcome}
 use Rattle.si_model.specs.declared.log.Outcome.TheVariants.{Commit}
-use Rattle.si_model.specs.declared.report.Closed.{Closed}
 use Rattle.si_model.specs.declared.report.CommitLine.{CommitLine}
-use Rattle.si_model.specs.declared.report.Report.{Report}
-use Rattle.si_model.specs.Commits.{Published, entry_of, published_at, published_by, published_from, published_in, published_of}
-use Rattle.si_model.specs.Lists.{Listed}
+use Rattle.si_model.specs.Commits.{Published, entry_of, published_at, published_by, published_from, published_in}
+use Rattle.si_model.specs.Commits.{published_of}
 use Rattle.si_model.specs.Tells.{Tell, locks_in, reads_in, snaps_in, tells_each, tells_of, writes_in}
-use Rattle.si_model.proofs.ListLemmas.{All-append, All-from_listed, All-listed, listed_permutation}
+use Rattle.si_model.proofs.ListLemmas.{All-append, All-map, All-from_listed, All-listed, listed_permutation}
 use Rattle.std.proofs.lemmas.List.Sorted.{IsPermutation-sym}
 use Rattle.nam_catalog.specs.Tables.{widths_of}
 use Rattle.nam_catalog.specs.declared.shape.Shape.{Shape}
-use Rattle.nam_script.specs.declared.script.Script.{Script}
 use Rattle.nam_script.specs.ScriptSetting.{setting_of}
 use Rattle.nam_protocol.specs.Closed.{closed}
-use Rattle.nam_protocol.specs.Schedule.{Run, Simulated}
+use Rattle.nam_protocol.specs.Schedule.{Run}
 use Rattle.nam_report.specs.Fits.{EntryFits, FitsScript, ItemFits, LogFits}
 use Rattle.nam_report.specs.Numbers.{NumbersFit}
 use Rattle.nam_scenario.specs.Scenario.{scenario_of}
@@ -33,7 +29,7 @@ use Rattle.nam_scenario.specs.ScenarioLaw.{script_run}
 use Rattle.nam_scenario.proofs.ScenarioLemmas.{scripts_fit, scripts_run}
 use Rattle.nam_simulated.specs.LogLaw.{LogIsOf}
 use Rattle.nam_simulated.specs.RunLaw.{ClosedIsOf}
-use Rattle.nam_simulated.specs.ReportLaw.{IsOfCommits, OneReportLaw, ReportFitsLaw, SimulatedFitsLaw, report_of, report_with}
+use Rattle.nam_simulated.specs.ReportLaw.{OneReportLaw, ReportFitsLaw, SimulatedFitsLaw, report_of}
 use Rattle.nam_simulated.specs.ReportLaw.{told_of}
 use Rattle.nam_simulated.proofs.WorldKept.{runs_fit}
 
@@ -63,7 +59,7 @@ module _ (P : Item → Type 0) where
   tells_write opss (e ∷ es) rs ls ws ss all = (
     all_take P (writes_in e) ws all,
     tells_write (drop 1 opss) es (drop (reads_in e) rs) (drop (locks_in e) ls) (drop (writes_in e) ws)
-    (drop (snaps_in e) ss) (all_drop P (writes_in e) ws all),
+        (drop (snaps_in e) ss) (all_drop P (writes_in e) ws all),
   )
 
   in_enters : (j : ℕ) (t : Tell) (a : Attempt) (prefix : Option ℕ) (outcome : Outcome) → Writes t
@@ -92,11 +88,6 @@ module _ (P : Item → Type 0) where
       (tells_write _ log.events log.reads log.locks log.writes log.snaps all.0))
       (from_enters jobs (suc j) logs all.1)
 
-  entries_enter : (cs : List Published) → AllByRecursion Enters cs
-      → AllByRecursion (λ (line : CommitLine). AllByRecursion P line.writes) (map entry_of cs)
-  entries_enter [] all = tt
-  entries_enter (c ∷ cs) all = (all.0, entries_enter cs all.1)
-
 -- 2. A report
 
 logs_write : (shape : Shape) (logs : List Log) → AllByRecursion (LogIsOf shape) logs
@@ -114,7 +105,7 @@ reports_fit script left history is commits numbers =
     let widths = widths_of script.shape.tables in
     let entries = map entry_of (published_by (told_of script left.logs)) in
     let each : AllByRecursion (EntryFits widths) entries =
-    entries_enter (ItemFits widths) (published_by (told_of script left.logs))
+    All-map entry_of (EntryFits widths) (published_by (told_of script left.logs))
     (from_enters (ItemFits widths) (setting_of script).jobs 1 left.logs (logs_write script.shape left.logs is.logs)) in
     record {
       workers = is.many;

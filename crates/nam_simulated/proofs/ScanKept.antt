@@ -7,7 +7,6 @@ use Rattle.nam_catalog.specs.Tables.{widths_of}
 use Rattle.nam_catalog.specs.declared.shape.Shape.{Shape}
 use Rattle.nam_protocol.proofs.FallsKeys.{own_wide}
 use Rattle.nam_protocol.proofs.FallsScan.{ScanFalls}
-use Rattle.nam_protocol.proofs.Shown.{item}
 use Rattle.nam_protocol.specs.Operations.{own_value}
 use Rattle.nam_protocol.specs.Scan.{scan_skip}
 use Rattle.nam_protocol.specs.ScanCall.{inserted, item_of, on_scan, on_skip, scan_ended, scan_listed, scanned_items}
@@ -27,17 +26,13 @@ use Rattle.nam_report.specs.Fits.{ItemFits, OutcomeFits}
 use Rattle.nam_simulated.proofs.ClientSo.{AreOfWidth, ClientSo, OpenSo}
 use Rattle.nam_simulated.proofs.ItemsFit.{table_named}
 use Rattle.nam_simulated.proofs.LogGrows.{LogSo, end_so, reads_so}
-use Rattle.nam_text.specs.Read.{done}
 use Rattle.nam_verbs.proofs.TestLemmas.{by_equal, by_test}
 use Rattle.nam_verbs.specs.declared.now.Now.{Now}
 use Rattle.nam_verbs.specs.declared.now.Now.TheVariants.{At, Over}
 use Rattle.si_model.proofs.ListLemmas.{All-append}
 use Rattle.si_model.specs.Rows.{key_at, writes_key}
-use Rattle.si_model.specs.declared.evaluated.Evaluated.TheVariants.{Done}
 use Rattle.si_model.specs.declared.log.Outcome.{Outcome}
 use Rattle.si_model.specs.declared.log.Outcome.TheVariants.{Left, TooOld}
-use Rattle.si_model.specs.declared.row.Key.{Key}
-use Rattle.si_model.specs.declared.row.Row.{Row}
 use Rattle.std.proofs.Common.{List, None, Option, Some, [], length, subst, sym, ℕ, ◌++◌, ◌+◌, ◌∷◌, ◌≡◌}
 use Rattle.nam_protocol.proofs.GoesClient.{with_rows}
 use Rattle.std.specs.List.{AllByRecursion}
@@ -86,7 +81,10 @@ module _ (shape : Shape) (limits : FitsLimits shape) (table : ℕ) (is : IsTable
         → ClientSo shape (scan_listed (with_rows client rows) attempt table)
     is_listed rows wide =
         let items = scanned_items table rows in
-        record { so = reads_so shape client.log items attempt.reads attempt.locks 1 so (items_fit rows wide); scanned = tt }
+        record {
+          so = reads_so shape client.log items attempt.reads attempt.locks 1 so (items_fit rows wide);
+          scanned = tt;
+        }
 
     is_ended : (how : Outcome) (end : TxnAnswer) → OutcomeFits (widths_of shape.tables) how
         → ClientSo shape (scan_ended client attempt how end)

@@ -4,7 +4,6 @@ use Rattle.nam_calls.specs.Words.{width_of}
 use Rattle.nam_catalog.specs.Fits.{FitsLimits}
 use Rattle.nam_catalog.specs.Tables.{widths_of}
 use Rattle.nam_catalog.specs.declared.shape.Shape.{Shape}
-use Rattle.nam_header.specs.Tag.{full}
 use Rattle.nam_protocol.proofs.AnswersClient.{answers_tell, asked_carries, cut_carries, new_carries, treated_carries}
 use Rattle.nam_protocol.proofs.AnswersClient.{word_carries}
 use Rattle.nam_protocol.proofs.EventsClient.{ask_lists, word_lists}
@@ -20,13 +19,12 @@ use Rattle.nam_protocol.specs.ClientEvents.{NeedsOpen, NowLists}
 use Rattle.nam_protocol.specs.ClientFits.{CallFits, ClientFits, OpenFits}
 use Rattle.nam_protocol.specs.Own.{IsOpenAt, MayAsk, OpenClient, Rests}
 use Rattle.nam_protocol.specs.Scan.{position_of, scan_after, scan_left}
-use Rattle.nam_protocol.specs.Session.{answer_now, treated}
+use Rattle.nam_protocol.specs.Session.{answer_now}
 use Rattle.nam_protocol.specs.SessionKeeps.{ClientKeeps}
 use Rattle.nam_protocol.specs.Telling.{go, new_client, stepped}
 use Rattle.nam_protocol.specs.Txn.{Stepped}
 use Rattle.nam_protocol.specs.TxnCalls.{taken_now}
 use Rattle.nam_protocol.specs.TxnFits.{ScanFits, StateFits, TxnPointFits}
-use Rattle.nam_protocol.specs.World.{cut}
 use Rattle.nam_protocol.specs.declared.client.Answer.{Answer}
 use Rattle.nam_protocol.specs.declared.client.Call.{Call}
 use Rattle.nam_protocol.specs.declared.client.Call.TheVariants.{Begin, Collect, Tidy, Txn}
@@ -48,7 +46,6 @@ use Rattle.nam_simulated.proofs.LogGrows.{LogSo, locks_so, snap_so}
 use Rattle.nam_verbs.specs.declared.now.Now.{Now}
 use Rattle.nam_verbs.specs.declared.now.Now.TheVariants.{At, Over}
 use Rattle.si_model.specs.declared.log.Log.{Log}
-use Rattle.si_model.specs.declared.op.Op.TheVariants.{Scan}
 use Rattle.std.proofs.Common.{Bool, None, Option, Some, ap, arith, false, length, refl, subst, sym, ℕ, ◌≡◌}
 use Rattle.std.specs.List.{AllByRecursion}
 use Rattle.nam_protocol.specs.declared.txn.TxnCall.TheVariants.{Get, Put, Add, Del, Need, Guard}
@@ -171,12 +168,6 @@ module _ (shape : Shape) where
       (scan_falls shape limits table is low high attempt.state.seen at found stands)
 
   module _ (limits : FitsLimits shape) (client : ClientState) (place : CallPoint) (found : ℕ) where
-    here : ClientState
-    here = go client place
-
-    after : ClientState
-    after = call_after shape (go client place) place found
-
     told : (now : Option (Now CallPoint Answer)) → (call_after shape (go client place) place found).call ≡ now
         → IsNoScan place → ClientFits shape (go client place) → Carries (go client place)
         → IsOpenAt client.txn place → NowSo shape client.log client.txn (Some (At place))
@@ -187,8 +178,8 @@ module _ (shape : Shape) where
     told None e other fits carries open_ so lists = tt
     told (Some (At next)) e other fits carries open_ so lists = tt
     told (Some (Over end)) e other fits carries open_ so lists =
-        answer_kept shape found (go client place) (call_after shape (go client place) place found) limits place end other
-        fits.1 fits.2 open_ so
+        answer_kept shape found (go client place) (call_after shape (go client place) place found) limits place end
+        other fits.1 fits.2 open_ so
         ((answers_tell shape).word (go client place) place found end fits carries refl (ap answer_now e)) lists.1
 
     unscanned : IsNoScan place → ClientFits shape (go client place) → client.cut ≡ false → Carries (go client place)
@@ -303,7 +294,8 @@ module _ (shape : Shape) where
     pub listed : ClientSo shape client
 
   word_so : FitsLimits shape → (client : ClientState) (place : CallPoint) (found : ℕ) → ClientFits shape client
-      → client.cut ≡ false → client.call ≡ Some (At place) → Keeps client → ClientSo shape (client_after shape client found)
+      → client.cut ≡ false → client.call ≡ Some (At place) → Keeps client
+      → ClientSo shape (client_after shape client found)
   word_so limits client place found fits uncut e kept =
       subst (λ (now : Option (Now CallPoint Answer)). ClientFits shape (record client { call = now })
       → Carries (record client { call = now }) → OpenClient (record client { call = now })

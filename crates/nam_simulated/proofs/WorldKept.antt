@@ -1,7 +1,7 @@
 -- Each session of a world of a scenario is one that occurs, and so what is left of the world fits.
-use Rattle.std.proofs.Common.{◌≡◌, ℕ, zero, suc, ◌+◌, ◌-◌, ◌<◌, ◌≤◌, List, [], ◌∷◌, map, length, refl, sym, ap, subst, ◌∙◌}
-use Rattle.std.proofs.Common.{arith, Bool, true, false, Option, Some, None}
-use Rattle.std.specs.Prelude.{◌==◌, slice_get, slice_set}
+use Rattle.std.proofs.Common.{◌≡◌, ℕ, zero, suc, ◌+◌, ◌-◌, ◌≤◌, List, [], ◌∷◌, map, length, refl, ap, ◌∙◌}
+use Rattle.std.proofs.Common.{arith, Option, Some, None}
+use Rattle.std.specs.Prelude.{◌==◌, slice_set}
 use Rattle.std.specs.List.{AllByRecursion}
 use Rattle.std.proofs.lemmas.List.{length-set, length-map}
 use Rattle.si_model.specs.declared.op.Policy.{Policy}
@@ -20,11 +20,13 @@ use Rattle.nam_protocol.specs.declared.session.SessionState.{SessionState}
 use Rattle.nam_protocol.specs.Closed.{closed}
 use Rattle.nam_protocol.specs.EndsLaw.{ScenarioFits}
 use Rattle.nam_protocol.specs.EventsLaw.{IsReached, by_word, by_cut, is_new}
-use Rattle.nam_protocol.specs.Schedule.{Owned, Run, Scenario, after_round, after_rounds, after_workers, all_jobs, jobs_of}
-use Rattle.nam_protocol.specs.Schedule.{line_of, logs_of, numbers_from, opened, scheduled, simulated, turn_by, turn_of, turn_on}
-use Rattle.nam_protocol.specs.Session.{new_session, session_after, session_cut, session_log, session_verb}
+use Rattle.nam_protocol.specs.Schedule.{Owned, Run, Scenario, after_round, after_rounds, after_workers, all_jobs}
+use Rattle.nam_protocol.specs.Schedule.{jobs_of}
+use Rattle.nam_protocol.specs.Schedule.{line_of, numbers_from, opened, scheduled, simulated, turn_by, turn_of, turn_on}
+use Rattle.nam_protocol.specs.Session.{session_after, session_cut, session_log, session_verb}
 use Rattle.nam_protocol.specs.SessionFits.{JobFits, OpsFit}
-use Rattle.nam_protocol.specs.World.{Cut, Step, Turn, World, after_turn, after_turns, cut, cut_of, new_sessions, session_of}
+use Rattle.nam_protocol.specs.World.{Cut, Step, Turn, World, after_turn, after_turns, cut, cut_of, new_sessions}
+use Rattle.nam_protocol.specs.World.{session_of}
 use Rattle.nam_protocol.specs.World.{step, step_by, step_of, with_session, world_verb}
 use Rattle.nam_protocol.proofs.EndsSession.{nth_holds}
 use Rattle.nam_simulated.specs.LogLaw.{LogIsOf}
@@ -207,7 +209,8 @@ logs_are : (shape : Shape) → FitsLimits shape → (policy : Policy) → 1 ≤ 
     → AllByRecursion (LogIsOf shape) (map (session_log shape) sessions)
 logs_are shape limits policy least [] all = tt
 logs_are shape limits policy least (s ∷ sessions) all = (
-  logs_fit shape limits all.0.worker shape.start all.0.jobs policy all.0.is limits.start all.0.fit least s all.0.reached,
+  logs_fit shape limits all.0.worker shape.start all.0.jobs policy all.0.is limits.start all.0.fit least s
+  all.0.reached,
   logs_are shape limits policy least sessions all.1,
 )
 

@@ -64,7 +64,8 @@ module _ (ordered : ℕ → List (List Tell) → List CommitLine) where
 
   -- the order keeps the commits: it adds none and drops none
   abbrev pub KeepsCommits : Type 0
-  KeepsCommits = (start : ℕ) (tss : List (List Tell)) → IsPermutation (map entry_of (published_by tss)) (ordered start tss)
+  KeepsCommits = (start : ℕ) (tss : List (List Tell))
+      → IsPermutation (map entry_of (published_by tss)) (ordered start tss)
 
   abbrev pub SimulatedFits : Type 0
   SimulatedFits = KeepsCommits → (script : Script) → IsScript script → (lines : List Line) (report : Report)

@@ -3,3 +3,4 @@ pub mod LoadLemmas
 pub mod SortLemmas
 pub mod ReadLemmas
 pub mod AuditLemmas
+pub mod WorldLemmas

@@ -10,9 +10,13 @@ mod blank;
 mod load;
 mod make_error;
 mod opened;
+mod runs;
 mod turn;
+mod world;
 
 pub use audited::audit;
 pub use make_error::MakeError;
 pub use opened::opening;
+pub use runs::Runs;
 pub use turn::Turn;
+pub use world::World;

@@ -1,6 +1,7 @@
 //! The words of a new store.
 
-ghost use Rattle.std.specs.Prelude.{◌≡◌, ◌+◌, ◌≤◌, None, length, All, MatchResult};
+ghost use Rattle.std.specs.Prelude.{◌≡◌, ◌+◌, ◌≤◌, None, length, All, IfOk, MatchResult};
+ghost use Rattle.nam_catalog.specs.Words.{words_of};
 ghost use Rattle.nam_protocol.specs.Opening.{opening_words};
 ghost use Rattle.nam_core.specs.Opening.{FitsRow, rows_of, first_overfull, overfull, NotOpened};
 
@@ -49,6 +50,7 @@ pub fn opening(
     ensures exact { MatchResult result
         (λ words. (overfull shape.now rows.now ≡ None) × (words.items ≡ opening_words shape.now rows.now))
         (λ error. NotOpened shape.now rows.now error) }
+    ensures long { IfOk result (λ words. length words.items ≡ words_of shape.now) }
 {
     if let Some(table) = overfull(shape.tables.as_slice(), rows) {
         return Err(MakeError::NoSpace { table });

@@ -10,3 +10,7 @@ mod StoreLemmas
 mod ServeLemmas
 mod TopLemmas
 pub mod ScriptLemmas
+mod TurnLemmas
+mod RunLemmas
+mod JobLemmas
+mod SimulatedLemmas

@@ -2,7 +2,7 @@
 use Rattle.std.proofs.Common.{◌≡◌, ℕ, zero, suc, ◌+◌, ◌<◌, ◌≤◌, List, [], ◌∷◌, ◌++◌, length, get_or, drop, map, Bool}
 use Rattle.std.proofs.Common.{true, false, None, refl, sym, ap, ◌∙◌, subst, arith, drop-cons}
 use Rattle.std.proofs.lemmas.List.{drop_all}
-use Rattle.std.specs.Prelude.{replicate, is_some}
+use Rattle.std.specs.Prelude.{if◌then◌else◌, replicate, is_some}
 use Rattle.std.specs.List.{AllByRecursion, list_any}
 use Rattle.std.proofs.lemmas.Bool.{false≢true}
 use Rattle.nam_verbs.specs.VerbAt.{VerbAt}
@@ -64,30 +64,36 @@ module _ (shape : Shape) where
   ended_rests world ended = none_live world.sessions ended
 
   -- how many rounds are left, of so many at the most
-  pub rounds_left : ℕ → Run → ℕ
+  unfoldable pub rounds_left : ℕ → Run → ℕ
   rounds_left zero run = 0
-  rounds_left (suc most) run = elim (is_live shape run.world) [
-    | false ↦ 0
-    | true ↦ suc (rounds_left most (after_round shape run))
+  rounds_left (suc most) run =
+      if is_live shape run.world then suc (rounds_left most (after_round shape run)) else 0
+
+  abbrev if_live : Run → Run → Bool → Run
+  if_live run next live = elim live [
+    | false ↦ run
+    | true ↦ next
   ]
 
   pub stays : (most : ℕ) (run : Run) → is_live shape run.world ≡ false → until_ended shape most run ≡ run
   unfolding until_ended
   stays zero run e = refl
-  stays (suc most) run e = rw e refl
+  stays (suc most) run e = ap (if_live run (until_ended shape most (after_round shape run))) e
 
   goes : (most : ℕ) (run : Run) → is_live shape run.world ≡ true
       → until_ended shape (suc most) run ≡ until_ended shape most (after_round shape run)
   unfolding until_ended
-  goes most run e = rw e refl
+  goes most run e = ap (if_live run (until_ended shape most (after_round shape run))) e
 
   left_none : (most : ℕ) (run : Run) → is_live shape run.world ≡ false → rounds_left most run ≡ 0
+  unfolding rounds_left
   left_none zero run e = refl
-  left_none (suc most) run e = rw e refl
+  left_none (suc most) run e = ap (λ b. if b then suc (rounds_left most (after_round shape run)) else 0) e
 
   left_goes : (most : ℕ) (run : Run) → is_live shape run.world ≡ true
       → rounds_left (suc most) run ≡ suc (rounds_left most (after_round shape run))
-  left_goes most run e = rw e refl
+  unfolding rounds_left
+  left_goes most run e = ap (λ b. if b then suc (rounds_left most (after_round shape run)) else 0) e
 
   -- a bound that suffices gives the same as one more
   record Same (most : ℕ) (run : Run) : Type 0 where

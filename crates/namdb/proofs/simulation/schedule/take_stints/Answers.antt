@@ -1,18 +1,25 @@
-use Rattle.std.proofs.Common.{◌≡◌, ◌<◌, ◌≤◌, length, ap, sym, ◌∙◌, arith}
-use Rattle.nam_protocol.specs.Schedule.{after_workers}
+use Rattle.std.proofs.Common.{◌≡◌, ◌<◌, ◌≤◌, ◌+◌, length, drop, map, ap, sym, ◌∙◌, arith}
+use Rattle.nam_protocol.specs.Schedule.{after_workers, stint_workers}
+use Rattle.namdb.specs.Simulation.{run_of, stints_of}
 use Rattle.namdb.proofs.RunLemmas.{some_turns, no_turns, stints_from, no_stint}
 use Rattle.namdb.proofs.simulation.schedule.take_stints.Goals as goal
 
 pub loop-stint-preserved : goal.loop-stint-preserved
 loop-stint-preserved g c =
+    let states = map (λ line. (goal.Line-dyn g (line.vtable, line.value)).state line.value) in
     let shape = c.args.world.now.shape in
     let stints = c.args.stints.now in
-    let less : c.loop-stint.stint-index < length stints = omega (arith, c.loop-stint-test.true) in
+    let place = c.loop-stint.stint-index in
+    let less : place < length stints = omega (arith, c.loop-stint-test.true) in
+    let run = run_of c.loop-stint.world (states c.loop-stint.lines) in
+    let next = run_of c.take_stint.new.world (states c.take_stint.new.lines) in
+    let start = run_of c.args.world.now (states c.args.lines.now) in
+    let end = after_workers shape start (stint_workers (stints_of stints)) in
     record {
       shape = c.take_stint.ensures.shape ∙ c.loop-stint.invariant.shape;
-      rest = some_turns shape _ _ _ _ _ _ c.loop-stint.invariant.shape c.take_stint.ensures.run
-          (ap (after_workers shape _) (sym (stints_from stints c.loop-stint.stint-index _ less))
-          ∙ c.loop-stint.invariant.rest);
+      rest = some_turns shape c.loop-stint.world.shape run next end _
+          (stint_workers (stints_of (drop (place + 1) stints))) c.loop-stint.invariant.shape c.take_stint.ensures.run
+          (ap (after_workers shape run) (sym (stints_from stints place _ less)) ∙ c.loop-stint.invariant.rest);
     }
 
 pub returns-clause-run : goal.returns-clause-run

@@ -5,7 +5,8 @@ use Rattle.namdb.proofs.simulation.turns.is_refused.Goals as goal
 pub returns-then-place-lines-clause-asked : goal.returns-then-place-lines-clause-asked
 returns-then-place-lines-clause-asked g c =
     is_asked _ c.args.lines.now c.args.worker c.saturating_sub-place.result c.saturating_sub-place.ensures
-    c.index-lines-place.result c.if-place-lines.true c.index-lines-place.is c.refuses.new.line c.refuses.ensures.asked
+    c.index-lines-place.result c.if-place-lines.true c.index-lines-place.is c.refuses.new.line
+    (search rules)
 
 pub returns-clause-refused : goal.returns-clause-refused
 returns-clause-refused g c =

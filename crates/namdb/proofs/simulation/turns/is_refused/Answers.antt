@@ -1,4 +1,4 @@
-use Rattle.std.proofs.Common.{ap, sym, ◌∙◌}
+use Rattle.std.proofs.Common.{rules}
 use Rattle.namdb.proofs.TurnLemmas.{is_asked, refuses_here, none_asked, none_refuses}
 use Rattle.namdb.proofs.simulation.turns.is_refused.Goals as goal
 

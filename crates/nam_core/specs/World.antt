@@ -41,7 +41,7 @@ pub record Opened (shape : Shape) (rows : List Row) (sessions : List SessionStat
   pub rows_fit : overfull shape rows ≡ None
   pub made_is : made ≡ record {
     shape = shape;
-    world = record { words = opening_words shape rows; sessions = sessions }
+    world = record { words = opening_words shape rows; sessions = sessions };
   }
 
 -- why it isn't made: the shape has this fault; or it has none, and the table is the first without space; or there are

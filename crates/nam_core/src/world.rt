@@ -179,7 +179,7 @@ impl<S: Runs> World<S> {
     /// Turns, one after another.
     pub fn run(&mut self, turns: &[Turn])
         ensures { self.new ≡ record self.old {
-            world = after_turns self.old.shape self.old.world (turns_of turns.now)
+          world = after_turns self.old.shape self.old.world (turns_of turns.now);
         } }
     {
         for turn in turns {

@@ -10,5 +10,5 @@ invariant-loop-session g l = record {
   rest :
       l.logs
       ++ map (session_log l.layout) (map g.S.Runs.session (into_iter_items l.session-iterator))
-      ≡ map (session_log l.layout) (map g.S.Runs.session l.fn.sessions.items)
+      ≡ map (session_log l.layout) (map g.S.Runs.session l.fn.sessions.items);
 }

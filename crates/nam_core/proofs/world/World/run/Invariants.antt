@@ -8,5 +8,5 @@ invariant-loop-turn g l = record {
   shape : l.self.shape ≡ l.fn.self.shape;
   rest :
       after_turns l.fn.self.shape l.self.world (turns_of (drop l.turn-index l.turns))
-      ≡ after_turns l.fn.self.shape l.fn.self.world (turns_of l.turns)
+      ≡ after_turns l.fn.self.shape l.fn.self.world (turns_of l.turns);
 }

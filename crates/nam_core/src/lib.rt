@@ -1,8 +1,10 @@
 //! Worlds: sessions that take turns over one region of words.
 //!
-//! `opening` makes the words of a new store with its rows, `audit` gives what is left in a store's words under their
-//! last vector, and a `Turn` is what one worker does next. Each is exactly the definition of its name in
-//! `nam_protocol`. Where memory is refused, nothing is given.
+//! `World` is made of a shape, rows and sessions. Its workers take turns: a step does the verb that a worker's session
+//! asks for and hands it the word that was found, and a cut stops a session. In the end `finish` gives the logs and the
+//! audit. `opening` makes the words of a new store, and `audit` says what is left in a store's words under their last
+//! vector. Each is exactly the definition of its name in `nam_protocol`. A turn takes no memory; where memory is
+//! refused, nothing is given.
 #![tactic(auto)]
 
 mod audited;
@@ -11,6 +13,8 @@ mod load;
 mod make_error;
 mod opened;
 mod runs;
+#[cfg(test)]
+mod tests;
 mod turn;
 mod world;
 

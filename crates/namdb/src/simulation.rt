@@ -16,12 +16,11 @@ mod turns;
 use crate::simulation::reporting::report_of;
 use crate::simulation::rounds::run_to_end;
 use crate::simulation::schedule::take_turns;
+pub use jobs::jobs_of;
 use nam_core::{Runs, World};
 use nam_line::Line;
 use nam_script::Script;
 use std::alloc::{AllocError, Global};
-
-pub use jobs::jobs_of;
 
 /// Runs a script's world to its end: first the turns of the script's schedule, then rounds in which each worker has one
 /// turn, until no worker has a verb to come.

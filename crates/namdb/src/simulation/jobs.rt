@@ -62,7 +62,12 @@ pub fn jobs_of(alloc: Global, script: &Script) -> Result<Vec<List<Job>>, AllocEr
 {
     let mut jobs = no_jobs(alloc, script.shape.workers)?;
     for place in 0..script.txns.len() {
-        add_job(alloc, jobs.as_mut_slice(), place as u32 + 1, script.txns.at(place))?;
+        add_job(
+            alloc,
+            jobs.as_mut_slice(),
+            place as u32 + 1,
+            script.txns.at(place),
+        )?;
     }
     Ok(jobs)
 }

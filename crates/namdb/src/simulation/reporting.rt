@@ -53,7 +53,11 @@ fn report_on(alloc: Global, script: &Script, left: Closed) -> Result<Report, All
 }
 
 /// The report on a script's world, which is closed.
-pub fn report_of<S: Runs>(alloc: Global, script: &Script, world: World<S>) -> Result<Report, AllocError>
+pub fn report_of<S: Runs>(
+    alloc: Global,
+    script: &Script,
+    world: World<S>,
+) -> Result<Report, AllocError>
     requires shape { world.shape ≡ script.now.shape }
     requires left { ClosedIsOf script.now.shape (closed script.now.shape world.world) }
     ensures report { IfOk result (λ report.

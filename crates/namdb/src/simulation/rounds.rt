@@ -24,7 +24,11 @@ fn take_round<S: Runs>(world: &mut World<S>, lines: &mut [Box<dyn Line + Send>],
 }
 
 /// Rounds until no worker has a verb to come.
-pub fn run_to_end<S: Runs>(script: &Script, world: &mut World<S>, lines: &mut [Box<dyn Line + Send>])
+pub fn run_to_end<S: Runs>(
+    script: &Script,
+    world: &mut World<S>,
+    lines: &mut [Box<dyn Line + Send>],
+)
     requires shape { world.old.shape ≡ script.now.shape }
     requires ends { HasEnded script.now.shape
         (to_end script.now (run_of world.old (map (λ line. state line) lines.old))).world }

@@ -1,5 +1,5 @@
 use Rattle.std.proofs.Common.{rules}
-use Rattle.namdb.proofs.TurnLemmas.{is_asked, refuses_here, none_asked, none_refuses}
+use Rattle.namdb.proofs.TurnLemmas.{is_asked, none_refuses}
 use Rattle.namdb.proofs.simulation.turns.is_refused.Goals as goal
 
 pub returns-then-place-lines-clause-asked : goal.returns-then-place-lines-clause-asked

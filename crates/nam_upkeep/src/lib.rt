@@ -1,0 +1,6 @@
+//! Snapshots.
+#![tactic(auto)]
+
+mod snapper;
+
+pub use snapper::{Snapper, SnapperEnd};

@@ -1,9 +1,10 @@
 -- How many verbs are to come of the records from one on.
 use Rattle.std.proofs.Common.{◌≡◌, ℕ, zero, suc, ◌+◌, ◌-◌, ◌*◌, ◌<◌, ◌≤◌, List, [], ◌∷◌, length, map, take, drop, refl, sym, ap}
 use Rattle.std.proofs.Common.{arith, ◌∙◌}
-use Rattle.std.specs.Prelude.{if◌then◌else◌, nat_lt}
+use Rattle.std.proofs.lemmas.List.{get_or-take, length-take}
+use Rattle.std.proofs.Math.Seq.{drop-cons, drop-length}
 use Rattle.nam_layout.specs.declared.field.Place.{Place}
-use Rattle.nam_layout.specs.PlaceFits.{FitsPlace}
+use Rattle.nam_layout.specs.Place.{no_place}
 use Rattle.nam_calls.specs.declared.ring.SlotPoint.{SlotPoint}
 use Rattle.nam_calls.specs.declared.ring.SlotPoint.TheVariants.{CheckCount, CheckHead}
 use Rattle.nam_calls.specs.declared.ring.CopyPoint.{CopyPoint}
@@ -20,56 +21,68 @@ use Rattle.nam_commit.proofs.RecordsLemmas.{places_length}
 
 -- 1. The written records
 
-one_install : (xs : List Place) (w nth : ℕ) → nth < w → w ≤ length xs
-    → installs_most (drop nth (take w xs))
-    ≡ 3 * (nth_place xs nth).width + 5 + installs_most (drop (nth + 1) (take w xs))
-one_install [] w nth l m = absurd (omega arith)
-one_install (x ∷ xs) zero nth l m = absurd (omega arith)
-one_install (x ∷ xs) (suc w) zero l m = refl
-one_install (x ∷ xs) (suc w) (suc nth) l m = one_install xs w nth (omega arith) (omega arith)
-
-no_install : (xs : List Place) (w : ℕ) → installs_most (drop w (take w xs)) ≡ 0
-no_install [] zero = refl
-no_install [] (suc w) = refl
-no_install (x ∷ xs) zero = refl
-no_install (x ∷ xs) (suc w) = no_install xs w
+one_install : (xs : List Place) (nth : ℕ) → nth < length xs
+    → installs_most (drop nth xs) ≡ 3 * (nth_place xs nth).width + 5 + installs_most (drop (suc nth) xs)
+one_install [] nth l = absurd (omega arith)
+one_install (x ∷ xs) zero l = refl
+one_install (x ∷ xs) (suc nth) l = one_install xs nth (omega arith)
 
 pub one_written : (state : TxnState) (nth : ℕ) → nth < length state.writes
     → length state.writes ≤ length state.records
     → installs_most (written_from state nth)
     ≡ 3 * (record_place state nth).width + 5 + installs_most (written_from state (nth + 1))
 one_written state nth l m =
-    let e = places_length state in one_install (places state) (length state.writes) nth l (omega arith)
+    let e = places_length state in
+    let t = length-take (length state.writes) (places state) in
+    let taken = take (length state.writes) (places state) in
+    let one = one_install taken nth (omega arith) in
+    let same = ap (λ (p : Place). p.width) (get_or-take (length state.writes) (places state) nth no_place l) in
+    let next : suc nth ≡ nth + 1 = omega arith in
+    let more = ap (λ n. installs_most (drop n taken)) next in
+    omega arith
 
-pub none_written : (state : TxnState) → installs_most (written_from state (length state.writes)) ≡ 0
-none_written state = no_install (places state) (length state.writes)
+pub none_written : (state : TxnState) → length state.writes ≤ length state.records
+    → installs_most (written_from state (length state.writes)) ≡ 0
+none_written state m =
+    let e = places_length state in
+    let t = length-take (length state.writes) (places state) in
+    let taken = take (length state.writes) (places state) in
+    let all : length state.writes ≡ length taken = omega arith in
+    ap (λ n. installs_most (drop n taken)) all ∙ ap (λ ps. installs_most ps) (drop-length taken)
 
 -- 2. The listed records
 
-one_list : (xs : List Place) (w nth : ℕ) → nth < length xs
-    → listed_most (w - nth) (drop nth xs)
-    ≡ (if nat_lt nth w then (nth_place xs nth).width + 2 else 2) + listed_most (w - (nth + 1)) (drop (nth + 1) xs)
-one_list [] w nth l = absurd (omega arith)
-one_list (x ∷ xs) zero zero l = refl
-one_list (x ∷ xs) (suc w) zero l = refl
-one_list (x ∷ xs) zero (suc nth) l = one_list xs zero nth (omega arith)
-one_list (x ∷ xs) (suc w) (suc nth) l = one_list xs w nth (omega arith)
+module _ (state : TxnState) (nth : ℕ) (within : nth < length state.records) where
+  next_place : drop nth (places state) ≡ record_place state nth ∷ drop (nth + 1) (places state)
+  next_place =
+      let e = places_length state in
+      let next : suc nth ≡ nth + 1 = omega arith in
+      drop-cons (places state) nth no_place (omega arith)
+      ∙ ap (λ n. record_place state nth ∷ drop n (places state)) next
 
-no_list : (xs : List Place) (n : ℕ) → listed_most n (drop (length xs) xs) ≡ 0
-no_list [] zero = refl
-no_list [] (suc n) = refl
-no_list (x ∷ xs) n = no_list xs n
+  pub value_listed : nth < length state.writes
+      → listed_from state nth ≡ (record_place state nth).width + 2 + listed_from state (nth + 1)
+  value_listed l =
+      let e : length state.writes - nth ≡ suc (length state.writes - (nth + 1)) = omega arith in
+      ap (λ n. listed_most n (drop nth (places state))) e
+      ∙ ap (λ ps. listed_most (suc (length state.writes - (nth + 1))) ps) next_place
 
-pub one_listed : (state : TxnState) (nth : ℕ) → nth < length state.records
-    → listed_from state nth
-    ≡ (if nat_lt nth (length state.writes) then (record_place state nth).width + 2 else 2) + listed_from state (nth + 1)
-one_listed state nth l =
-    let e = places_length state in one_list (places state) (length state.writes) nth (omega arith)
+  pub guard_listed : length state.writes ≤ nth → listed_from state nth ≡ 2 + listed_from state (nth + 1)
+  guard_listed l =
+      let e : length state.writes - nth ≡ 0 = omega arith in
+      let f : 0 ≡ length state.writes - (nth + 1) = omega arith in
+      ap (λ n. listed_most n (drop nth (places state))) e ∙ ap (λ ps. listed_most 0 ps) next_place
+      ∙ ap (λ n. 2 + listed_most n (drop (nth + 1) (places state))) f
+
+none_left : (n : ℕ) → listed_most n [] ≡ 0
+none_left zero = refl
+none_left (suc n) = refl
 
 pub none_listed : (state : TxnState) → listed_from state (length state.records) ≡ 0
 none_listed state =
-    ap (λ n. listed_most (length state.writes - length state.records) (drop n (places state))) (sym (places_length state))
-    ∙ no_list (places state) (length state.writes - length state.records)
+    let left = length state.writes - length state.records in
+    ap (λ n. listed_most left (drop n (places state))) (sym (places_length state))
+    ∙ ap (λ ps. listed_most left ps) (drop-length (places state)) ∙ none_left left
 
 -- 3. One record
 

@@ -1,7 +1,7 @@
 -- The records of a commit, as they are looked up and filled in.
-use Rattle.std.specs.Prelude.{slice_index, slice_index_or, Option, ◌==◌, if◌then◌else◌}
-use Rattle.std.proofs.Common.{◌≡◌, ℕ, ◌+◌, ◌<◌, ◌≤◌, List, [], ◌∷◌, ◌++◌, length, map, refl, sym, ap, subst, arith, ◌∙◌, true, false}
-use Rattle.std.proofs.lemmas.Bool.{eqb-false}
+use Rattle.std.specs.Prelude.{slice_index, slice_index_or, Option, ◌==◌, if◌then◌else◌, IsTrue, ◌↔◌}
+use Rattle.std.proofs.Common.{◌≡◌, ℕ, ◌+◌, ◌<◌, ◌≤◌, List, [], ◌∷◌, ◌++◌, length, map, refl, sym, ap, subst, arith, ◌∙◌, true, false, Bool}
+use Rattle.std.proofs.lemmas.Bool.{eqb-false, false≢true}
 use Rattle.std.proofs.lemmas.List.{get_or_read, length-map}
 use Rattle.si_model.specs.declared.row.Item.{Item}
 use Rattle.si_model.specs.declared.row.Key.{Key}
@@ -39,6 +39,12 @@ pub tells_asked : (shape : Shape) (state : TxnState) → StateFits shape state �
     → tells_intent (committing state) ≡ has_intents shape.form
 tells_asked shape state fits some = tells_by_form shape (committing state) fits refl some
 
+-- a list that isn't empty has a length
+pub some_written : (items : List Item) (empty : Bool) → (IsTrue empty ↔ (items ≡ [])) → empty ≡ false
+    → (length items == 0) ≡ false
+some_written [] empty iff full = absurd (false≢true (sym full ∙ iff.1 refl))
+some_written (item ∷ items) empty iff full = grind arith
+
 -- where a commit begins that has something to commit and a number for it
 pub begins : (shape : Shape) (state : TxnState) → StateFits shape state → (length state.writes == 0) ≡ false
     → (state.last == greatest_number shape.form) ≡ false
@@ -47,6 +53,15 @@ pub begins : (shape : Shape) (state : TxnState) → StateFits shape state → (l
 begins shape state fits some left =
     let tells = tells_asked shape state fits (let e = eqb-false (length state.writes) 0 some in omega arith) in
     rw some (rw left (ap (λ b. at (committing state) (Committing (if b then Listing list_begin else Locking lock_begin))) tells))
+
+pub begins_so : (shape : Shape) (state next : TxnState) (told : Bool) → StateFits shape state
+    → (length state.writes == 0) ≡ false → (state.last == greatest_number shape.form) ≡ false
+    → has_intents shape.form ≡ told → next ≡ committing state
+    → at next (Committing (if told then Listing list_begin else Locking lock_begin)) ≡ ask_commit shape state
+begins_so shape state next told fits some left form same =
+    ap (λ s. at s (Committing (if told then Listing list_begin else Locking lock_begin))) same
+    ∙ ap (λ b. at (committing state) (Committing (if b then Listing list_begin else Locking lock_begin))) (sym form)
+    ∙ sym (begins shape state fits some left)
 
 -- the keys of a commit are few enough
 pub few_records : (shape : Shape) (state : TxnState) → StateFits shape state → length (records_of state) ≤ 16

@@ -1,5 +1,6 @@
 -- The address of each verb is that of its field in the store's shape, and below the number of its words.
-use Rattle.std.proofs.Common.{◌≡◌, ℕ, ◌+◌, ◌<◌, ◌≤◌, length, refl, sym, ap, subst, arith, ◌∙◌, true, false, false≢true}
+use Rattle.std.proofs.Common.{◌≡◌, ℕ, ◌+◌, ◌<◌, ◌≤◌, length, refl, sym, ap, subst, arith, ◌∙◌, true, false}
+use Rattle.std.proofs.lemmas.Bool.{false≢true}
 use Rattle.std.specs.Prelude.{slice_index, Some, None, Option, IfSome}
 use Rattle.nam_verbs.specs.declared.now.Now.{Now}
 use Rattle.nam_verbs.specs.declared.now.Now.TheVariants.{At, Over}
@@ -24,7 +25,7 @@ use Rattle.nam_layout.proofs.PlaceLemmas.{place_stands}
 use Rattle.nam_calls.specs.Memory.{verb_there}
 use Rattle.nam_calls.specs.declared.lock.LockPoint.{LockPoint}
 use Rattle.nam_calls.specs.declared.lock.LockPoint.TheVariants.{Peek, Seize, GiveBack}
-use Rattle.nam_calls.specs.Fits.{LockFits}
+use Rattle.nam_calls.specs.Intent.{record_from}
 use Rattle.nam_calls.proofs.FieldLemmas.{install_field, slot_field, copy_field}
 use Rattle.nam_protocol.specs.declared.txn.TxnState.{TxnState}
 use Rattle.nam_protocol.specs.declared.txn.TxnAnswer.{TxnAnswer}
@@ -81,17 +82,18 @@ module _ (shape : Shape) (limits : FitsLimits shape) (state : TxnState) (fits : 
       point_address state intent_at at (target (commit_verb state at)) ≡ address shape (target (commit_verb state at))
 
   list_named : (at : ListPoint) → CommitFits shape state (Listing at) → Named (Listing at)
-  list_named (ListRow nth) c = of_intent (Listing (ListRow nth)) c c.2.3 _
-  list_named (ListKind nth) c = of_intent (Listing (ListKind nth)) c c.2.3 _
-  list_named (ListData nth word) c = of_intent (Listing (ListData nth word)) c c.2.3 _
-  list_named ListNumber c = of_intent (Listing ListNumber) c c.2.3 _
-  list_named ListState c = of_intent (Listing ListState) c c.2.3 _
+  list_named (ListRow nth) c = of_intent (Listing (ListRow nth)) c c.2.3 (record_from nth)
+  list_named (ListKind nth) c = of_intent (Listing (ListKind nth)) c c.2.3 (record_from nth + 1)
+  list_named (ListData nth word) c = of_intent (Listing (ListData nth word)) c c.2.3 (record_from nth + 3 + word)
+  list_named ListNumber c = of_intent (Listing ListNumber) c c.2.3 1
+  list_named ListState c = of_intent (Listing ListState) c c.2.3 0
 
   lock_named : (at : LockPoint) → CommitFits shape state (Locking at) → Named (Locking at)
-  lock_named Peek c = of_record c.0 (length state.held) _ c.2.0 (λ fit. refl)
-  lock_named (Seize header) c = of_record c.0 (length state.held) _ c.2.0 (λ fit. refl)
+  lock_named Peek c = of_record c.0 (length state.held) (target (commit_verb state (Locking Peek))) c.2.0 (λ fit. refl)
+  lock_named (Seize header) c = of_record c.0 (length state.held) (target (commit_verb state (Locking (Seize header)))) c.2.0
+      (λ fit. refl)
   lock_named (GiveBack given found) c =
-      of_record c.0 given _ (let m = c.2.0.0 in let n = c.2.0.1 in omega arith) (λ fit. refl)
+      of_record c.0 given (target (commit_verb state (Locking (GiveBack given found)))) (let m = c.2.0.0 in let n = c.2.0.1 in omega arith) (λ fit. refl)
 
   named : (at : CommitPoint) → CommitFits shape state at → Named at
   named (Listing at) c = list_named at c
@@ -100,9 +102,9 @@ module _ (shape : Shape) (limits : FitsLimits shape) (state : TxnState) (fits : 
       let nth = length state.counts in
       of_record c.0 nth (target (commit_verb state (Checking at))) (less (Checking at) c nth c.2.1)
       (λ fit. slot_field (record_place state nth) fit at)
-  named (Returning given full) c = of_record c.0 given _ c.2.1 (λ fit. refl)
-  named (Counting nth) c = of_intent (Counting nth) c c.2.3 _
-  named Deciding c = of_intent Deciding c c.2.2 _
+  named (Returning given full) c = of_record c.0 given (target (commit_verb state (Returning given full))) c.2.1 (λ fit. refl)
+  named (Counting nth) c = of_intent (Counting nth) c c.2.3 (record_from nth + 2)
+  named Deciding c = of_intent Deciding c c.2.2 0
   named (Saving nth got) c =
       of_record c.0 nth (target (commit_verb state (Saving nth got))) (less (Saving nth got) c nth c.2.2)
       (λ fit. (refl, c.2.3))
@@ -115,9 +117,9 @@ module _ (shape : Shape) (limits : FitsLimits shape) (state : TxnState) (fits : 
       (λ fit. install_field (record_place state nth) fit (value_at state nth) (slice_index state.counts nth)
       (new_header state nth) at c.2.3)
   named Publishing c = refl
-  named (Freeing nth) c = of_record c.0 nth _ c.2.3 (λ fit. refl)
-  named (Clearing refusal) c = of_intent (Clearing refusal) c c.2.2 _
-  named Ending c = of_intent Ending c c.2.2 _
+  named (Freeing nth) c = of_record c.0 nth (target (commit_verb state (Freeing nth))) c.2.3 (λ fit. refl)
+  named (Clearing refusal) c = of_intent (Clearing refusal) c c.2.2 0
+  named Ending c = of_intent Ending c c.2.2 0
 
   now_named : (now : Now CommitPoint TxnAnswer) → FitsNow (CommitFits shape state) now
       → verb_now (λ at. verb_by (point_address state intent_at at) (commit_verb state at)) now

@@ -5,7 +5,11 @@ ghost use Rattle.nam_verbs.specs.Now.{end_now};
 ghost use Rattle.nam_verbs.specs.Verb.{address_of};
 ghost use Rattle.nam_catalog.specs.declared.shape.Shape.{Shape};
 ghost use Rattle.nam_catalog.specs.Words.{words_of};
+ghost use Rattle.nam_catalog.specs.declared.form.Form.TheVariants.{Held};
+ghost use Rattle.nam_layout.specs.declared.field.Field.TheVariants.{Intent};
+ghost use Rattle.nam_layout.specs.Address.{IsWorker, address};
 ghost use Rattle.nam_protocol.specs.Commit.{ask_commit};
+ghost use Rattle.nam_commit.specs.Stands.{IntentStands};
 ghost use Rattle.nam_protocol.specs.TxnFits.{StateFits, commit_bound};
 ghost use Rattle.nam_commit.specs.Commits.{committed, resting, CommitsFit, CommitsStand, commits_verb, commits_after};
 ghost use Rattle.nam_commit.specs.Commits.{commits_left, number_of};
@@ -41,6 +45,18 @@ impl Model for Committer {
     ghost invariant = { λ a. IntentStands a.intent_at };
 }
 
+// Where a worker's intent begins, in the form that has intents.
+fn intent_at(layout: &Layout, worker: u32) -> u64
+    requires { IsWorker layout.now worker }
+    ensures value { layout.now.form ≡ Held → result ≡ address layout.now (Intent worker 0) }
+    ensures stands { IntentStands result }
+{
+    match layout.form() {
+        Form::Narrow | Form::Wide => 0,
+        Form::Held => layout.intent_at(worker),
+    }
+}
+
 impl Committer {
     /// No commit: it is over, as one that had nothing to commit.
     pub fn new() -> Committer
@@ -64,10 +80,7 @@ impl Committer {
     {
         // A layout's total says that the shape is within its limits.
         let _words = layout.total();
-        self.intent_at = match layout.form() {
-            Form::Narrow | Form::Wide => 0,
-            Form::Held => layout.intent_at(state.worker),
-        };
+        self.intent_at = intent_at(layout, state.worker);
         self.step = begin(layout, state);
     }
 

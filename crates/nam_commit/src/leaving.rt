@@ -52,8 +52,23 @@ fn rest_from(state: &TxnState, from: u32) -> u64
     installs_from(state, from) + publish_most(state)
 }
 
-// The rows, kinds and data of the records from the nth on.
-#[tactic(auto, using(crate::proofs::LeftLemmas::one_listed, crate::proofs::LeftLemmas::none_listed))]
+// The row, the kind and the data of a record.
+#[tactic(auto, using(crate::proofs::LeftLemmas::value_listed, crate::proofs::LeftLemmas::guard_listed))]
+fn listed(state: &TxnState, nth: u32) -> u64
+    requires placed { AllPlaced state.now }
+    requires within { nth < length state.now.records }
+    ensures value { listed_from state.now nth ≡ result + listed_from state.now (nth + 1) }
+    ensures few { result ≤ 10 }
+{
+    if (nth as usize) < state.writes.len() {
+        place_at(state, nth).width as u64 + 2
+    } else {
+        2
+    }
+}
+
+// The same of the records from one on.
+#[tactic(auto, using(crate::proofs::LeftLemmas::none_listed))]
 fn listed_from(state: &TxnState, from: u32) -> u64
     requires common { CommonStands state.now }
     requires placed { AllPlaced state.now }
@@ -61,14 +76,9 @@ fn listed_from(state: &TxnState, from: u32) -> u64
     ensures value { result ≡ listed_from state.now from }
     ensures few { result ≤ 160 }
 {
-    let written = state.writes.len();
     let mut total = 0;
     for nth in from..state.records.len() as u32 {
-        if (nth as usize) < written {
-            total += place_at(state, nth).width as u64 + 2;
-        } else {
-            total += 2;
-        }
+        total += listed(state, nth);
     }
     total
 }

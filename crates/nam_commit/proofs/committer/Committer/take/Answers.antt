@@ -1,5 +1,5 @@
 use Rattle.std.proofs.Common.{◌≡◌, sym, ◌∙◌, ap, subst}
-use Rattle.nam_commit.specs.Commits.{Commits, committed, commits_after}
+use Rattle.nam_commit.specs.Commits.{Commits, commits_after}
 use Rattle.nam_commit.specs.Stands.{NowStands}
 use Rattle.nam_commit.proofs.StandsLemmas.{commits_stand}
 use Rattle.nam_commit.proofs.KeptLemmas.{kept, falls}
@@ -12,18 +12,14 @@ step_after-self-inside-requires c =
 
 pub returns-clause-fit : goal.returns-clause-fit
 returns-clause-fit c shape fit =
-    let intent = ap (λ (a : Commits). a.intent_at) (sym c.self-2.view_is)
-    ∙ ap (λ (a : Commits). a.intent_at) c.self.view_is in
-    let goes = ap (committed c.step_after-self-inside.new.state) (sym c.self-2.view_is)
-    ∙ c.step_after-self-inside.ensures
+    let intent = ap (λ (a : Commits). a.intent_at) c.self.view_is in
+    let goes = c.step_after-self-inside.ensures
     ∙ ap (λ (a : Commits). commits_after c.args.state.now a.state c.args.found) c.self.view_is in
     (kept shape _ _ c.args.found _ _ fit c.requires.stands goes intent).0
 
 pub returns-clause-falls : goal.returns-clause-falls
 returns-clause-falls c =
-    let intent = ap (λ (a : Commits). a.intent_at) (sym c.self-2.view_is)
-    ∙ ap (λ (a : Commits). a.intent_at) c.self.view_is in
-    let goes = ap (committed c.step_after-self-inside.new.state) (sym c.self-2.view_is)
-    ∙ c.step_after-self-inside.ensures
+    let intent = ap (λ (a : Commits). a.intent_at) c.self.view_is in
+    let goes = c.step_after-self-inside.ensures
     ∙ ap (λ (a : Commits). commits_after c.args.state.now a.state c.args.found) c.self.view_is in
     falls _ _ c.args.found _ _ c.requires.fit c.requires.stands goes intent

@@ -19,6 +19,8 @@ mod locking;
 mod records;
 mod step;
 mod stepping;
+#[cfg(test)]
+mod tests;
 mod writing;
 
 pub use committer::Committer;

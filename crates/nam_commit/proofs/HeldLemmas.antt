@@ -50,7 +50,8 @@ lock_holds state (GiveBack given lost) found =
     back_holds state (Locking (GiveBack given lost)) found (given + 1) lost
 
 pub held_more : HeldLaw
-held_more state (Listing at) found = on_list_goes (Holds state (Listing at) found) state _ (λ next e. inl refl) (λ e. inl refl)
+held_more state (Listing at) found =
+    on_list_goes (Holds state (Listing at) found) state _ (λ next e. inl refl) (λ e. inl refl)
 held_more state (Locking at) found = lock_holds state at found
 held_more state (Checking at) found =
     on_slot_goes (Holds state (Checking at) found) state _ (λ next e. inl refl) (λ count e f t. inl refl)

@@ -20,7 +20,8 @@ use Rattle.nam_protocol.specs.declared.txn.CommitPoint.{CommitPoint}
 use Rattle.nam_protocol.specs.Txn.{Stepped}
 use Rattle.nam_protocol.specs.Commit.{commit_after, ask_commit}
 use Rattle.nam_protocol.specs.Bound.{commit_left, txn_left}
-use Rattle.nam_protocol.specs.TxnFits.{StateFits, CommitFits, TxnPointFits, TxnFalls, TxnBegins, AnswerFits, commit_bound}
+use Rattle.nam_protocol.specs.TxnFits.{StateFits, CommitFits, TxnPointFits, TxnFalls, TxnBegins, AnswerFits}
+use Rattle.nam_protocol.specs.TxnFits.{commit_bound}
 use Rattle.nam_protocol.proofs.FallsTxn.{txn_falls}
 use Rattle.nam_protocol.proofs.FallsBegins.{txn_begins}
 use Rattle.nam_protocol.proofs.GoesCommit.{commit_goes, ask_commit_goes}

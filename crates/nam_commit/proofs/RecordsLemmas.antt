@@ -1,6 +1,7 @@
 -- The records of a commit, as they are looked up and filled in.
 use Rattle.std.specs.Prelude.{slice_index, slice_index_or, Option, ◌==◌, if◌then◌else◌, IsTrue, ◌↔◌}
-use Rattle.std.proofs.Common.{◌≡◌, ℕ, ◌+◌, ◌<◌, ◌≤◌, List, [], ◌∷◌, ◌++◌, length, map, refl, sym, ap, subst, arith, ◌∙◌, true, false, Bool}
+use Rattle.std.proofs.Common.{◌≡◌, ℕ, ◌+◌, ◌<◌, ◌≤◌, List, [], ◌∷◌, ◌++◌, length, map, refl, sym, ap}
+use Rattle.std.proofs.Common.{arith, ◌∙◌, true, false, Bool}
 use Rattle.std.proofs.lemmas.Bool.{eqb-false, false≢true}
 use Rattle.std.proofs.lemmas.List.{get_or_read, length-map}
 use Rattle.si_model.specs.declared.row.Item.{Item}
@@ -52,7 +53,8 @@ pub begins : (shape : Shape) (state : TxnState) → StateFits shape state → (l
     ≡ at (committing state) (Committing (if has_intents shape.form then Listing list_begin else Locking lock_begin))
 begins shape state fits some left =
     let tells = tells_asked shape state fits (let e = eqb-false (length state.writes) 0 some in omega arith) in
-    rw some (rw left (ap (λ b. at (committing state) (Committing (if b then Listing list_begin else Locking lock_begin))) tells))
+    rw some (rw left (ap (λ b. at (committing state)
+    (Committing (if b then Listing list_begin else Locking lock_begin))) tells))
 
 pub begins_so : (shape : Shape) (state next : TxnState) (told : Bool) → StateFits shape state
     → (length state.writes == 0) ≡ false → (state.last == greatest_number shape.form) ≡ false

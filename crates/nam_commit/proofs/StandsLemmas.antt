@@ -23,7 +23,8 @@ use Rattle.nam_protocol.proofs.FallsKeys.{nth_fits, writes_within}
 use Rattle.nam_protocol.proofs.FewLemmas.{few_places}
 use Rattle.nam_protocol.proofs.GivesCommit.{commit_gives}
 use Rattle.nam_commit.specs.Commits.{Commits, CommitsFit, CommitsStand}
-use Rattle.nam_commit.specs.Stands.{CommonStands, RecordStands, WrittenStands, ListStands, PointStands, NowStands, NowPlaced}
+use Rattle.nam_commit.specs.Stands.{CommonStands, RecordStands, WrittenStands, ListStands, PointStands, NowStands}
+use Rattle.nam_commit.specs.Stands.{NowPlaced}
 
 greatest_most : (form : Form) → greatest_number form ≤ 35184372088831
 greatest_most Narrow = omega arith

@@ -35,8 +35,8 @@ use Rattle.nam_protocol.specs.declared.txn.CommitPoint.{CommitPoint}
 use Rattle.nam_protocol.specs.declared.txn.CommitPoint.TheVariants.{Locking, Checking, Returning, Saving, Copying}
 use Rattle.nam_protocol.specs.declared.txn.CommitPoint.TheVariants.{Installing, Publishing, Freeing}
 use Rattle.nam_protocol.specs.declared.txn.CommitPoint.TheVariants.{Listing, Counting, Deciding, Clearing, Ending}
-use Rattle.nam_protocol.specs.Commit.{commit_verb, records_of, record_place, value_at, own_stamp, new_header, has_intents}
-use Rattle.nam_protocol.specs.Commit.{tells_intent}
+use Rattle.nam_protocol.specs.Commit.{commit_verb, records_of, record_place, value_at, own_stamp, new_header}
+use Rattle.nam_protocol.specs.Commit.{tells_intent, has_intents}
 use Rattle.nam_protocol.specs.TxnFits.{StateFits, CommitFits}
 use Rattle.nam_protocol.proofs.FallsKeys.{nth_fits, writes_within, tells_by_form}
 use Rattle.nam_protocol.proofs.FieldLemmas.{placed, commit_at, reached_within}
@@ -44,7 +44,8 @@ use Rattle.nam_commit.specs.Commits.{Commits, CommitsFit, commits_verb}
 use Rattle.nam_commit.specs.Stands.{point_address, intent_address, lock_place}
 
 -- two ways to name words that agree on the verb's word
-by_target : (f g : Field → ℕ) (verb : VerbAt Field) → f (target verb) ≡ g (target verb) → verb_by f verb ≡ verb_by g verb
+by_target : (f g : Field → ℕ) (verb : VerbAt Field) → f (target verb) ≡ g (target verb)
+    → verb_by f verb ≡ verb_by g verb
 by_target f g (ReadAt at) e = ap (λ n. Read n) e
 by_target f g (WriteAt at word) e = ap (λ n. Write n word) e
 by_target f g (ExchangeAt at expect word) e = ap (λ n. Exchange n expect word) e
@@ -90,10 +91,12 @@ module _ (shape : Shape) (limits : FitsLimits shape) (state : TxnState) (fits : 
 
   lock_named : (at : LockPoint) → CommitFits shape state (Locking at) → Named (Locking at)
   lock_named Peek c = of_record c.0 (length state.held) (target (commit_verb state (Locking Peek))) c.2.0 (λ fit. refl)
-  lock_named (Seize header) c = of_record c.0 (length state.held) (target (commit_verb state (Locking (Seize header)))) c.2.0
+  lock_named (Seize header) c =
+      of_record c.0 (length state.held) (target (commit_verb state (Locking (Seize header)))) c.2.0
       (λ fit. refl)
   lock_named (GiveBack given found) c =
-      of_record c.0 given (target (commit_verb state (Locking (GiveBack given found)))) (let m = c.2.0.0 in let n = c.2.0.1 in omega arith) (λ fit. refl)
+      of_record c.0 given (target (commit_verb state (Locking (GiveBack given found))))
+      (let m = c.2.0.0 in let n = c.2.0.1 in omega arith) (λ fit. refl)
 
   named : (at : CommitPoint) → CommitFits shape state at → Named at
   named (Listing at) c = list_named at c
@@ -102,7 +105,8 @@ module _ (shape : Shape) (limits : FitsLimits shape) (state : TxnState) (fits : 
       let nth = length state.counts in
       of_record c.0 nth (target (commit_verb state (Checking at))) (less (Checking at) c nth c.2.1)
       (λ fit. slot_field (record_place state nth) fit at)
-  named (Returning given full) c = of_record c.0 given (target (commit_verb state (Returning given full))) c.2.1 (λ fit. refl)
+  named (Returning given full) c =
+      of_record c.0 given (target (commit_verb state (Returning given full))) c.2.1 (λ fit. refl)
   named (Counting nth) c = of_intent (Counting nth) c c.2.3 (record_from nth + 2)
   named Deciding c = of_intent Deciding c c.2.2 0
   named (Saving nth got) c =

@@ -106,7 +106,8 @@ fn list_next(state: &TxnState, nth: u32) -> Step
 /// The listing after its write. After the last the locks are taken.
 pub fn list_after(state: &TxnState, at: ListStep) -> Step
     requires at { ListStands state.now (list_of at) }
-    ensures { (words : List ℕ) → stepped_by state.now result words ≡ on_list state.now (list_after state.now (list_of at)) }
+    ensures { (words : List ℕ) → stepped_by state.now result words
+        ≡ on_list state.now (list_after state.now (list_of at)) }
 {
     let at = match at {
         ListStep::Row { nth } => ListStep::Kind { nth },

@@ -30,7 +30,8 @@ fn shape_of(form: Form) -> Shape
 }
 
 fn laid_out(form: Form) -> Option<Layout>
-    ensures { IfSome result (λ shape. (shape.workers ≡ 2) × (widths_of shape.tables ≡ 1 ∷ []) × (capacities_of shape.tables ≡ 2 ∷ [])) }
+    ensures { IfSome result (λ shape. (shape.workers ≡ 2) × (widths_of shape.tables ≡ 1 ∷ [])
+        × (capacities_of shape.tables ≡ 2 ∷ [])) }
 {
     let shape = shape_of(form);
     if check(&shape).is_err() {

@@ -12,7 +12,8 @@ pub returns-in-Narrow : goal.returns-in-Narrow
 returns-in-Narrow c words =
     let shape = c.args.layout.now in
     let state = c.args.state.now in
-    let some : (length state.writes == 0) ≡ false = some_written state.writes c.is_empty.result c.is_empty.ensures c.if-is_empty.false in
+    let some : (length state.writes == 0) ≡ false
+    = some_written state.writes c.is_empty.result c.is_empty.ensures c.if-is_empty.false in
     let left : (state.last == greatest_number shape.form) ≡ false
     = grind (arith, c.if-state-greatest.false, c.greatest.ensures, c.form-form.ensures) in
     let form : has_intents shape.form ≡ false = elim c.in-Narrow.is [
@@ -26,7 +27,8 @@ pub returns-in-Held : goal.returns-in-Held
 returns-in-Held c words =
     let shape = c.args.layout.now in
     let state = c.args.state.now in
-    let some : (length state.writes == 0) ≡ false = some_written state.writes c.is_empty.result c.is_empty.ensures c.if-is_empty.false in
+    let some : (length state.writes == 0) ≡ false
+    = some_written state.writes c.is_empty.result c.is_empty.ensures c.if-is_empty.false in
     let left : (state.last == greatest_number shape.form) ≡ false
     = grind (arith, c.if-state-greatest.false, c.greatest.ensures, c.form-form.ensures) in
     let form : has_intents shape.form ≡ true = ap has_intents (sym c.form-form.ensures ∙ c.in-Held.is) in

@@ -1,0 +1,202 @@
+-- A transaction and where its call stands: as a value, and by its registers.
+use Rattle.std.specs.Prelude.{◌≡◌, ℕ, ◌<◌, ◌≤◌, List, [], length, true, Option, Some, None, IsNone}
+use Rattle.si_model.specs.declared.op.Op.{Op}
+use Rattle.si_model.specs.declared.op.Op.TheVariants as op
+use Rattle.si_model.specs.Evaluation.{passes, op_key}
+use Rattle.si_model.specs.Operations.{op_claims}
+use Rattle.nam_verbs.specs.declared.verb.Verb.{Verb}
+use Rattle.nam_verbs.specs.declared.now.Now.{Now}
+use Rattle.nam_verbs.specs.declared.now.Now.TheVariants.{At, Over}
+use Rattle.nam_verbs.specs.Now.{verb_now, left_now, end_now}
+use Rattle.nam_catalog.specs.declared.shape.Shape.{Shape}
+use Rattle.nam_catalog.specs.Fits.{FitsLimits}
+use Rattle.nam_calls.specs.declared.index.Path.{Path}
+use Rattle.nam_calls.specs.declared.index.ClaimKeyPoint.TheVariants.{KeyLook, KeyTake}
+use Rattle.nam_calls.specs.declared.reading.Sight.{Sight}
+use Rattle.nam_calls.specs.declared.reading.ReadPoint.{ReadPoint}
+use Rattle.nam_calls.specs.declared.reading.ReadingEnd.{ReadingEnd}
+use Rattle.nam_calls.specs.Memory.{verb_there}
+use Rattle.nam_calls.specs.Words.{width_of, capacity_of}
+use Rattle.nam_calls.specs.Reading.{sight_of, read_begin, read_most, read_left}
+use Rattle.nam_calls.specs.Fits.{HasWidth, ReadFits}
+use Rattle.nam_protocol.specs.declared.txn.TxnCall.{TxnCall}
+use Rattle.nam_protocol.specs.declared.txn.TxnCall.TheVariants.{Get, Put, Add, Del, Need, Guard, Commit}
+use Rattle.nam_protocol.specs.declared.txn.TxnState.{TxnState}
+use Rattle.nam_protocol.specs.declared.txn.TxnPoint.{TxnPoint}
+use Rattle.nam_protocol.specs.declared.txn.TxnPoint.TheVariants.{Finding, Reading, Claiming, Committing}
+use Rattle.nam_protocol.specs.declared.txn.TxnAnswer.{TxnAnswer}
+use Rattle.nam_protocol.specs.declared.txn.TxnAnswer.TheVariants.{Astray, Committed, Locked, Newer, Full}
+use Rattle.nam_protocol.specs.Operations.{op_path, holding, value_in}
+use Rattle.nam_protocol.specs.Txn.{Stepped}
+use Rattle.nam_protocol.specs.TxnCalls.{txn_verb}
+use Rattle.nam_protocol.specs.Bound.{txn_left}
+use Rattle.nam_protocol.specs.TxnFits.{StateFits, OpStands, TxnPointFits, AnswerFits}
+use Rattle.nam_txn.specs.Walk.{IsWalk}
+use Rattle.nam_txn.specs.declared.registers.Registers.{Registers}
+use Rattle.nam_txn.specs.declared.step.Step.{Step}
+use Rattle.nam_txn.specs.declared.step.Step.TheVariants as step
+
+-- 1. A transaction as a value
+
+-- what is at hand of the shape: of the running operation its key's path, its table's width, how many verbs a read at a
+-- position of the table takes at the most, and where its read looks; and what the commit has beside the transaction
+pub record Hand : Type 0 where
+  pub path : Path
+  pub width : ℕ
+  pub read_most : ℕ
+
+-- the transaction, and where its call stands, where one was asked since the begin
+pub record Transacting : Type 0 where
+  pub state : TxnState
+  pub call : Option (Now TxnPoint TxnAnswer)
+  pub hand : Hand
+
+-- it has come to this step
+pub record IsAt (a : Transacting) (step : Stepped) : Type 0 where
+  pub state : a.state ≡ step.state
+  pub call : a.call ≡ Some step.call
+
+-- 2. In a store of a shape
+
+-- what is at hand is what the operation's key and table are in the shape
+pub record HasTable (shape : Shape) (hand : Hand) (op : Op) : Type 0 where
+  pub path : hand.path ≡ op_path shape op
+  pub width : hand.width ≡ width_of shape (op_key op).table
+  pub read_most : hand.read_most ≡ read_most shape (op_key op).table
+
+abbrev pub HandFits : Shape → TxnState → Hand → TxnPoint → Type 0
+HandFits shape state hand (Finding op passed) = HasTable shape hand op
+HandFits shape state hand (Reading op position at) =
+    HasTable shape hand op
+HandFits shape state hand (Claiming op at) = HasTable shape hand op
+HandFits shape state hand (Committing at) = Unit {0}
+
+-- only a commit holds locks, and its answer tells of them
+abbrev pub HeldFits : TxnState → Now TxnPoint TxnAnswer → Type 0
+HeldFits state (At (Committing at)) = Unit {0}
+HeldFits state (Over (Committed number)) = Unit {0}
+HeldFits state (Over (Locked lock)) = Unit {0}
+HeldFits state (Over (Newer lock)) = Unit {0}
+HeldFits state (Over (Full lock)) = Unit {0}
+HeldFits state _ = state.held ≡ []
+
+-- where no call was asked nothing was read
+abbrev pub CallFits : Shape → TxnState → Hand → Option (Now TxnPoint TxnAnswer) → Type 0
+CallFits shape state hand None = (state.held ≡ []) × (state.read ≡ None)
+CallFits shape state hand (Some (At at)) =
+    TxnPointFits shape state at × HandFits shape state hand at × HeldFits state (At at)
+CallFits shape state hand (Some (Over answer)) = AnswerFits shape.form answer × HeldFits state (Over answer)
+
+-- the transaction is one of a store of this shape
+pub record IsTxnOf (shape : Shape) (a : Transacting) : Type 0 where
+  pub limits : FitsLimits shape
+  pub fits : StateFits shape a.state
+  pub call : CallFits shape a.state a.hand a.call
+
+-- the verb that stands, at its address
+abbrev pub verb_of : Shape → TxnState → Option (Now TxnPoint TxnAnswer) → Option Verb
+verb_of shape state None = None
+verb_of shape state (Some now) = verb_now (λ at. verb_there shape (txn_verb shape state at)) now
+
+abbrev pub next_verb : Shape → Transacting → Option Verb
+next_verb shape a = verb_of shape a.state a.call
+
+-- how many verbs are to come at the most
+abbrev pub left_of : Shape → TxnState → Option (Now TxnPoint TxnAnswer) → ℕ
+left_of shape state None = 0
+left_of shape state (Some now) = left_now (txn_left shape state) now
+
+abbrev pub verbs_left : Shape → Transacting → ℕ
+verbs_left shape a = left_of shape a.state a.call
+
+-- a call runs
+abbrev pub Runs : Option (Now TxnPoint TxnAnswer) → Type 0
+Runs (Some (At at)) = Unit {0}
+Runs _ = ⊥
+
+-- none runs
+abbrev pub Rests : Option (Now TxnPoint TxnAnswer) → Type 0
+Rests (Some (At at)) = ⊥
+Rests _ = Unit {0}
+
+-- its answer, where it was answered
+abbrev pub answer_in : Option (Now TxnPoint TxnAnswer) → Option TxnAnswer
+answer_in None = None
+answer_in (Some now) = end_now now
+
+-- 3. By its registers
+
+-- the point of a read that is under way
+abbrev pub point_of : Now ReadPoint ReadingEnd → ReadPoint
+point_of (At at) = at
+point_of (Over end) = read_begin
+
+abbrev pub now_at : Step → Registers → Now TxnPoint TxnAnswer
+now_at step.Resting a = Over Astray
+now_at step.Finding a = At (Finding a.op a.walk.passed)
+now_at step.Reading a = Over Astray
+now_at step.KeyLook a = At (Claiming a.op (KeyLook a.walk.passed))
+now_at step.KeyTake a = At (Claiming a.op (KeyTake a.walk.passed))
+now_at step.Committing a = Over Astray
+now_at step.Answered a = Over a.answer
+
+abbrev pub call_at : Step → Registers → Option (Now TxnPoint TxnAnswer)
+call_at step.Resting a = None
+call_at step.Finding a = Some (now_at step.Finding a)
+call_at step.Reading a = Some (now_at step.Reading a)
+call_at step.KeyLook a = Some (now_at step.KeyLook a)
+call_at step.KeyTake a = Some (now_at step.KeyTake a)
+call_at step.Committing a = Some (now_at step.Committing a)
+call_at step.Answered a = Some (now_at step.Answered a)
+
+-- the transaction with the call that was asked
+abbrev pub stepped_of : Registers → Stepped
+stepped_of a = record { state = a.state; call = now_at a.step a }
+
+abbrev pub hand_of : Registers → Hand
+hand_of a = record {
+  path = a.walk.path;
+  width = a.width;
+  read_most = a.read_most;
+}
+
+abbrev pub value_of : Registers → Transacting
+value_of a = record { state = a.state; call = call_at a.step a; hand = hand_of a }
+
+-- what holds of the registers whatever the shape is: a read is under way with no more verbs to come than it takes at
+-- the most, an operation that claims passes, and a commit is one of some shape
+abbrev pub StepHolds : Step → Registers → Type 0
+StepHolds step.KeyLook a = passes a.op (holding (value_in a.state.read)) ≡ true
+StepHolds step.KeyTake a = passes a.op (holding (value_in a.state.read)) ≡ true
+StepHolds _ a = Unit {0}
+
+pub record Holds (a : Registers) : Type 0 where
+  pub walk : IsWalk a.walk
+  pub at : StepHolds a.step a
+
+-- 4. An operation runs
+
+pub record OpRuns (shape : Shape) (a : Registers) : Type 0 where
+  pub limits : FitsLimits shape
+  pub fits : StateFits shape a.state
+  pub stands : OpStands shape a.state.claims a.op
+  pub table : HasTable shape (hand_of a) a.op
+  pub walk : IsWalk a.walk
+
+-- it passes, and claims a position for its key
+pub record ClaimStands (shape : Shape) (a : Registers) : Type 0 where
+  pub wide : HasWidth (width_of shape (op_key a.op).table) (value_in a.state.read)
+  pub claims : op_claims a.op ≡ true
+  pub passes : passes a.op (holding (value_in a.state.read)) ≡ true
+
+-- it goes on with the shape at hand
+abbrev pub StepKeeps : Shape → Step → Registers → Type 0
+StepKeeps shape step.Finding a = HasTable shape (hand_of a) a.op
+StepKeeps shape step.Reading a = HasTable shape (hand_of a) a.op
+StepKeeps shape step.KeyLook a = HasTable shape (hand_of a) a.op
+StepKeeps shape step.KeyTake a = HasTable shape (hand_of a) a.op
+StepKeeps shape _ a = Unit {0}
+
+pub record Keeps (shape : Shape) (a : Registers) : Type 0 where
+  pub holds : Holds a
+  pub at : StepKeeps shape a.step a

@@ -15,6 +15,7 @@ use Rattle.nam_calls.specs.declared.index.ClaimKeyPoint.TheVariants.{KeyLook, Ke
 use Rattle.nam_calls.specs.declared.reading.Sight.{Sight}
 use Rattle.nam_calls.specs.declared.reading.ReadPoint.{ReadPoint}
 use Rattle.nam_calls.specs.declared.reading.ReadingEnd.{ReadingEnd}
+use Rattle.nam_calls.specs.declared.reading.ReadingEnd.TheVariants.{Got}
 use Rattle.nam_calls.specs.Memory.{verb_there}
 use Rattle.nam_calls.specs.Words.{width_of, capacity_of}
 use Rattle.nam_calls.specs.Reading.{sight_of, read_begin, read_most, read_left}
@@ -27,8 +28,8 @@ use Rattle.nam_protocol.specs.declared.txn.TxnPoint.TheVariants.{Finding, Readin
 use Rattle.nam_protocol.specs.declared.txn.TxnAnswer.{TxnAnswer}
 use Rattle.nam_protocol.specs.declared.txn.TxnAnswer.TheVariants.{Astray, Committed, Locked, Newer, Full}
 use Rattle.nam_protocol.specs.Operations.{op_path, holding, value_in}
-use Rattle.nam_protocol.specs.Txn.{Stepped}
-use Rattle.nam_protocol.specs.TxnCalls.{txn_verb}
+use Rattle.nam_protocol.specs.Txn.{Stepped, over}
+use Rattle.nam_protocol.specs.TxnCalls.{txn_verb, txn_after}
 use Rattle.nam_protocol.specs.Bound.{txn_left}
 use Rattle.nam_protocol.specs.TxnFits.{StateFits, OpStands, TxnPointFits, AnswerFits}
 use Rattle.nam_txn.specs.Walk.{IsWalk}
@@ -44,6 +45,7 @@ pub record Hand : Type 0 where
   pub path : Path
   pub width : ℕ
   pub read_most : ℕ
+  pub sight : Sight
 
 -- the transaction, and where its call stands, where one was asked since the begin
 pub record Transacting : Type 0 where
@@ -67,7 +69,7 @@ pub record HasTable (shape : Shape) (hand : Hand) (op : Op) : Type 0 where
 abbrev pub HandFits : Shape → TxnState → Hand → TxnPoint → Type 0
 HandFits shape state hand (Finding op passed) = HasTable shape hand op
 HandFits shape state hand (Reading op position at) =
-    HasTable shape hand op
+    HasTable shape hand op × (hand.sight ≡ sight_of shape (op_key op).table position)
 HandFits shape state hand (Claiming op at) = HasTable shape hand op
 HandFits shape state hand (Committing at) = Unit {0}
 
@@ -124,6 +126,21 @@ abbrev pub answer_in : Option (Now TxnPoint TxnAnswer) → Option TxnAnswer
 answer_in None = None
 answer_in (Some now) = end_now now
 
+-- what follows a word
+abbrev pub after_of : Shape → TxnState → Option (Now TxnPoint TxnAnswer) → ℕ → Stepped
+after_of shape state (Some (At at)) found = txn_after shape state at found
+after_of shape state _ found = over state Astray
+
+-- the operation of a call, and none of a commit
+abbrev pub asked_op : TxnCall → Option Op
+asked_op (Get t k) = Some (op.Get t k)
+asked_op (Put t k v) = Some (op.Put t k v)
+asked_op (Add t k f up by) = Some (op.Add t k f up by)
+asked_op (Del t k) = Some (op.Del t k)
+asked_op (Need t k f least) = Some (op.Need t k f least)
+asked_op (Guard t k) = Some (op.Guard t k)
+asked_op Commit = None
+
 -- 3. By its registers
 
 -- the point of a read that is under way
@@ -134,7 +151,7 @@ point_of (Over end) = read_begin
 abbrev pub now_at : Step → Registers → Now TxnPoint TxnAnswer
 now_at step.Resting a = Over Astray
 now_at step.Finding a = At (Finding a.op a.walk.passed)
-now_at step.Reading a = Over Astray
+now_at step.Reading a = At (Reading a.op a.walk.position (point_of a.reader.state))
 now_at step.KeyLook a = At (Claiming a.op (KeyLook a.walk.passed))
 now_at step.KeyTake a = At (Claiming a.op (KeyTake a.walk.passed))
 now_at step.Committing a = Over Astray
@@ -158,6 +175,7 @@ hand_of a = record {
   path = a.walk.path;
   width = a.width;
   read_most = a.read_most;
+  sight = a.reader.sight;
 }
 
 abbrev pub value_of : Registers → Transacting
@@ -166,6 +184,9 @@ value_of a = record { state = a.state; call = call_at a.step a; hand = hand_of a
 -- what holds of the registers whatever the shape is: a read is under way with no more verbs to come than it takes at
 -- the most, an operation that claims passes, and a commit is one of some shape
 abbrev pub StepHolds : Step → Registers → Type 0
+StepHolds step.Reading a =
+    (a.reader.state ≡ At (point_of a.reader.state))
+    × (read_left a.reader.sight (point_of a.reader.state) ≤ a.read_most)
 StepHolds step.KeyLook a = passes a.op (holding (value_in a.state.read)) ≡ true
 StepHolds step.KeyTake a = passes a.op (holding (value_in a.state.read)) ≡ true
 StepHolds _ a = Unit {0}
@@ -183,6 +204,19 @@ pub record OpRuns (shape : Shape) (a : Registers) : Type 0 where
   pub table : HasTable shape (hand_of a) a.op
   pub walk : IsWalk a.walk
 
+-- its read is under way
+pub record ReadStands (shape : Shape) (a : Registers) : Type 0 where
+  pub position : a.walk.position < capacity_of shape (op_key a.op).table
+  pub sight : a.reader.sight ≡ sight_of shape (op_key a.op).table a.walk.position
+  pub state : a.reader.state ≡ At (point_of a.reader.state)
+  pub fits : ReadFits (sight_of shape (op_key a.op).table a.walk.position) (point_of a.reader.state)
+  pub left : read_left a.reader.sight (point_of a.reader.state) ≤ a.read_most
+
+-- a value that was got has the width
+abbrev pub EndsWide : ℕ → Now ReadPoint ReadingEnd → Type 0
+EndsWide width (Over (Got value)) = HasWidth width value
+EndsWide width _ = Unit {0}
+
 -- it passes, and claims a position for its key
 pub record ClaimStands (shape : Shape) (a : Registers) : Type 0 where
   pub wide : HasWidth (width_of shape (op_key a.op).table) (value_in a.state.read)
@@ -192,11 +226,22 @@ pub record ClaimStands (shape : Shape) (a : Registers) : Type 0 where
 -- it goes on with the shape at hand
 abbrev pub StepKeeps : Shape → Step → Registers → Type 0
 StepKeeps shape step.Finding a = HasTable shape (hand_of a) a.op
-StepKeeps shape step.Reading a = HasTable shape (hand_of a) a.op
+StepKeeps shape step.Reading a =
+    HasTable shape (hand_of a) a.op × (a.reader.sight ≡ sight_of shape (op_key a.op).table a.walk.position)
 StepKeeps shape step.KeyLook a = HasTable shape (hand_of a) a.op
 StepKeeps shape step.KeyTake a = HasTable shape (hand_of a) a.op
-StepKeeps shape _ a = Unit {0}
+StepKeeps shape step.Resting a = ⊥
+StepKeeps shape step.Committing a = ⊥
+StepKeeps shape step.Answered a = Unit {0}
 
 pub record Keeps (shape : Shape) (a : Registers) : Type 0 where
   pub holds : Holds a
   pub at : StepKeeps shape a.step a
+
+-- what a step goes by
+abbrev pub Stands : Shape → Step → Registers → Type 0
+Stands shape step.Finding a = OpRuns shape a
+Stands shape step.Reading a = OpRuns shape a × ReadStands shape a
+Stands shape step.KeyLook a = OpRuns shape a × ClaimStands shape a
+Stands shape step.KeyTake a = OpRuns shape a × ClaimStands shape a
+Stands shape _ a = Unit {0}

@@ -3,6 +3,7 @@
 use crate::step::Step;
 use crate::walk::Walk;
 use nam_protocol::{TxnAnswer, TxnState};
+use nam_reader::Reader;
 use si_model::Op;
 
 /// A transaction, the step where its call stands, and what the steps need of the layout.
@@ -16,7 +17,8 @@ pub(crate) struct Registers {
     /// The width of its table.
     pub width: u32,
     /// How many verbs a read at a position of its table takes at the most.
-    pub read_most: u64,
+    pub read_most: u32,
+    pub reader: Reader,
     /// The last answer.
     pub answer: TxnAnswer,
 }

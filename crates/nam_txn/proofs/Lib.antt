@@ -3,3 +3,8 @@ pub mod WalkLemmas
 pub mod ValueLemmas
 pub mod RunLemmas
 pub mod ReadLemmas
+pub mod TableLemmas
+pub mod AskLemmas
+pub mod HeldLemmas
+pub mod StandLemmas
+pub mod VerbLemmas

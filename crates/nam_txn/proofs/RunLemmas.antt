@@ -10,7 +10,7 @@ use Rattle.nam_calls.specs.Fits.{IsTableOf, HasWidth}
 use Rattle.nam_protocol.specs.declared.txn.TxnState.{TxnState}
 use Rattle.nam_protocol.specs.Operations.{value_in, own_value}
 use Rattle.nam_protocol.specs.Txn.{with_claim, with_op, record_of, after_claim}
-use Rattle.nam_protocol.specs.TxnFits.{StateFits}
+use Rattle.nam_protocol.specs.TxnFits.{StateFits, OpStands}
 use Rattle.nam_protocol.specs.FewLaw.{FewKeys}
 use Rattle.nam_protocol.proofs.FallsKeys.{op_table, new_fits, own_fits, own_claimed}
 use Rattle.nam_protocol.proofs.FewLemmas.{few_keys}
@@ -57,20 +57,20 @@ module _ (shape : Shape) (a : Registers) (runs : OpRuns shape a) where
     pub guards_room : length (guards_after a.op a.state.guards) ≤ 16
     guards_room = few_after.guards
 
-  -- the same of a key that is written already
-  module _ (own : writes_key a.state.writes (op_key a.op) ≡ true)
-      (wide : HasWidth (width_of shape (op_key a.op).table) (value_in a.state.read)) where
-    few_own : FewKeys (with_op shape a.state a.op (value_in a.state.read))
-    few_own =
-        few_keys shape (with_op shape a.state a.op (value_in a.state.read))
-        (own_fits shape a.state.worker a.state.last a.state.seen a.state.claims a.state.writes a.state.guards runs.fits
-        a.op (value_in a.state.read) runs.stands.0
-        (own_claimed shape a.state.worker a.state.last a.state.seen a.state.claims a.state.writes a.state.guards
-        runs.fits (op_key a.op) own) wide)
+-- the same of a key that is written already
+module _ (shape : Shape) (a : Registers) (fits : StateFits shape a.state) (stands : OpStands shape a.state.claims a.op)
+    (width : a.width ≡ width_of shape (op_key a.op).table) (own : writes_key a.state.writes (op_key a.op) ≡ true)
+    (wide : HasWidth a.width (value_in a.state.read)) where
+  few_own : FewKeys (with_op shape a.state a.op (value_in a.state.read))
+  few_own =
+      few_keys shape (with_op shape a.state a.op (value_in a.state.read))
+      (own_fits shape a.state.worker a.state.last a.state.seen a.state.claims a.state.writes a.state.guards fits
+      a.op (value_in a.state.read) stands.0
+      (own_claimed shape a.state.worker a.state.last a.state.seen a.state.claims a.state.writes a.state.guards
+      fits (op_key a.op) own) (subst (λ w. HasWidth w (value_in a.state.read)) width wide))
 
-    pub own_writes_room : length (written_by a.width a.op (value_in a.state.read) a.state.writes) ≤ 16
-    own_writes_room =
-        rw (runs.table.width, written_is shape a.op (value_in a.state.read) a.state.writes) few_own.writes
+  pub own_writes_room : length (written_by a.width a.op (value_in a.state.read) a.state.writes) ≤ 16
+  own_writes_room = rw (width, written_is shape a.op (value_in a.state.read) a.state.writes) few_own.writes
 
-    pub own_guards_room : length (guards_after a.op a.state.guards) ≤ 16
-    own_guards_room = few_own.guards
+  pub own_guards_room : length (guards_after a.op a.state.guards) ≤ 16
+  own_guards_room = few_own.guards

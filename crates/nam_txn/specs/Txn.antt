@@ -9,6 +9,7 @@ use Rattle.nam_verbs.specs.declared.now.Now.{Now}
 use Rattle.nam_verbs.specs.declared.now.Now.TheVariants.{At, Over}
 use Rattle.nam_verbs.specs.Now.{verb_now, left_now, end_now}
 use Rattle.nam_catalog.specs.declared.shape.Shape.{Shape}
+use Rattle.nam_catalog.specs.Greatest.{greatest_number}
 use Rattle.nam_catalog.specs.Fits.{FitsLimits}
 use Rattle.nam_calls.specs.declared.index.Path.{Path}
 use Rattle.nam_calls.specs.declared.index.ClaimKeyPoint.TheVariants.{KeyLook, KeyTake}
@@ -19,7 +20,7 @@ use Rattle.nam_calls.specs.declared.reading.ReadingEnd.TheVariants.{Got}
 use Rattle.nam_calls.specs.Memory.{verb_there}
 use Rattle.nam_calls.specs.Words.{width_of, capacity_of}
 use Rattle.nam_calls.specs.Reading.{sight_of, read_begin, read_most, read_left}
-use Rattle.nam_calls.specs.Fits.{HasWidth, ReadFits}
+use Rattle.nam_calls.specs.Fits.{HasWidth, IsOf, ReadFits}
 use Rattle.nam_protocol.specs.declared.txn.TxnCall.{TxnCall}
 use Rattle.nam_protocol.specs.declared.txn.TxnCall.TheVariants.{Get, Put, Add, Del, Need, Guard, Commit}
 use Rattle.nam_protocol.specs.declared.txn.TxnState.{TxnState}
@@ -94,6 +95,13 @@ pub record IsTxnOf (shape : Shape) (a : Transacting) : Type 0 where
   pub limits : FitsLimits shape
   pub fits : StateFits shape a.state
   pub call : CallFits shape a.state a.hand a.call
+
+-- a new transaction of the worker is one of the store
+pub record CanBegin (shape : Shape) (worker last : ℕ) (seen : List ℕ) : Type 0 where
+  pub limits : FitsLimits shape
+  pub worker_is : IsOf shape.workers worker
+  pub last_is : last ≤ greatest_number shape.form
+  pub seen_is : length seen ≡ shape.workers
 
 -- the verb that stands, at its address
 abbrev pub verb_of : Shape → TxnState → Option (Now TxnPoint TxnAnswer) → Option Verb

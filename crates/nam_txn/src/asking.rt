@@ -1,6 +1,6 @@
 //! A call is asked.
 
-ghost use Rattle.std.specs.Prelude.{◌≡◌, length, true};
+ghost use Rattle.std.specs.Prelude.{◌≡◌, length, true, IsSome};
 ghost use Rattle.si_model.specs.Rows.{writes_key};
 ghost use Rattle.si_model.specs.Evaluation.{op_key};
 ghost use Rattle.nam_catalog.specs.Fits.{FitsLimits};
@@ -9,7 +9,8 @@ ghost use Rattle.nam_calls.specs.Reading.{read_most};
 ghost use Rattle.nam_calls.specs.Fits.{HasWidth, IsTableOf};
 ghost use Rattle.nam_protocol.specs.Operations.{value_in};
 ghost use Rattle.nam_protocol.specs.Txn.{ask_op, with_own};
-ghost use Rattle.nam_protocol.specs.TxnFits.{StateFits, OpStands};
+ghost use Rattle.nam_protocol.specs.TxnCalls.{txn_ask};
+ghost use Rattle.nam_protocol.specs.TxnFits.{StateFits, OpStands, TxnCallFits};
 ghost use Rattle.nam_txn.specs.Txn.{stepped_of, asked_op, Keeps};
 ghost use Rattle.nam_txn.specs.Walk.{IsWalk};
 
@@ -23,7 +24,7 @@ use nam_protocol::{TxnAnswer, TxnCall};
 use si_model::{Op, copy_value};
 
 /// The operation of a call, and none of a commit.
-pub(crate) fn op_of(call: &TxnCall) -> Option<Op>
+fn op_of(call: &TxnCall) -> Option<Op>
     ensures { result ≡ asked_op call.now }
 {
     Some(match call {
@@ -73,8 +74,27 @@ pub(crate) fn op_of(call: &TxnCall) -> Option<Op>
 }
 
 impl Registers {
-    /// Asks the operation at hand. A key of the write set takes no verb.
-    pub fn ask_op(&mut self, layout: &Layout)
+    /// Asks a call.
+    #[inline(never)]
+    pub fn ask(&mut self, layout: &Layout, call: &TxnCall)
+        requires walk { IsWalk self.old.walk }
+        requires fits { StateFits layout.now self.old.state }
+        requires op { IsSome (asked_op call.now) }
+        requires call { TxnCallFits layout.now self.old.state call.now }
+        ensures value { stepped_of self.new ≡ txn_ask layout.now self.old.state call.now }
+        ensures keeps { Keeps layout.now self.new }
+    {
+        match op_of(call) {
+            Some(op) => {
+                self.op = op;
+                self.ask_op(layout);
+            }
+            None => unreachable!(),
+        }
+    }
+
+    // Asks the operation at hand. A key of the write set takes no verb.
+    fn ask_op(&mut self, layout: &Layout)
         requires walk { IsWalk self.old.walk }
         requires fits { StateFits layout.now self.old.state }
         requires stands { OpStands layout.now self.old.state.claims self.old.op }
@@ -111,17 +131,18 @@ impl Registers {
         } }
     {
         let place = layout.place(table, 0);
-        let cells = layout.cells(0).cells;
+        let cells = layout.cells(0);
         let workers = self.state.seen.len() as u32;
         self.width = place.width;
         self.read_most = 4
             + place.width
             + 2 * (place.ring * (place.width + 3))
-            + cells * (place.width + 5)
+            + cells.cells * (place.width + 5)
             + workers;
     }
 
     // Does the operation on what the write set has of its key.
+    #[inline(never)]
     fn do_own(&mut self, layout: &Layout)
         requires limits { FitsLimits layout.now }
         requires walk { IsWalk self.old.walk }

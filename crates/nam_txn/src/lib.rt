@@ -2,6 +2,7 @@
 #![tactic(auto)]
 
 mod asking;
+mod beginning;
 mod change;
 mod claiming;
 mod deciding;
@@ -9,4 +10,8 @@ mod finding;
 mod keys;
 mod registers;
 mod step;
+mod stepping;
+mod txn;
 mod walk;
+
+pub use txn::Txn;

@@ -2,6 +2,7 @@
 use Rattle.std.proofs.Common.{◌≡◌, ℕ, List, [], refl, sym, subst, inl, inr, Option, None}
 use Rattle.si_model.specs.declared.op.Op.{Op}
 use Rattle.si_model.specs.declared.op.Op.TheVariants as op
+use Rattle.si_model.specs.Evaluation.{op_key}
 use Rattle.nam_verbs.specs.declared.now.Now.TheVariants.{At, Over}
 use Rattle.nam_catalog.specs.declared.shape.Shape.{Shape}
 use Rattle.nam_calls.specs.Reading.{read_begin}
@@ -12,7 +13,8 @@ use Rattle.nam_protocol.specs.declared.txn.TxnPoint.{TxnPoint}
 use Rattle.nam_protocol.specs.declared.txn.TxnPoint.TheVariants.{Finding, Reading, Claiming, Committing}
 use Rattle.nam_protocol.specs.declared.txn.TxnAnswer.{TxnAnswer}
 use Rattle.nam_protocol.specs.declared.txn.TxnAnswer.TheVariants as answer
-use Rattle.nam_protocol.specs.Txn.{Stepped, ask_op}
+use Rattle.nam_protocol.specs.Operations.{own_value, answer_of}
+use Rattle.nam_protocol.specs.Txn.{Stepped, ask_op, with_op, after_claim}
 use Rattle.nam_protocol.specs.TxnCalls.{txn_ask, txn_after}
 use Rattle.nam_protocol.specs.declared.txn.CommitPoint.{CommitPoint}
 use Rattle.nam_protocol.specs.declared.txn.CommitPoint.TheVariants.{Locking, Checking, Returning, Saving, Copying}
@@ -20,7 +22,7 @@ use Rattle.nam_protocol.specs.declared.txn.CommitPoint.TheVariants.{Installing, 
 use Rattle.nam_protocol.specs.declared.txn.CommitPoint.TheVariants.{Listing, Counting, Deciding, Clearing, Ending}
 use Rattle.nam_protocol.specs.declared.txn.Refusal.TheVariants as refusal
 use Rattle.nam_protocol.proofs.GoesCommit.{EndsAs, commit_goes, ask_commit_goes}
-use Rattle.nam_protocol.proofs.GoesTxn.{ask_goes, finding_goes, reading_goes, claiming_goes}
+use Rattle.nam_protocol.proofs.GoesTxn.{knowing, ask_goes, finding_goes, reading_goes, claiming_goes}
 use Rattle.nam_txn.specs.Txn.{HeldFits}
 
 abbrev HeldStep : Stepped → Type 0
@@ -65,19 +67,21 @@ held_end state Ending end is = subst (λ e. HeldFits state (Over e)) (sym is) tt
 module _ (shape : Shape) where
   held_asked_op : (state : TxnState) (o : Op) → state.held ≡ [] → HeldStep (ask_op shape state o)
   held_asked_op state o none =
-      ask_goes shape HeldStep o state (λ e f. none) (λ e f. held_any _ _ none) (λ e f. none) (λ e f. none)
+      let own = own_value state.writes (op_key o) in
+      ask_goes shape HeldStep o state (λ e f. none)
+      (λ e f. held_any (with_op shape (knowing state o own) o own) (answer_of o own) none) (λ e f. none) (λ e f. none)
 
   pub held_after : (state : TxnState) (at : TxnPoint) (found : ℕ) → HeldFits state (At at)
       → HeldStep (txn_after shape state at found)
   held_after state (Finding o passed) found none =
       finding_goes shape HeldStep o state passed found (λ next e. none) (λ position e. none) (λ e f. none)
-      (λ e end silent. held_any _ end none)
+      (λ e end silent. held_any (knowing state o None) end none)
   held_after state (Reading o position place) found none =
       reading_goes shape HeldStep o state position place found (λ next e. none) (λ value e f. none)
-      (λ value e end silent. held_any _ end none) (λ worker entry horizon e. none) (λ e. none)
+      (λ value e end silent. held_any (knowing state o value) end none) (λ worker entry horizon e. none) (λ e. none)
   held_after state (Claiming o place) found none =
       claiming_goes shape HeldStep o state place found (λ next e. none) (λ e. none)
-      (λ position e end silent is. held_any _ end none)
+      (λ position e end silent is. held_any (after_claim shape state o position) end none)
   held_after state (Committing place) found held =
       commit_goes HeldStep state place found (λ next goes. tt) (λ header next is goes. tt)
       (λ at count next is goes. tt) (λ end ends. held_end state place end ends)

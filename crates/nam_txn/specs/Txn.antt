@@ -33,6 +33,7 @@ use Rattle.nam_protocol.specs.Txn.{Stepped, over}
 use Rattle.nam_protocol.specs.TxnCalls.{txn_verb, txn_after}
 use Rattle.nam_protocol.specs.Bound.{txn_left}
 use Rattle.nam_protocol.specs.TxnFits.{StateFits, OpStands, TxnPointFits, AnswerFits}
+use Rattle.nam_commit.specs.Commits.{Commits, CommitsFit, CommitsStand, call_of}
 use Rattle.nam_txn.specs.Walk.{IsWalk}
 use Rattle.nam_txn.specs.declared.registers.Registers.{Registers}
 use Rattle.nam_txn.specs.declared.step.Step.{Step}
@@ -47,6 +48,7 @@ pub record Hand : Type 0 where
   pub width : ℕ
   pub read_most : ℕ
   pub sight : Sight
+  pub commits : Commits
 
 -- the transaction, and where its call stands, where one was asked since the begin
 pub record Transacting : Type 0 where
@@ -72,7 +74,7 @@ HandFits shape state hand (Finding op passed) = HasTable shape hand op
 HandFits shape state hand (Reading op position at) =
     HasTable shape hand op × (hand.sight ≡ sight_of shape (op_key op).table position)
 HandFits shape state hand (Claiming op at) = HasTable shape hand op
-HandFits shape state hand (Committing at) = Unit {0}
+HandFits shape state hand (Committing at) = CommitsFit shape state hand.commits
 
 -- only a commit holds locks, and its answer tells of them
 abbrev pub HeldFits : TxnState → Now TxnPoint TxnAnswer → Type 0
@@ -162,7 +164,7 @@ now_at step.Finding a = At (Finding a.op a.walk.passed)
 now_at step.Reading a = At (Reading a.op a.walk.position (point_of a.reader.state))
 now_at step.KeyLook a = At (Claiming a.op (KeyLook a.walk.passed))
 now_at step.KeyTake a = At (Claiming a.op (KeyTake a.walk.passed))
-now_at step.Committing a = Over Astray
+now_at step.Committing a = call_of a.committer.state
 now_at step.Answered a = Over a.answer
 
 abbrev pub call_at : Step → Registers → Option (Now TxnPoint TxnAnswer)
@@ -184,6 +186,7 @@ hand_of a = record {
   width = a.width;
   read_most = a.read_most;
   sight = a.reader.sight;
+  commits = a.committer;
 }
 
 abbrev pub value_of : Registers → Transacting
@@ -197,6 +200,7 @@ StepHolds step.Reading a =
     × (read_left a.reader.sight (point_of a.reader.state) ≤ a.read_most)
 StepHolds step.KeyLook a = passes a.op (holding (value_in a.state.read)) ≡ true
 StepHolds step.KeyTake a = passes a.op (holding (value_in a.state.read)) ≡ true
+StepHolds step.Committing a = IsNone (end_now a.committer.state) × CommitsStand a.state a.committer
 StepHolds _ a = Unit {0}
 
 pub record Holds (a : Registers) : Type 0 where
@@ -238,8 +242,8 @@ StepKeeps shape step.Reading a =
     HasTable shape (hand_of a) a.op × (a.reader.sight ≡ sight_of shape (op_key a.op).table a.walk.position)
 StepKeeps shape step.KeyLook a = HasTable shape (hand_of a) a.op
 StepKeeps shape step.KeyTake a = HasTable shape (hand_of a) a.op
+StepKeeps shape step.Committing a = CommitsFit shape a.state a.committer
 StepKeeps shape step.Resting a = ⊥
-StepKeeps shape step.Committing a = ⊥
 StepKeeps shape step.Answered a = Unit {0}
 
 pub record Keeps (shape : Shape) (a : Registers) : Type 0 where
@@ -252,4 +256,5 @@ Stands shape step.Finding a = OpRuns shape a
 Stands shape step.Reading a = OpRuns shape a × ReadStands shape a
 Stands shape step.KeyLook a = OpRuns shape a × ClaimStands shape a
 Stands shape step.KeyTake a = OpRuns shape a × ClaimStands shape a
+Stands shape step.Committing a = CommitsFit shape a.state a.committer × IsNone (end_now a.committer.state)
 Stands shape _ a = Unit {0}

@@ -94,4 +94,4 @@ module _ (shape : Shape) where
   held_asked state (Need t k f least) none = held_asked_op state (op.Need t k f least) none
   held_asked state (Guard t k) none = held_asked_op state (op.Guard t k) none
   held_asked state Commit none =
-      ask_commit_goes HeldStep state shape (λ e. none) (λ e f. none) (λ e f. tt)
+      ask_commit_goes HeldStep state shape (λ e. none) (λ e f. none) (λ e f g. tt) (λ e f g. tt)

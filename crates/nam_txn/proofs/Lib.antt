@@ -8,3 +8,4 @@ pub mod AskLemmas
 pub mod HeldLemmas
 pub mod StandLemmas
 pub mod VerbLemmas
+pub mod OwnLemmas

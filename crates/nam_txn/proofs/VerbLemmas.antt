@@ -23,7 +23,7 @@ use Rattle.nam_calls.specs.declared.reading.ReadPoint.{ReadPoint}
 use Rattle.nam_calls.specs.Words.{capacity_of, key_word}
 use Rattle.nam_calls.specs.Index.{nth_key}
 use Rattle.nam_calls.specs.Memory.{verb_there}
-use Rattle.nam_calls.specs.Reading.{sight_of, read_verb, read_left}
+use Rattle.nam_calls.specs.Reading.{sight_of, read_verb, read_left, read_most}
 use Rattle.nam_calls.specs.Fits.{ReadFits}
 use Rattle.nam_calls.proofs.FallsTables.{sight_fits}
 use Rattle.nam_calls.proofs.FieldLemmas.{read_field}
@@ -103,24 +103,30 @@ module _ (shape : Shape) (a : Registers) (runs : OpRuns shape a) where
   module _ (claim : ℕ) (is : claim ≡ (if op_claims a.op then 2 * a.walk.path.capacity else 0)) where
     pub find_left_is : (a.walk.path.capacity - a.walk.passed) + (a.read_most + claim)
         ≡ txn_left shape a.state (Finding a.op a.walk.passed)
-    find_left_is = rw (is, runs.table.path, runs.table.read_most) refl
+    find_left_is =
+        let most : claim ≡ (if op_claims a.op then 2 * capacity_of shape (op_key a.op).table else 0) =
+        is ∙ ap (λ p. if op_claims a.op then 2 * p.capacity else 0) runs.table.path in
+        rw (most, runs.table.read_most)
+        (ap (λ n. (n - a.walk.passed) + (read_most shape (op_key a.op).table
+        + (if op_claims a.op then 2 * capacity_of shape (op_key a.op).table else 0))) (capacity_is shape a runs))
 
     pub read_left_is : ReadStands shape a → (left : ℕ)
-        → left ≡ running_call.verbs_left (running a.state.seen a.reader)
+        → left ≡ read_left a.reader.sight (point_of a.reader.state)
         → left + claim ≡ txn_left shape a.state (Reading a.op a.walk.position (point_of a.reader.state))
     read_left_is reads left same =
-        let at = ap (left_now (read_left a.reader.sight)) reads.state in
         let there = ap (λ s. read_left s (point_of a.reader.state)) reads.sight in
-        rw (is, runs.table.path) (ap (λ n. n + (if op_claims a.op then 2 * capacity_of shape (op_key a.op).table else 0))
-        (same ∙ at ∙ there))
+        let most : claim ≡ (if op_claims a.op then 2 * capacity_of shape (op_key a.op).table else 0) =
+        is ∙ ap (λ p. if op_claims a.op then 2 * p.capacity else 0) runs.table.path in
+        ap (λ n. n + claim) (same ∙ there)
+        ∙ ap (λ n. read_left (sight_of shape (op_key a.op).table a.walk.position) (point_of a.reader.state) + n) most
 
   pub look_left_is : 2 * (a.walk.path.capacity - a.walk.passed - 1) + 2
       ≡ txn_left shape a.state (Claiming a.op (KeyLook a.walk.passed))
-  look_left_is = rw runs.table.path refl
+  look_left_is = ap (λ n. 2 * (n - a.walk.passed - 1) + 2) (capacity_is shape a runs)
 
   pub take_left_is : 2 * (a.walk.path.capacity - a.walk.passed - 1) + 1
       ≡ txn_left shape a.state (Claiming a.op (KeyTake a.walk.passed))
-  take_left_is = rw runs.table.path refl
+  take_left_is = ap (λ n. 2 * (n - a.walk.passed - 1) + 1) (capacity_is shape a runs)
 
 -- 3. A verb that stands is at a word of the store
 

@@ -1,9 +1,9 @@
 -- A transaction and where its call stands: as a value, and by its registers.
-use Rattle.std.specs.Prelude.{◌≡◌, ℕ, ◌<◌, ◌≤◌, List, [], length, true, Option, Some, None, IsNone}
+use Rattle.std.specs.Prelude.{◌≡◌, ℕ, ◌<◌, ◌≤◌, List, [], length, true, Option, Some, None, IsNone, if◌then◌else◌}
 use Rattle.si_model.specs.declared.op.Op.{Op}
 use Rattle.si_model.specs.declared.op.Op.TheVariants as op
 use Rattle.si_model.specs.Evaluation.{passes, op_key}
-use Rattle.si_model.specs.Operations.{op_claims}
+use Rattle.si_model.specs.Operations.{op_claims, op_reads}
 use Rattle.nam_verbs.specs.declared.verb.Verb.{Verb}
 use Rattle.nam_verbs.specs.declared.now.Now.{Now}
 use Rattle.nam_verbs.specs.declared.now.Now.TheVariants.{At, Over}
@@ -19,6 +19,7 @@ use Rattle.nam_calls.specs.declared.reading.ReadingEnd.{ReadingEnd}
 use Rattle.nam_calls.specs.declared.reading.ReadingEnd.TheVariants.{Got}
 use Rattle.nam_calls.specs.Memory.{verb_there}
 use Rattle.nam_calls.specs.Words.{width_of, capacity_of}
+use Rattle.nam_calls.specs.Index.{find_begin, claim_key_begin}
 use Rattle.nam_calls.specs.Reading.{sight_of, read_begin, read_most, read_left}
 use Rattle.nam_calls.specs.Fits.{HasWidth, IsOf, ReadFits}
 use Rattle.nam_protocol.specs.declared.txn.TxnCall.{TxnCall}
@@ -28,8 +29,8 @@ use Rattle.nam_protocol.specs.declared.txn.TxnPoint.{TxnPoint}
 use Rattle.nam_protocol.specs.declared.txn.TxnPoint.TheVariants.{Finding, Reading, Claiming, Committing}
 use Rattle.nam_protocol.specs.declared.txn.TxnAnswer.{TxnAnswer}
 use Rattle.nam_protocol.specs.declared.txn.TxnAnswer.TheVariants.{Astray, Committed, Locked, Newer, Full}
-use Rattle.nam_protocol.specs.Operations.{op_path, holding, value_in}
-use Rattle.nam_protocol.specs.Txn.{Stepped, over}
+use Rattle.nam_protocol.specs.Operations.{op_path, holding, value_in, own_value, read_of}
+use Rattle.nam_protocol.specs.Txn.{Stepped, at, over, with_own}
 use Rattle.nam_protocol.specs.TxnCalls.{txn_verb, txn_after}
 use Rattle.nam_protocol.specs.Bound.{txn_left}
 use Rattle.nam_protocol.specs.TxnFits.{StateFits, OpStands, TxnPointFits, AnswerFits}
@@ -57,9 +58,9 @@ pub record Transacting : Type 0 where
   pub hand : Hand
 
 -- it has come to this step
-pub record IsAt (a : Transacting) (step : Stepped) : Type 0 where
-  pub state : a.state ≡ step.state
-  pub call : a.call ≡ Some step.call
+pub record IsAt (a : Transacting) (s : Stepped) : Type 0 where
+  pub state : a.state ≡ s.state
+  pub call : a.call ≡ Some s.call
 
 -- 2. In a store of a shape
 
@@ -150,6 +151,16 @@ asked_op (Del t k) = Some (op.Del t k)
 asked_op (Need t k f least) = Some (op.Need t k f least)
 asked_op (Guard t k) = Some (op.Guard t k)
 asked_op Commit = None
+
+-- an operation on a key of the write set, and on another
+abbrev pub own_step : Shape → TxnState → Op → Stepped
+own_step shape state op =
+    let own = own_value state.writes (op_key op) in with_own shape (record state { read = read_of op own }) op own
+
+abbrev pub verbs_step : TxnState → Op → Stepped
+verbs_step state op =
+    if op_reads op then at (record state { read = None }) (Finding op find_begin)
+    else at (record state { read = None }) (Claiming op claim_key_begin)
 
 -- 3. By its registers
 

@@ -1,8 +1,9 @@
 //! A call is asked.
 
-ghost use Rattle.std.specs.Prelude.{◌≡◌, length, true, IsSome};
+ghost use Rattle.std.specs.Prelude.{◌≡◌, ◌<◌, length, true, Some};
 ghost use Rattle.si_model.specs.Rows.{writes_key};
 ghost use Rattle.si_model.specs.Evaluation.{op_key};
+ghost use Rattle.si_model.specs.Places.{place_of};
 ghost use Rattle.nam_catalog.specs.Fits.{FitsLimits};
 ghost use Rattle.nam_calls.specs.Words.{width_of};
 ghost use Rattle.nam_calls.specs.Reading.{read_most};
@@ -11,7 +12,7 @@ ghost use Rattle.nam_protocol.specs.Operations.{value_in};
 ghost use Rattle.nam_protocol.specs.Txn.{ask_op, with_own};
 ghost use Rattle.nam_protocol.specs.TxnCalls.{txn_ask};
 ghost use Rattle.nam_protocol.specs.TxnFits.{StateFits, OpStands, TxnCallFits};
-ghost use Rattle.nam_txn.specs.Txn.{stepped_of, asked_op, Keeps};
+ghost use Rattle.nam_txn.specs.Txn.{stepped_of, asked_op, own_step, verbs_step, Keeps};
 ghost use Rattle.nam_txn.specs.Walk.{IsWalk};
 
 use crate::change::{answer_of, change, passes};
@@ -79,44 +80,82 @@ impl Registers {
     pub fn ask(&mut self, layout: &Layout, call: &TxnCall)
         requires walk { IsWalk self.old.walk }
         requires fits { StateFits layout.now self.old.state }
-        requires op { IsSome (asked_op call.now) }
         requires call { TxnCallFits layout.now self.old.state call.now }
         ensures value { stepped_of self.new ≡ txn_ask layout.now self.old.state call.now }
         ensures keeps { Keeps layout.now self.new }
     {
         match op_of(call) {
-            Some(op) => {
-                self.op = op;
-                self.ask_op(layout);
-            }
-            None => unreachable!(),
+            Some(op) => self.ask_op(layout, op),
+            None => self.ask_commit(layout),
         }
     }
 
-    // Asks the operation at hand. A key of the write set takes no verb.
-    fn ask_op(&mut self, layout: &Layout)
+    fn ask_op(&mut self, layout: &Layout, op: Op)
         requires walk { IsWalk self.old.walk }
         requires fits { StateFits layout.now self.old.state }
-        requires stands { OpStands layout.now self.old.state.claims self.old.op }
-        ensures value { stepped_of self.new ≡ ask_op layout.now self.old.state self.old.op }
+        requires stands { OpStands layout.now self.old.state.claims op }
+        ensures value { stepped_of self.new ≡ ask_op layout.now self.old.state op }
         ensures keeps { Keeps layout.now self.new }
     {
         // A layout's total says that the shape is within its limits.
         let _words = layout.total();
+        let table = op.key().table;
+        self.op = op;
+        self.see_table(layout, table);
+        self.begin_op(layout);
+    }
+
+    // A key of the write set takes no verb.
+    fn begin_op(&mut self, layout: &Layout)
+        requires limits { FitsLimits layout.now }
+        requires walk { IsWalk self.old.walk }
+        requires fits { StateFits layout.now self.old.state }
+        requires stands { OpStands layout.now self.old.state.claims self.old.op }
+        requires width { self.old.width ≡ width_of layout.now (op_key self.old.op).table }
+        requires read_most { self.old.read_most ≡ read_most layout.now (op_key self.old.op).table }
+        ensures value { stepped_of self.new ≡ ask_op layout.now self.old.state self.old.op }
+        ensures keeps { Keeps layout.now self.new }
+    {
         let key = self.op.key();
-        self.see_table(layout, key.table);
-        if let Some(place) = place_written(self.state.writes.as_slice(), key) {
-            let own = copy_value(&self.state.writes.at(place).value);
-            self.state.read = read_of(&self.op, own);
-            self.do_own(layout);
+        match place_written(self.state.writes.as_slice(), key) {
+            Some(place) => self.read_own(layout, place),
+            None => self.begin_verbs(layout),
+        }
+    }
+
+    // The write set's value of the key is what is read.
+    fn read_own(&mut self, layout: &Layout, place: usize)
+        requires limits { FitsLimits layout.now }
+        requires walk { IsWalk self.old.walk }
+        requires fits { StateFits layout.now self.old.state }
+        requires stands { OpStands layout.now self.old.state.claims self.old.op }
+        requires width { self.old.width ≡ width_of layout.now (op_key self.old.op).table }
+        requires place { place_of self.old.state.writes (op_key self.old.op) ≡ Some place }
+        requires within { place < length self.old.state.writes }
+        ensures value { stepped_of self.new ≡ own_step layout.now self.old.state self.old.op }
+        ensures keeps { Keeps layout.now self.new }
+    {
+        let own = copy_value(&self.state.writes.at(place).value);
+        self.state.read = read_of(&self.op, own);
+        self.do_own(layout);
+    }
+
+    // The first verb is at the first position of the key's path.
+    fn begin_verbs(&mut self, layout: &Layout)
+        requires limits { FitsLimits layout.now }
+        requires stands { OpStands layout.now self.old.state.claims self.old.op }
+        requires width { self.old.width ≡ width_of layout.now (op_key self.old.op).table }
+        requires read_most { self.old.read_most ≡ read_most layout.now (op_key self.old.op).table }
+        ensures value { stepped_of self.new ≡ verbs_step self.old.state self.old.op }
+        ensures keeps { Keeps layout.now self.new }
+    {
+        let key = self.op.key();
+        self.state.read = None;
+        self.walk.begin(layout, key.table, key.key);
+        if self.op.key_read().is_some() {
+            self.step = Step::Finding;
         } else {
-            self.state.read = None;
-            self.walk.begin(layout, key.table, key.key);
-            self.step = if self.op.key_read().is_some() {
-                Step::Finding
-            } else {
-                Step::KeyLook
-            };
+            self.step = Step::KeyLook;
         }
     }
 

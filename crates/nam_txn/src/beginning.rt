@@ -9,6 +9,7 @@ use crate::registers::Registers;
 use crate::step::Step;
 use crate::walk::Walk;
 use lists::ShortList;
+use nam_commit::Committer;
 use nam_protocol::{TxnAnswer, TxnState};
 use nam_reader::Reader;
 use si_model::{Op, Snapshot};
@@ -48,6 +49,7 @@ impl Registers {
             width: 0,
             read_most: 0,
             reader: Reader::new(),
+            committer: Committer::new(),
             answer: TxnAnswer::ReadOnly,
         }
     }

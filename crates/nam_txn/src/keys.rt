@@ -2,7 +2,7 @@
 
 ghost use Rattle.std.specs.Prelude.{◌≡◌, ◌<◌, ◌≤◌, length, IfSome};
 ghost use Rattle.si_model.specs.Rows.{has_key, writes_key};
-ghost use Rattle.si_model.specs.Evaluation.{with_write, with_guard, unwritten};
+ghost use Rattle.si_model.specs.Evaluation.{with_write, with_guard};
 ghost use Rattle.si_model.specs.Places.{place_of};
 ghost use Rattle.nam_protocol.specs.Txn.{with_claim};
 ghost use Rattle.nam_txn.specs.Read.{first_written, has_claim};
@@ -68,18 +68,4 @@ pub(crate) fn note_claim(claims: &mut ShortList<Record, 16>, claim: Record)
     if !is_claimed(claims.as_slice(), claim.key) {
         claims.push(claim);
     }
-}
-
-/// How many of the guarded keys are not written.
-pub(crate) fn count_unwritten(writes: &[Item], guards: &[Key]) -> u32
-    requires { length guards.now ≤ 16 }
-    ensures { result ≡ length (unwritten writes.now guards.now) }
-{
-    let mut count = 0;
-    for guard in guards {
-        if place_written(writes, *guard).is_none() {
-            count += 1;
-        }
-    }
-    count
 }

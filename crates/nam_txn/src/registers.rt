@@ -2,6 +2,7 @@
 
 use crate::step::Step;
 use crate::walk::Walk;
+use nam_commit::Committer;
 use nam_protocol::{TxnAnswer, TxnState};
 use nam_reader::Reader;
 use si_model::Op;
@@ -19,6 +20,7 @@ pub(crate) struct Registers {
     /// How many verbs a read at a position of its table takes at the most.
     pub read_most: u32,
     pub reader: Reader,
+    pub committer: Committer,
     /// The last answer.
     pub answer: TxnAnswer,
 }

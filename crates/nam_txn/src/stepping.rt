@@ -4,7 +4,9 @@ ghost use Rattle.std.specs.Prelude.{◌≡◌, ◌<◌, ◌*◌, ◌^◌, if◌t
 ghost use Rattle.si_model.specs.Operations.{op_claims};
 ghost use Rattle.nam_catalog.specs.declared.shape.Shape.{Shape};
 ghost use Rattle.nam_txn.specs.Txn.{stepped_of, value_of, next_verb, verbs_left, after_of};
-ghost use Rattle.nam_txn.specs.Txn.{Runs, IsTxnOf, Holds, Keeps};
+ghost use Rattle.nam_calls.specs.Reading.{read_left};
+ghost use Rattle.nam_txn.specs.Txn.{Runs, IsTxnOf, Holds, Keeps, StepHolds, point_of};
+ghost use Rattle.nam_txn.specs.declared.step.Step.TheVariants as step;
 
 use crate::registers::Registers;
 use crate::step::Step;
@@ -20,16 +22,20 @@ impl Registers {
             → result ≡ next_verb shape (value_of self.now) }
     {
         match self.step {
-            Step::Finding | Step::KeyLook => Some(Verb::Read {
+            Step::Finding => Some(Verb::Read {
                 at: self.walk.key_at(),
             }),
             Step::Reading => self.reader.verb(),
+            Step::KeyLook => Some(Verb::Read {
+                at: self.walk.key_at(),
+            }),
             Step::KeyTake => Some(Verb::Exchange {
                 at: self.walk.key_at(),
                 expect: 0,
                 word: self.walk.path.key + 1,
             }),
-            Step::Resting | Step::Answered | Step::Committing => None,
+            Step::Committing => self.committer.verb(&self.state),
+            Step::Resting | Step::Answered => None,
         }
     }
 
@@ -47,7 +53,8 @@ impl Registers {
             Step::Reading => self.take_read(layout, found),
             Step::KeyLook => self.look_key(layout, found),
             Step::KeyTake => self.take_key(layout, found),
-            Step::Resting | Step::Answered | Step::Committing => {}
+            Step::Committing => self.take_commit(layout, found),
+            Step::Resting | Step::Answered => {}
         }
     }
 
@@ -63,11 +70,21 @@ impl Registers {
                 (path.capacity - self.walk.passed) as u64
                     + (self.read_most as u64 + self.claim_most())
             }
-            Step::Reading => self.reader.left() + self.claim_most(),
+            Step::Reading => self.read_left() + self.claim_most(),
             Step::KeyLook => 2 * (path.capacity - self.walk.passed - 1) as u64 + 2,
             Step::KeyTake => 2 * (path.capacity - self.walk.passed - 1) as u64 + 1,
-            Step::Resting | Step::Answered | Step::Committing => 0,
+            Step::Committing => self.committer.left(&self.state),
+            Step::Resting | Step::Answered => 0,
         }
+    }
+
+    // What is to come of the read that is under way, which is no more than a whole one takes.
+    fn read_left(&self) -> u64
+        requires { StepHolds step.Reading self.now }
+        ensures value { result ≡ read_left self.now.reader.sight (point_of self.now.reader.state) }
+        ensures few { result < 2 ^ 32 }
+    {
+        self.reader.left().min(self.read_most as u64)
     }
 
     // The claim of a position, where the operation needs one.

@@ -14,7 +14,7 @@ ghost use Rattle.nam_protocol.specs.TxnCalls.{txn_ask};
 ghost use Rattle.nam_protocol.specs.TxnFits.{TxnCallFits, txn_call_bound};
 ghost use Rattle.nam_txn.specs.Txn.{IsAt, IsTxnOf, CanBegin, Runs, Rests, next_verb, verbs_left, after_of, answer_in};
 
-use crate::keys::{count_unwritten, place_written};
+use crate::keys::place_written;
 use crate::registers::Registers;
 use crate::step::Step;
 use nam_header::stamp_in;
@@ -205,12 +205,13 @@ impl Txn {
         self.registers.state.writes.len() as u32
     }
 
-    /// How many keys are guarded and not written.
+    /// How many keys are guarded and not written: the claimed ones that the write set has not.
     pub fn guarded(&self) -> u32
-        ensures { result ≡ length (unwritten self.now.state.writes self.now.state.guards) }
+        ensures { (shape : Shape) → IsTxnOf shape self.now
+            → result ≡ length (unwritten self.now.state.writes self.now.state.guards) }
     {
         let state = &self.registers.state;
-        count_unwritten(state.writes.as_slice(), state.guards.as_slice())
+        (state.claims.len() as u32).saturating_sub(state.writes.len() as u32)
     }
 
     /// What the write set has of a key, and none where it does not write the key.
@@ -219,7 +220,9 @@ impl Txn {
             then Some (own_value self.now.state.writes (key_at table key)) else None) }
     {
         let writes = &self.registers.state.writes;
-        let place = place_written(writes.as_slice(), Key { table, key })?;
-        Some(copy_value(&writes.at(place).value))
+        match place_written(writes.as_slice(), Key { table, key }) {
+            Some(place) => Some(copy_value(&writes.at(place).value)),
+            None => None,
+        }
     }
 }

@@ -16,7 +16,7 @@ returns c =
     let width = table_width shape c.requires.limits c.args.table c.requires.table c.place-place.result
         c.place-place.ensures.value in
     let most = table_most shape c.requires.limits c.args.table c.requires.table c.place-place.result
-        c.cells-cells.result c.len.result c.place-place.ensures.value c.cells-cells.ensures.value
-        (c.len.ensures.value ∙ c.requires.workers) in
+        c.cells-cells.result c.len-workers.result c.place-place.ensures.value c.cells-cells.ensures.value
+        (c.len-workers.ensures.value ∙ c.requires.workers) in
     ap (λ m. record a { width = c.place-place.result.width; read_most = m }) most
     ∙ ap (λ w. record a { width = w; read_most = read_most shape c.args.table }) width

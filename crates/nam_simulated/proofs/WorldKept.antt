@@ -210,7 +210,7 @@ logs_are : (shape : Shape) → FitsLimits shape → (policy : Policy) → 1 ≤ 
 logs_are shape limits policy least [] all = tt
 logs_are shape limits policy least (s ∷ sessions) all = (
   logs_fit shape limits all.0.worker shape.start all.0.jobs policy all.0.is limits.start all.0.fit least s
-  all.0.reached,
+      all.0.reached,
   logs_are shape limits policy least sessions all.1,
 )
 

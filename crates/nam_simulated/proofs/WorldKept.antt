@@ -4,7 +4,9 @@ use Rattle.std.proofs.Common.{arith, Option, Some, None}
 use Rattle.std.specs.Prelude.{◌==◌, slice_set}
 use Rattle.std.specs.List.{AllByRecursion}
 use Rattle.std.proofs.lemmas.List.{length-set, length-map}
+use Rattle.si_model.specs.declared.log.Log.{Log}
 use Rattle.si_model.specs.declared.op.Policy.{Policy}
+use Rattle.si_model.specs.Tells.{CountsFit}
 use Rattle.nam_verbs.specs.declared.verb.Verb.{Verb}
 use Rattle.nam_verbs.specs.Verb.{found_by, after_verb}
 use Rattle.nam_verbs.specs.VerbAt.{VerbAt}
@@ -214,16 +216,22 @@ logs_are shape limits policy least (s ∷ sessions) all = (
   logs_are shape limits policy least sessions all.1,
 )
 
+logs_count : (shape : Shape) (logs : List Log) → AllByRecursion (LogIsOf shape) logs → AllByRecursion CountsFit logs
+logs_count shape [] all = tt
+logs_count shape (log ∷ logs) all = (all.0.counts, logs_count shape logs all.1)
+
 closed_is : (c : Scenario) → ScenarioFits c → (world : World) → Lives c.shape c.policy c.shape.workers world
     → ClosedIsOf c.shape (closed c.shape world)
 closed_is c fits world lives =
     let many = length-map world.sessions (session_log c.shape) in
     let all = lives.as_many in
     let most = fits.limits.most_workers in
+    let logs = logs_are c.shape fits.limits c.policy fits.tries world.sessions lives.sessions in
     record {
       many = many ∙ all;
       few = omega arith;
-      logs = logs_are c.shape fits.limits c.policy fits.tries world.sessions lives.sessions;
+      logs = logs;
+      counts = logs_count c.shape (map (session_log c.shape) world.sessions) logs;
       audit = audits_fit c.shape fits.limits world.words;
     }
 

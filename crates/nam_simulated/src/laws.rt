@@ -22,8 +22,7 @@ pub fn audits_fit()
 {}
 
 /// What is left of each world of a scenario that fits is of its shape, whatever turns its workers have had: a log for
-/// each worker, each of which fits, and an audit that fits. So `arrange` of `nam_report` may take the logs where they
-/// can be arranged.
+/// each worker, each of which fits, and an audit that fits. So `arrange` of `nam_report` may take the logs.
 pub fn worlds_fit()
     ensures { WorldLaw }
 {}

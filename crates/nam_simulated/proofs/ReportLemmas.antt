@@ -11,7 +11,6 @@ use Rattle.si_model.specs.declared.log.Lock.{Lock}
 use Rattle.si_model.specs.declared.log.Log.{Log}
 use Rattle.si_model.specs.declared.log.Outcome.{Outcome}
 use Rattle.si_model.specs.declared.log.Outcome.TheVariants.{Commit}
-use Rattle.si_model.specs.declared.report.CommitLine.{CommitLine}
 use Rattle.si_model.specs.Commits.{Published, entry_of, published_at, published_by, published_from, published_in}
 use Rattle.si_model.specs.Commits.{published_of}
 use Rattle.si_model.specs.Tells.{Tell, locks_in, reads_in, snaps_in, tells_each, tells_of, writes_in}

@@ -9,6 +9,8 @@
 mod room;
 mod roomy;
 mod running;
+#[cfg(test)]
+mod tests;
 
 pub use room::LogRoom;
 pub use roomy::RoomyList;

@@ -147,7 +147,8 @@ impl RunningLog {
         ensures log { self.new.log ≡ with_writes self.old.log items.now }
         ensures room { self.new.room ≡ record self.old.room { writes = self.old.room.writes - length items.now } }
     {
-        self.room.writes -= items.len() as u32;
+        let left = self.room.writes as usize - items.len();
+        self.room.writes = left as u32;
         push_items(&mut self.writes, items);
     }
 

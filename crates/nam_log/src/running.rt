@@ -31,14 +31,14 @@ impl Model for RunningLog {
     ghost Value = { Running };
 
     ghost view = { λ a. record {
-        log = record {
-            events = a.events.items;
-            reads = a.reads.items;
-            locks = a.locks.items;
-            writes = a.writes.items;
-            snaps = a.snaps.items;
-        };
-        room = a.room;
+      log = record {
+        events = a.events.items;
+        reads = a.reads.items;
+        locks = a.locks.items;
+        writes = a.writes.items;
+        snaps = a.snaps.items;
+      };
+      room = a.room;
     } };
 
     ghost invariant = { λ a. (a.room.events ≤ a.events.room) × (a.room.reads ≤ a.reads.room) × (a.room.locks ≤ a.locks.room)

@@ -95,7 +95,18 @@ fn a_log_is_what_was_listed(rt: HostRuntime) -> Result<(), AllocError> {
     let events = log.events.as_slice();
     assert_eq!(rt; events.len(), 2);
     assert!(rt; events[0].attempt() == Some(attempt(5)));
-    assert!(rt; matches!(events[1], Event::Moved { bucket: 1, table: 3, key: 8, stamp: _, how: MoveEnd::Back }));
+    assert!(rt;
+        matches!(
+            events[1],
+            Event::Moved {
+                bucket: 1,
+                table: 3,
+                key: 8,
+                stamp: _,
+                how: MoveEnd::Back
+            }
+        )
+    );
     assert!(rt; log.reads.as_slice() == [item(8, None), item(9, Some(value(8)))].as_slice());
     assert!(rt; log.locks.as_slice() == [lock(8), lock(9)].as_slice());
     assert!(rt; log.writes.as_slice() == [item(8, Some(value(1))), item(9, None)].as_slice());
@@ -113,8 +124,7 @@ fn a_list_keeps_its_room(rt: HostRuntime) -> Result<(), AllocError> {
     list.clear();
     assert_eq!(rt; (list.len(), list.room()), (0, 2));
     list.reserve(1)?;
-    list.push(9);
-    list.push(10);
+    list.append(&[9, 10]);
     assert!(rt; list.as_slice() == [9, 10].as_slice());
     assert!(rt; list.into_vec().as_slice() == [9, 10].as_slice());
     Ok(())

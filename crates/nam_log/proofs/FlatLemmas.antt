@@ -1,7 +1,7 @@
 -- Flat items and lists with one more.
-use Rattle.std.proofs.Common.{◌≡◌, ℕ, suc, ◌+◌, ◌<◌, ◌≤◌, List, [], ◌∷◌, ◌++◌, length, get_or, take, drop, refl, ap, arith, Option, Some, None}
-use Rattle.std.proofs.Common.{length-append, drop-cons}
-use Rattle.std.proofs.lemmas.List.{take-append-le, drop-append-le, take_all, drop_all, drop-drop}
+use Rattle.std.proofs.Common.{◌≡◌, ℕ, suc, ◌≤◌, List, [], ◌∷◌, ◌++◌, length, take, drop, refl, ap, arith}
+use Rattle.std.proofs.Common.{Option, Some, None, length-append}
+use Rattle.std.proofs.lemmas.List.{take-append-le, drop-append-le, take_all, drop_all}
 use Rattle.si_model.specs.declared.row.Item.{Item}
 use Rattle.nam_log.specs.declared.item_head.ItemHead.{ItemHead}
 use Rattle.nam_log.specs.Flat.{words_in, value_in, item_in, items_in, AreItems, lists_in, AreLists}

@@ -1,6 +1,6 @@
 //! Items as heads and words.
 
-ghost use Rattle.std.specs.Prelude.{◌≡◌, ◌+◌, ◌-◌, ◌<◌, ◌≤◌, [], ◌∷◌, ◌++◌, length, false, IsTrue};
+ghost use Rattle.std.specs.Prelude.{◌≡◌, ◌-◌, ◌≤◌, [], ◌∷◌, ◌++◌, length, false, IsTrue};
 ghost use Rattle.nam_log.specs.Flat.{words_in, item_in, items_in, AreItems};
 
 use crate::RoomyList;

@@ -1,6 +1,6 @@
 //! Snapshots as lengths and words.
 
-ghost use Rattle.std.specs.Prelude.{◌≡◌, ◌+◌, ◌-◌, ◌<◌, ◌≤◌, [], ◌∷◌, ◌++◌, length, false, IsTrue};
+ghost use Rattle.std.specs.Prelude.{◌≡◌, ◌-◌, ◌≤◌, [], ◌∷◌, ◌++◌, length, false, IsTrue};
 ghost use Rattle.nam_log.specs.Flat.{lists_in, AreLists};
 
 use crate::RoomyList;

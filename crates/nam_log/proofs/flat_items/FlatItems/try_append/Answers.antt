@@ -4,7 +4,10 @@ use Rattle.nam_log.proofs.flat_items.FlatItems.try_append.Goals as goal
 
 pub invariant_of-self : goal.invariant_of-self
 invariant_of-self c =
-    rw (c.push.ensures.items, c.append.ensures.items) (AreItems-one_more _ _ _ _ c.self.invariant (sym c.requires.0) c.requires.1)
+    rw (c.push.ensures.items, c.append.ensures.items)
+    (AreItems-one_more _ _ _ _ c.self.invariant (sym c.requires.0) c.requires.1)
 
 pub returns-clause-taken : goal.returns-clause-taken
-returns-clause-taken c = λ _. rw (c.push.ensures.items, c.append.ensures.items, ← c.self.view_is) (items-one_more _ _ _ _ c.self.invariant)
+returns-clause-taken c =
+    λ _. rw (c.push.ensures.items, c.append.ensures.items, ← c.self.view_is)
+    (items-one_more _ _ _ _ c.self.invariant)

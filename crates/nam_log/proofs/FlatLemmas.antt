@@ -43,8 +43,8 @@ items-one_more (other ∷ heads) words head more fits =
     (ap (λ (x : List Item). item_in other words ∷ x)
     (items-one_more heads (drop (words_in other.width) words) head more fits.2))
 
-pub AreItems-one_more : (heads : List ItemHead) (words : List ℕ) (head : ItemHead) (more : List ℕ) → AreItems heads words
-    → words_in head.width ≡ length more → length more ≤ 8
+pub AreItems-one_more : (heads : List ItemHead) (words : List ℕ) (head : ItemHead) (more : List ℕ)
+    → AreItems heads words → words_in head.width ≡ length more → length more ≤ 8
     → AreItems (heads ++ head ∷ []) (words ++ more)
 AreItems-one_more [] words head more fits whole short =
     rw (fits, whole) (short, omega arith, drop_all (length more) more (omega arith))

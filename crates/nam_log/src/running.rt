@@ -45,8 +45,8 @@ impl Model for RunningLog {
       room = a.room;
     } };
 
-    ghost invariant = { λ a. (a.room.events ≤ a.events.room) × (a.room.reads ≤ a.reads.room) × (a.room.locks ≤ a.locks.room)
-        × (a.room.writes ≤ a.writes.room) × (a.room.snaps ≤ a.snaps.room) };
+    ghost invariant = { λ a. (a.room.events ≤ a.events.room) × (a.room.reads ≤ a.reads.room)
+        × (a.room.locks ≤ a.locks.room) × (a.room.writes ≤ a.writes.room) × (a.room.snaps ≤ a.snaps.room) };
 }
 
 /// Lists copies of items, for which there is room.

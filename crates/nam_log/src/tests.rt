@@ -68,7 +68,11 @@ fn collected() -> Event {
 }
 
 fn room(count: u32) -> LogRoom
-    ensures { (result.events ≡ count) × (result.reads ≡ count) × (result.locks ≡ count) × (result.writes ≡ count) × (result.snaps ≡ count) }
+    ensures events { result.events ≡ count }
+    ensures reads { result.reads ≡ count }
+    ensures locks { result.locks ≡ count }
+    ensures writes { result.writes ≡ count }
+    ensures snaps { result.snaps ≡ count }
 {
     LogRoom {
         events: count,

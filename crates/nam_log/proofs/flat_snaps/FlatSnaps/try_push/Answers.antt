@@ -3,7 +3,8 @@ use Rattle.nam_log.proofs.flat_snaps.FlatSnaps.try_push.Goals as goal
 
 pub invariant_of-self : goal.invariant_of-self
 invariant_of-self c =
-    rw (c.push.ensures.items, c.append.ensures.items) (AreLists-one_more _ _ _ c.self.invariant c.as_slice-words.ensures.fits)
+    rw (c.push.ensures.items, c.append.ensures.items)
+    (AreLists-one_more _ _ _ c.self.invariant c.as_slice-words.ensures.fits)
 
 pub returns-clause-taken : goal.returns-clause-taken
 returns-clause-taken c =

@@ -86,10 +86,21 @@ impl CompactEvents {
         ensures room { self.new.room ≡ self.old.room - 1 }
     {
         if self.notes.room() == 0 {
-            self.push_listed(event_of(&note));
+            self.push_noted(note);
         } else {
             self.notes.push(note);
         }
+    }
+
+    /// The same, where the notes have no room. The event is built here, since a local costs its function at each call.
+    #[cold]
+    #[inline(never)]
+    fn push_noted(&mut self, note: Note)
+        requires { 0 < self.old.room }
+        ensures items { self.new.items ≡ self.old.items ++ event_of note ∷ [] }
+        ensures room { self.new.room ≡ self.old.room - 1 }
+    {
+        self.push_listed(event_of(&note));
     }
 
     /// Appends an event, for which there is room.

@@ -11,7 +11,6 @@ use Rattle.si_model.specs.declared.log.Lock.{Lock}
 use Rattle.si_model.specs.declared.log.Log.{Log}
 use Rattle.si_model.specs.declared.log.Outcome.{Outcome}
 use Rattle.si_model.specs.declared.log.Outcome.TheVariants.{Commit}
-use Rattle.si_model.specs.declared.report.CommitLine.{CommitLine}
 use Rattle.si_model.specs.Commits.{Published, entry_of, published_at, published_by, published_from, published_in}
 use Rattle.si_model.specs.Commits.{published_of}
 use Rattle.si_model.specs.Tells.{Tell, locks_in, reads_in, snaps_in, tells_each, tells_of, writes_in}
@@ -22,6 +21,7 @@ use Rattle.nam_catalog.specs.declared.shape.Shape.{Shape}
 use Rattle.nam_script.specs.ScriptSetting.{setting_of}
 use Rattle.nam_protocol.specs.Closed.{closed}
 use Rattle.nam_protocol.specs.Schedule.{Run}
+use Rattle.nam_report.specs.Arranging.{PublishedLaw, arranged}
 use Rattle.nam_report.specs.Fits.{EntryFits, FitsScript, ItemFits, LogFits}
 use Rattle.nam_report.specs.Numbers.{NumbersFit}
 use Rattle.nam_scenario.specs.Scenario.{scenario_of}
@@ -121,20 +121,20 @@ reports_fit script left history is commits numbers =
 -- 3. The report of a simulated run
 
 pub one_report : OneReportLaw
-one_report ordered script is lines =
+one_report script is lines =
     let end = scripts_run script is lines in
     record {
       is = record { run = script_run script lines; simulated = end.is; report_is = refl };
       only = λ other o.
           o.report_is
-          ∙ ap (λ (run : Run). report_of ordered script (closed script.shape run.world)) (end.only o.run o.simulated);
+          ∙ ap (λ (run : Run). report_of script (closed script.shape run.world)) (end.only o.run o.simulated);
     }
 
-pub simulated_fit : SimulatedFitsLaw
-simulated_fit ordered keeps script is lines report of_ numbers =
+pub simulated_fit : PublishedLaw → SimulatedFitsLaw
+simulated_fit published script is lines report of_ numbers =
     let left = closed script.shape of_.run.world in
     let fits = subst (λ (run : Run). ClosedIsOf script.shape (closed script.shape run.world)) of_.simulated.run_is
     (runs_fit (scenario_of script) (scripts_fit script is) lines of_.simulated.rounds) in
     subst (FitsScript script) (sym of_.report_is)
-    (reports_fit script left (ordered script.shape.start (told_of script left.logs)) fits
-    (keeps script.shape.start (told_of script left.logs)) (subst NumbersFit of_.report_is numbers))
+    (reports_fit script left (arranged script.shape.start (told_of script left.logs)) fits
+    (published script.shape.start (told_of script left.logs)) (subst NumbersFit of_.report_is numbers))

@@ -4,7 +4,9 @@ use Rattle.std.proofs.Common.{arith, Option, Some, None}
 use Rattle.std.specs.Prelude.{◌==◌, slice_set}
 use Rattle.std.specs.List.{AllByRecursion}
 use Rattle.std.proofs.lemmas.List.{length-set, length-map}
+use Rattle.si_model.specs.declared.log.Log.{Log}
 use Rattle.si_model.specs.declared.op.Policy.{Policy}
+use Rattle.si_model.specs.Tells.{CountsFit}
 use Rattle.nam_verbs.specs.declared.verb.Verb.{Verb}
 use Rattle.nam_verbs.specs.Verb.{found_by, after_verb}
 use Rattle.nam_verbs.specs.VerbAt.{VerbAt}
@@ -210,9 +212,13 @@ logs_are : (shape : Shape) → FitsLimits shape → (policy : Policy) → 1 ≤ 
 logs_are shape limits policy least [] all = tt
 logs_are shape limits policy least (s ∷ sessions) all = (
   logs_fit shape limits all.0.worker shape.start all.0.jobs policy all.0.is limits.start all.0.fit least s
-  all.0.reached,
+      all.0.reached,
   logs_are shape limits policy least sessions all.1,
 )
+
+logs_count : (shape : Shape) (logs : List Log) → AllByRecursion (LogIsOf shape) logs → AllByRecursion CountsFit logs
+logs_count shape [] all = tt
+logs_count shape (log ∷ logs) all = (all.0.counts, logs_count shape logs all.1)
 
 closed_is : (c : Scenario) → ScenarioFits c → (world : World) → Lives c.shape c.policy c.shape.workers world
     → ClosedIsOf c.shape (closed c.shape world)
@@ -220,10 +226,12 @@ closed_is c fits world lives =
     let many = length-map world.sessions (session_log c.shape) in
     let all = lives.as_many in
     let most = fits.limits.most_workers in
+    let logs = logs_are c.shape fits.limits c.policy fits.tries world.sessions lives.sessions in
     record {
       many = many ∙ all;
       few = omega arith;
-      logs = logs_are c.shape fits.limits c.policy fits.tries world.sessions lives.sessions;
+      logs = logs;
+      counts = logs_count c.shape (map (session_log c.shape) world.sessions) logs;
       audit = audits_fit c.shape fits.limits world.words;
     }
 

@@ -1,6 +1,5 @@
--- The report of a simulated run, and that it fits its script. What orders the history is a parameter: it makes of each
--- worker's start and of what the logs tell a list of entries.
-use Rattle.std.specs.Prelude.{ℕ, ◌≡◌, List, map, IsPermutation}
+-- The report of a simulated run, and that it fits its script.
+use Rattle.std.specs.Prelude.{◌≡◌, List, map, IsPermutation}
 use Rattle.si_model.specs.declared.log.Log.{Log}
 use Rattle.si_model.specs.declared.report.Closed.{Closed}
 use Rattle.si_model.specs.declared.report.CommitLine.{CommitLine}
@@ -13,6 +12,7 @@ use Rattle.nam_script.specs.Limits.{IsScript}
 use Rattle.nam_script.specs.ScriptSetting.{setting_of}
 use Rattle.nam_protocol.specs.Closed.{closed}
 use Rattle.nam_protocol.specs.Schedule.{Run, Simulated}
+use Rattle.nam_report.specs.Arranging.{arranged}
 use Rattle.nam_report.specs.Fits.{FitsScript}
 use Rattle.nam_report.specs.Numbers.{NumbersFit}
 use Rattle.nam_scenario.specs.Scenario.{scenario_of}
@@ -38,43 +38,30 @@ ReportFitsLaw = (script : Script) (left : Closed) (history : List CommitLine) �
     → IsOfCommits script left.logs history → NumbersFit (report_with history left)
     → FitsScript script (report_with history left)
 
-module _ (ordered : ℕ → List (List Tell) → List CommitLine) where
-  -- the report on what is left, with its commits ordered so
-  abbrev pub report_of : Script → Closed → Report
-  report_of script left = report_with (ordered script.shape.start (told_of script left.logs)) left
+-- the report on what is left, with its commits in order
+abbrev pub report_of : Script → Closed → Report
+report_of script left = report_with (arranged script.shape.start (told_of script left.logs)) left
 
-  -- the report is that of a simulated run of the script under these lines
-  pub record IsSimulatedReport (script : Script) (lines : List Line) (report : Report) : Type 0 where
-    pub run : Run
-    pub simulated : Simulated (scenario_of script) lines run
-    pub report_is : report ≡ report_of script (closed script.shape run.world)
+-- the report is that of a simulated run of the script under these lines
+pub record IsSimulatedReport (script : Script) (lines : List Line) (report : Report) : Type 0 where
+  pub run : Run
+  pub simulated : Simulated (scenario_of script) lines run
+  pub report_is : report ≡ report_of script (closed script.shape run.world)
 
-  -- the same, computed
-  abbrev pub simulated_report : Script → List Line → Report
-  simulated_report script lines = report_of script (closed script.shape (script_run script lines).world)
+-- the same, computed
+abbrev pub simulated_report : Script → List Line → Report
+simulated_report script lines = report_of script (closed script.shape (script_run script lines).world)
 
-  -- it is the report of a simulated run of the script under these lines, and the only one
-  pub record IsTheReport (script : Script) (lines : List Line) (report : Report) : Type 0 where
-    pub is : IsSimulatedReport script lines report
-    pub only : (other : Report) → IsSimulatedReport script lines other → other ≡ report
+-- it is the report of a simulated run of the script under these lines, and the only one
+pub record IsTheReport (script : Script) (lines : List Line) (report : Report) : Type 0 where
+  pub is : IsSimulatedReport script lines report
+  pub only : (other : Report) → IsSimulatedReport script lines other → other ≡ report
 
-  abbrev pub OneReport : Type 0
-  OneReport = (script : Script) → IsScript script → (lines : List Line)
-      → IsTheReport script lines (simulated_report script lines)
-
-  -- the order keeps the commits: it adds none and drops none
-  abbrev pub KeepsCommits : Type 0
-  KeepsCommits = (start : ℕ) (tss : List (List Tell))
-      → IsPermutation (map entry_of (published_by tss)) (ordered start tss)
-
-  abbrev pub SimulatedFits : Type 0
-  SimulatedFits = KeepsCommits → (script : Script) → IsScript script → (lines : List Line) (report : Report)
-      → IsSimulatedReport script lines report → NumbersFit report → FitsScript script report
-
--- each script has one report of a simulated run under any lines, however the commits are ordered
 abbrev pub OneReportLaw : Type 0
-OneReportLaw = (ordered : ℕ → List (List Tell) → List CommitLine) → OneReport ordered
+OneReportLaw = (script : Script) → IsScript script → (lines : List Line)
+    → IsTheReport script lines (simulated_report script lines)
 
 -- it fits the script, where its numbers fit their fields
 abbrev pub SimulatedFitsLaw : Type 0
-SimulatedFitsLaw = (ordered : ℕ → List (List Tell) → List CommitLine) → SimulatedFits ordered
+SimulatedFitsLaw = (script : Script) → IsScript script → (lines : List Line) (report : Report)
+    → IsSimulatedReport script lines report → NumbersFit report → FitsScript script report

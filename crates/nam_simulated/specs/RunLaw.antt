@@ -2,6 +2,7 @@
 use Rattle.std.specs.Prelude.{ℕ, ◌≡◌, ◌<◌, ◌^◌, List, [], length}
 use Rattle.std.specs.List.{AllByRecursion}
 use Rattle.si_model.specs.declared.report.Closed.{Closed}
+use Rattle.si_model.specs.Tells.{CountsFit}
 use Rattle.nam_line.specs.Plan.{Line}
 use Rattle.nam_catalog.specs.declared.shape.Shape.{Shape}
 use Rattle.nam_catalog.specs.Tables.{widths_of}
@@ -12,11 +13,12 @@ use Rattle.nam_protocol.specs.World.{Turn, after_turns}
 use Rattle.nam_report.specs.Fits.{AuditRowFits}
 use Rattle.nam_simulated.specs.LogLaw.{LogIsOf}
 
--- a log for each worker, which are fewer than 2^31, and an audit, all of the shape
+-- a log for each worker, which are fewer than 2^31, and an audit, all of the shape; the logs own what they list
 pub record ClosedIsOf (shape : Shape) (left : Closed) : Type 0 where
   pub many : length left.logs ≡ shape.workers
   pub few : length left.logs < 2 ^ 31
   pub logs : AllByRecursion (LogIsOf shape) left.logs
+  pub counts : AllByRecursion CountsFit left.logs
   pub audit : AllByRecursion (AuditRowFits (widths_of shape.tables)) left.audit
 
 -- whatever turns the workers have had

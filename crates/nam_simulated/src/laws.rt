@@ -5,6 +5,8 @@ ghost use Rattle.nam_simulated.specs.AuditLaw.{AuditLaw};
 ghost use Rattle.nam_simulated.specs.RunLaw.{RunLaw, WorldLaw};
 ghost use Rattle.nam_simulated.specs.ReportLaw.{OneReportLaw, ReportFitsLaw, SimulatedFitsLaw};
 
+use nam_report::arranged_law;
+
 /// Each log of a session that occurs fits its shape, at each moment and however the session is closed.
 ///
 /// Its events name tables of the shape, and a collection has an entry for each worker. Each read, lock and write is of
@@ -20,8 +22,7 @@ pub fn audits_fit()
 {}
 
 /// What is left of each world of a scenario that fits is of its shape, whatever turns its workers have had: a log for
-/// each worker, each of which fits, and an audit that fits. So `arrange` of `nam_report` may take the logs where they
-/// can be arranged.
+/// each worker, each of which fits, and an audit that fits. So `arrange` of `nam_report` may take the logs.
 pub fn worlds_fit()
     ensures { WorldLaw }
 {}
@@ -35,11 +36,13 @@ pub fn runs_fit()
 /// history is any order of the entries of the commits that the logs publish, and its numbers fit their fields, which
 /// `numbers_fit` of `nam_report` tells of any report.
 ///
-/// So does each report of a simulated run, under any order of a history that adds no commit and drops none.
+/// So does each report of a simulated run, whose history is the arranged one.
 pub fn reports_fit()
     ensures left { ReportFitsLaw }
     ensures simulated { SimulatedFitsLaw }
-{}
+{
+    arranged_law();
+}
 
 /// Each script within the limits has a report of a simulated run under any lines of its workers, and no other.
 pub fn one_report()

@@ -10,7 +10,3 @@ mod StoreLemmas
 mod ServeLemmas
 mod TopLemmas
 pub mod ScriptLemmas
-mod TurnLemmas
-mod RunLemmas
-mod JobLemmas
-mod SimulatedLemmas

@@ -11,14 +11,11 @@ use Rattle.nam_script.specs.declared.refusal.Kind.{Kind}
 use Rattle.nam_script.specs.Text.{IsSpelt}
 use Rattle.nam_script.specs.Limits.{IsScript}
 use Rattle.nam_script.specs.Parse.{Fault, script_of}
-use Rattle.nam_line.specs.Plan.{Line}
-use Rattle.nam_report.specs.Arranging.{arranged}
 use Rattle.nam_report.specs.Fits.{FitsScript}
 use Rattle.nam_report.specs.Text.{report_text}
 use Rattle.namdb.specs.declared.status.Status.{Status}
 use Rattle.namdb.specs.declared.status.Status.TheVariants.{Done, Usage, BadScript, ReadFault, Memory, TooLong}
 use Rattle.nam_script.specs.ScriptSetting.{setting_of}
-use Rattle.nam_simulated.specs.ReportLaw.{IsSimulatedReport}
 use Rattle.namdb.specs.Status.{line_of}
 
 -- the text is that of a report which is a run of the script that the input spells
@@ -31,21 +28,6 @@ pub record IsReportOn (input text : List ℕ) : Type 0 where
   pub run : IsRun (setting_of script) report
   pub fits : FitsScript script report
   pub written : text ≡ report_text script.shape.tables report
-
--- the text is that of the report of the simulated run of the script under these lines of its workers
-pub record IsSimulatedText (script : Script) (lines : List Line) (text : List ℕ) : Type 0 where
-  pub report : Report
-  pub simulated : IsSimulatedReport arranged script lines report
-  pub fits : FitsScript script report
-  pub written : text ≡ report_text script.shape.tables report
-
--- the same, of the script that the input spells
-pub record IsSimulatedOn (input : List ℕ) (lines : List Line) (text : List ℕ) : Type 0 where
-  pub script : Script
-  pub read : script_of input ≡ Ok script
-  pub spelt : IsSpelt script input
-  pub limits : IsScript script
-  pub text_is : IsSimulatedText script lines text
 
 -- the program's name and `run`
 abbrev pub AreRunWords : List (String Global) → Type 0

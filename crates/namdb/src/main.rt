@@ -14,7 +14,6 @@ ghost use Rattle.std.specs.declared.io.ErrorKind.TheVariants.{OutOfMemory};
 mod attempt;
 mod evaluate;
 mod serial;
-mod simulation;
 mod stamps;
 mod status;
 mod store;

@@ -5,4 +5,4 @@ pub returns-clause-left : goal.returns-clause-left
 returns-clause-left c = reports_fit
 
 pub returns-clause-simulated : goal.returns-clause-simulated
-returns-clause-simulated c = simulated_fit
+returns-clause-simulated c = simulated_fit c.arranged_law.ensures.published

@@ -1,0 +1,4 @@
+mod TurnLemmas
+mod RunLemmas
+mod JobLemmas
+mod SimulatedLemmas

@@ -1,0 +1,5 @@
+pub mod Cells
+pub mod Snapper
+pub mod Move
+pub mod Mover
+pub mod Collector

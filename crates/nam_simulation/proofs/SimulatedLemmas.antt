@@ -1,5 +1,5 @@
 -- The run of a script's world to its end is its simulated run.
-use Rattle.std.proofs.Common.{◌≡◌, List, map, refl, sym, ap, subst, ◌∙◌}
+use Rattle.std.proofs.Common.{◌≡◌, List, map, sym, ap, subst, ◌∙◌}
 use Rattle.si_model.specs.declared.op.Op.{Op}
 use Rattle.si_model.specs.declared.log.Log.{Log}
 use Rattle.si_model.specs.declared.report.Closed.{Closed}
@@ -10,14 +10,13 @@ use Rattle.nam_line.specs.Plan.{Line}
 use Rattle.nam_script.specs.declared.script.Script.{Script}
 use Rattle.nam_script.specs.Limits.{IsScript}
 use Rattle.nam_protocol.specs.Closed.{closed}
-use Rattle.nam_protocol.specs.World.{World, HasEnded}
+use Rattle.nam_protocol.specs.World.{HasEnded}
 use Rattle.nam_protocol.specs.Schedule.{Run, Simulated, after_workers, opened, scheduled}
 use Rattle.nam_script.specs.ScriptSetting.{setting_of}
 use Rattle.nam_report.specs.Arranging.{arranged, PublishedLaw}
 use Rattle.nam_report.specs.Fits.{FitsScript}
 use Rattle.nam_report.specs.Numbers.{NumbersFit}
 use Rattle.nam_scenario.specs.Scenario.{scenario_of, schedule_of}
-use Rattle.nam_scenario.specs.ScenarioLaw.{script_run}
 use Rattle.nam_scenario.proofs.ScenarioLemmas.{scripts_fit, scripts_run}
 use Rattle.nam_simulated.specs.RunLaw.{ClosedIsOf}
 use Rattle.nam_simulated.proofs.WorldKept.{runs_fit}

@@ -1,4 +1,4 @@
-use Rattle.std.proofs.Common.{◌≡◌, ◌<◌, ◌≤◌, ◌+◌, length, drop, map, ap, sym, ◌∙◌, arith}
+use Rattle.std.proofs.Common.{◌<◌, ◌≤◌, ◌+◌, length, drop, map, ap, sym, ◌∙◌, arith}
 use Rattle.nam_protocol.specs.Schedule.{after_workers, stint_workers}
 use Rattle.nam_simulation.specs.Simulation.{run_of, stints_of}
 use Rattle.nam_simulation.proofs.RunLemmas.{some_turns, no_turns, stints_from, no_stint}

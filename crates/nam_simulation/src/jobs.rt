@@ -1,7 +1,6 @@
 //! The jobs of the workers.
 
-ghost use Rattle.std.specs.Prelude.{◌≡◌, ◌-◌, ◌<◌, ◌^◌, ◌≤◌, [], ◌∷◌, ◌++◌, length, map, replicate, slice_index_or};
-ghost use Rattle.std.specs.Prelude.{slice_set, IfOk, OnOk};
+ghost use Rattle.std.specs.Prelude.{◌≡◌, ◌≤◌, [], length, replicate, IfOk, OnOk};
 ghost use Rattle.nam_script.specs.Limits.{IsScript};
 ghost use Rattle.nam_protocol.specs.Schedule.{all_jobs};
 ghost use Rattle.nam_scenario.specs.Scenario.{scenario_of};

@@ -1,7 +1,6 @@
 //! Rounds of turns.
 
 ghost use Rattle.std.specs.Prelude.{◌≡◌, map};
-ghost use Rattle.nam_script.specs.Limits.{IsScript};
 ghost use Rattle.nam_protocol.specs.World.{HasEnded};
 ghost use Rattle.nam_protocol.specs.Schedule.{after_round};
 ghost use Rattle.nam_simulation.specs.Simulation.{run_of, to_end};

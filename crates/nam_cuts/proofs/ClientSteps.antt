@@ -1,7 +1,7 @@
 -- What each word of a client, and each call that it is asked, leaves: no cut is listed, and a snapshot is listed once
 -- each entry was read twice.
-use Rattle.std.proofs.Common.{◌≡◌, ℕ, suc, ◌+◌, ◌*◌, ◌≤◌, List, [], ◌∷◌, ◌++◌, length, length-append, refl, sym, ap}
-use Rattle.std.proofs.Common.{subst, ◌∙◌, arith, Bool, true, false, Option, Some, None}
+use Rattle.std.proofs.Common.{◌≡◌, ℕ, ◌+◌, ◌*◌, ◌≤◌, List, [], ◌∷◌, ◌++◌, length, refl, ap}
+use Rattle.std.proofs.Common.{subst, ◌∙◌, arith, false, Option, Some, None}
 use Rattle.std.proofs.Math.Nat.{mul-suc}
 use Rattle.std.proofs.Math.Numerals.{add-one}
 use Rattle.std.proofs.lemmas.List.{length_push}
@@ -10,7 +10,6 @@ use Rattle.std.specs.List.{AllByRecursion}
 use Rattle.si_model.specs.declared.log.Event.{Event}
 use Rattle.si_model.specs.declared.log.Outcome.{Outcome}
 use Rattle.si_model.specs.declared.log.Outcome.TheVariants as outcome
-use Rattle.si_model.specs.declared.log.Log.{Log}
 use Rattle.si_model.specs.Tells.{is_cut}
 use Rattle.si_model.proofs.ListLemmas.{All-append}
 use Rattle.nam_verbs.specs.declared.now.Now.{Now}

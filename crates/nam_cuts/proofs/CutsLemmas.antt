@@ -1,148 +1,33 @@
 -- What a worker's line refused in a simulated run, and how many verbs it passed.
-use Rattle.std.proofs.Common.{◌≡◌, ℕ, ◌+◌, ◌-◌, ◌*◌, ◌<◌, ◌≤◌, Bool, true, false, List, length, take, drop, refl, sym, ap}
+use Rattle.std.proofs.Common.{◌≡◌, ℕ, ◌+◌, ◌-◌, ◌*◌, ◌≤◌, Bool, true, false, List, length, drop, refl, sym}
 use Rattle.std.proofs.Common.{◌∙◌, subst, arith, Option, Some, None}
 use Rattle.std.proofs.lemmas.Bool.{false≢true}
-use Rattle.std.specs.Prelude.{if◌then◌else◌, slice_get}
-use Rattle.std.specs.List.{AllByRecursion}
-use Rattle.si_model.specs.declared.log.Event.{Event}
-use Rattle.si_model.specs.declared.log.Finish.{Finish}
-use Rattle.si_model.specs.declared.log.Outcome.TheVariants as outcome
-use Rattle.si_model.specs.declared.log.Stamp.{Stamp}
-use Rattle.si_model.specs.Tells.{is_cut}
-use Rattle.nam_verbs.specs.declared.now.Now.{Now}
-use Rattle.nam_verbs.specs.declared.now.Now.TheVariants.{At, Over}
-use Rattle.nam_verbs.specs.VerbAt.{VerbAt}
-use Rattle.nam_line.specs.Plan.{Line, passed_by}
+use Rattle.std.specs.Prelude.{slice_get}
+use Rattle.nam_line.specs.Plan.{Line}
 use Rattle.nam_line.specs.PassedLaw.{CanCount}
-use Rattle.nam_catalog.specs.declared.shape.Shape.{Shape}
-use Rattle.nam_catalog.specs.Fits.{FitsLimits}
-use Rattle.nam_layout.specs.Place.{bucket_of, place_of}
 use Rattle.nam_calls.specs.Fits.{IsOf}
-use Rattle.nam_calls.specs.Mover.{move_claimed}
-use Rattle.nam_calls.proofs.FallsTests.{either}
-use Rattle.nam_protocol.specs.declared.client.Answer.{Answer}
-use Rattle.nam_protocol.specs.declared.client.CallPoint.{CallPoint}
-use Rattle.nam_protocol.specs.declared.client.CallPoint.TheVariants.{Beginning, InTxn, Scanning, Seeking, Moving}
-use Rattle.nam_protocol.specs.declared.client.CallPoint.TheVariants.{Snapping, Collecting}
-use Rattle.nam_protocol.specs.declared.client.ClientState.{ClientState}
-use Rattle.nam_protocol.specs.declared.client.Open.{Open}
 use Rattle.nam_protocol.specs.declared.session.Job.{Job}
 use Rattle.nam_protocol.specs.declared.session.SessionState.{SessionState}
-use Rattle.nam_protocol.specs.declared.txn.CommitPoint.TheVariants.{Freeing, Ending}
-use Rattle.nam_protocol.specs.declared.txn.TxnPoint.{TxnPoint}
-use Rattle.nam_protocol.specs.declared.txn.TxnPoint.TheVariants.{Committing}
-use Rattle.nam_protocol.specs.Client.{verb_of}
-use Rattle.nam_protocol.specs.CutClient.{closed_call, closed_client, cut_in_txn, cut_move, cut_open, finish_of}
-use Rattle.nam_protocol.specs.CutClient.{finished_call, finished_in_txn, has_committed, left_open}
 use Rattle.nam_protocol.specs.EndsLaw.{ScenarioFits}
 use Rattle.nam_protocol.specs.Left.{jobs_bound, medic_room, session_left}
-use Rattle.nam_protocol.specs.Schedule.{Run, Scenario, after_rounds, after_workers, jobs_of, opened, scheduled, simulated}
-use Rattle.nam_protocol.specs.Session.{new_session, session_log, session_verb, verb_by}
-use Rattle.nam_protocol.specs.SessionFits.{JobFits, SessionFits}
-use Rattle.nam_protocol.specs.Telling.{new_client, with_commit, with_end}
-use Rattle.nam_protocol.specs.World.{HasNoVerb, session_of}
-use Rattle.nam_protocol.proofs.EndsSession.{new_session_ends, uncut_of}
-use Rattle.nam_cuts.specs.Cuts.{PassedAll, RefusedLast, TellsNoCut, passed_since}
+use Rattle.nam_protocol.specs.Schedule.{Run, Scenario, after_workers, jobs_of, opened, scheduled, simulated}
+use Rattle.nam_protocol.specs.Session.{new_session}
+use Rattle.nam_protocol.specs.SessionFits.{SessionFits}
+use Rattle.nam_protocol.specs.Telling.{new_client}
+use Rattle.nam_protocol.specs.World.{session_of}
+use Rattle.nam_protocol.proofs.EndsSession.{new_session_ends}
+use Rattle.nam_cuts.specs.Cuts.{PassedAll, passed_since}
 use Rattle.nam_cuts.specs.CutsLaw.{IsWhole, LineCuts, LineCutsLaw, PassedBounds, PassedBoundsLaw, begun_bound}
 use Rattle.nam_cuts.proofs.BoundLemmas.{bound_parts, left_least}
-use Rattle.nam_cuts.proofs.ClientSteps.{one_more, snaps_spent}
+use Rattle.nam_cuts.proofs.ClosedLemmas.{log_snaps, log_tells, log_told}
 use Rattle.nam_cuts.proofs.LineSteps.{passed_within}
 use Rattle.nam_cuts.proofs.OpenedLemmas.{opened_at, owned_fit}
 use Rattle.nam_cuts.proofs.SessionSteps.{new_goes}
-use Rattle.nam_cuts.proofs.Stands.{AskedSo, Common, Frozen, Lined, SoFar, Unlined, frozen_keeps, lined_keeps, unlined_keeps}
+use Rattle.nam_cuts.proofs.Stands.{AskedSo, Common, Frozen, Lined, SoFar, Unlined}
+use Rattle.nam_cuts.proofs.Stands.{frozen_keeps, lined_keeps, unlined_keeps}
 use Rattle.nam_cuts.proofs.Turns.{HoldsAt, TurnKeeps, rounds_keep, workers_keep}
 
--- 1. A client that isn't cut is closed
-
-left_tells : (client : ClientState) (opened : Option Open) → client.cut ≡ false → TellsNoCut client.log
-    → TellsNoCut (left_open client opened).log
-left_tells client None uncut tells = tells
-left_tells client (Some attempt) uncut tells =
-    one_more client.log.events _ tells (ap (λ (b : Bool). is_cut (if b then outcome.Cut else outcome.Left)) uncut)
-
-closed_tells : (shape : Shape) (client : ClientState) (now : Option (Now CallPoint Answer)) → client.cut ≡ false
-    → verb_of shape client now ≡ None → TellsNoCut client.log → TellsNoCut (closed_client shape client None now).log
-closed_tells shape client None uncut none tells = left_tells client client.txn uncut tells
-closed_tells shape client (Some (At place)) uncut none tells = absurd (cc)
-closed_tells shape client (Some (Over end)) uncut none tells = left_tells client client.txn uncut tells
-
-log_tells : (shape : Shape) (session : SessionState) → SessionFits shape session → session.client.cut ≡ false
-    → HasNoVerb shape session → TellsNoCut session.client.log → TellsNoCut (session_log shape session)
-log_tells shape session fits uncut none tells =
-    let client = session.client in
-    let medic = (uncut_of shape session fits uncut).1 in
-    let verb : verb_of shape client client.call ≡ None =
-    sym (ap (λ (c : Bool). if c then None else verb_of shape client client.call) uncut)
-    ∙ sym (ap (λ m. verb_by shape session m) medic) ∙ none in
-    subst (λ m. TellsNoCut (closed_client shape client (finish_of m) client.call).log) (sym medic)
-    (closed_tells shape client client.call uncut verb tells)
-
--- 2. Closing a client lists no snapshot
-
-abbrev SameSnaps : ClientState → ClientState → Type 0
-SameSnaps client after = after.log.snaps ≡ client.log.snaps
-
-left_snaps : (client : ClientState) (opened : Option Open) → SameSnaps client (left_open client opened)
-left_snaps client None = refl
-left_snaps client (Some attempt) = refl
-
-cut_txn_snaps : (client : ClientState) (at : TxnPoint) (opened : Option Open)
-    → SameSnaps client (cut_open client at opened)
-cut_txn_snaps client at None = refl
-cut_txn_snaps client (Committing (Freeing nth)) (Some attempt) = refl
-cut_txn_snaps client (Committing Ending) (Some attempt) = refl
-cut_txn_snaps client at (Some attempt) = refl
-
-move_snaps : (client : ClientState) (table key bucket : ℕ) (stamp : Option Stamp)
-    → SameSnaps client (cut_move client table key bucket stamp)
-move_snaps client table key bucket None = refl
-move_snaps client table key bucket (Some stamp) = refl
-
-finished_snaps : (client : ClientState) (at : TxnPoint) (how : Finish) (opened : Option Open)
-    → SameSnaps client (finished_in_txn client at how opened)
-finished_snaps client at how None = refl
-finished_snaps client at how (Some attempt) =
-    either (SameSnaps client) (has_committed at how) (with_commit client attempt (attempt.state.last + 1))
-    (with_end client attempt outcome.Cut) refl refl
-
-module _ (shape : Shape) (client : ClientState) where
-  closed_call_snaps : (now : Option (Now CallPoint Answer)) → SameSnaps client (closed_call shape client now)
-  closed_call_snaps None = left_snaps client client.txn
-  closed_call_snaps (Some (At (Beginning txn nth at))) = refl
-  closed_call_snaps (Some (At (InTxn at))) = cut_txn_snaps client at client.txn
-  closed_call_snaps (Some (At (Scanning table low high at))) = left_snaps client client.txn
-  closed_call_snaps (Some (At (Seeking table key passed))) = refl
-  closed_call_snaps (Some (At (Moving table key position at))) =
-      let place = place_of shape table position in
-      move_snaps client table key (bucket_of shape place.row) (move_claimed place at)
-  closed_call_snaps (Some (At (Snapping bucket at))) = refl
-  closed_call_snaps (Some (At (Collecting bucket prefix seen at))) = refl
-  closed_call_snaps (Some (Over end)) = left_snaps client client.txn
-
-  finished_call_snaps : (how : Finish) (now : Option (Now CallPoint Answer))
-      → SameSnaps client (finished_call shape client how now)
-  finished_call_snaps how None = closed_call_snaps None
-  finished_call_snaps how (Some (At (InTxn at))) = finished_snaps client at how client.txn
-  finished_call_snaps how (Some (At (Beginning txn nth at))) = closed_call_snaps (Some (At (Beginning txn nth at)))
-  finished_call_snaps how (Some (At (Scanning table low high at))) =
-      closed_call_snaps (Some (At (Scanning table low high at)))
-  finished_call_snaps how (Some (At (Seeking table key passed))) =
-      closed_call_snaps (Some (At (Seeking table key passed)))
-  finished_call_snaps how (Some (At (Moving table key position at))) =
-      closed_call_snaps (Some (At (Moving table key position at)))
-  finished_call_snaps how (Some (At (Snapping bucket at))) = closed_call_snaps (Some (At (Snapping bucket at)))
-  finished_call_snaps how (Some (At (Collecting bucket prefix seen at))) =
-      closed_call_snaps (Some (At (Collecting bucket prefix seen at)))
-  finished_call_snaps how (Some (Over end)) = closed_call_snaps (Some (Over end))
-
-  closed_snaps : (finish : Option Finish) → SameSnaps client (closed_client shape client finish client.call)
-  closed_snaps None = closed_call_snaps client.call
-  closed_snaps (Some how) = finished_call_snaps how client.call
-
-log_snaps : (shape : Shape) (session : SessionState) → (session_log shape session).snaps ≡ session.client.log.snaps
-log_snaps shape session = closed_snaps shape session.client (finish_of session.client.medic)
-
--- 3. The worker's session and its line in the run
+-- 1. The worker's session and its line in the run
 
 same_some : {A : Type 0} (x y : A) (o : Option A) → o ≡ Some x → o ≡ Some y → x ≡ y
 same_some x y o e f = cc
@@ -163,7 +48,13 @@ module _ (c : Scenario) (fits : ScenarioFits c) (worker : ℕ) (is : IsOf c.shap
   new_common : Common c.shape fits.limits c.policy jobs new
   new_common =
       let goes = new_goes c.shape worker c.shape.start jobs c.policy in
-      record { fits = new_ends.0; jobs_are = goes.jobs; policy_is = goes.policy; tells = goes.client.tells tt }
+      record {
+        fits = new_ends.0;
+        jobs_are = goes.jobs;
+        policy_is = goes.policy;
+        tells = goes.client.tells tt;
+        runs = λ cut. absurd (false≢true (sym goes.client.cut ∙ cut));
+      }
 
   module _ (lines : List Line) (rounds : ℕ) where
     abbrev run : Run
@@ -239,7 +130,7 @@ module _ (c : Scenario) (fits : ScenarioFits c) (worker : ℕ) (is : IsOf c.shap
             (session_holds P (lined_keeps c.shape fits.limits c.policy jobs start first)
             (subst (λ o. P o new) (sym begins) (new_common, new_asked)) session here)
 
-        -- 4. Cuts
+        -- 2. Cuts
 
         abbrev So : Line → Bool → Type 0
         So now cut = SoFar c.shape fits.limits c.policy jobs start first now session cut
@@ -264,10 +155,11 @@ module _ (c : Scenario) (fits : ScenarioFits c) (worker : ℕ) (is : IsOf c.shap
           whole = λ all. whole_of common (uncut_where now session.client.cut asked.so all);
           uncut = λ uncut. (let so : So now false = subst (So now) uncut asked.so in so.0);
           cut = λ cut. (let so : So now true = subst (So now) cut asked.so in so.0);
+          told = λ cut. log_told c.shape session common.fits cut (common.runs cut);
           asked_no_more = asked_no_more now there;
         }
 
-        -- 5. Bounds
+        -- 3. Bounds
 
         asked_most : (now : Line) (cut : Bool) → session.client.cut ≡ cut
             → Common c.shape fits.limits c.policy jobs session → So now cut
@@ -303,7 +195,8 @@ line_cuts c fits lines rounds worker is session here = (
   without_line c fits worker is lines rounds session here,
   λ start begins first.
       let l = line_now c fits worker is lines rounds session here start begins first in
-      (l.now, l.there, cuts c fits worker is lines rounds session here start begins first l.now l.there l.common l.asked),
+      let cut = cuts c fits worker is lines rounds session here start begins first l.now l.there l.common l.asked in
+      (l.now, l.there, cut),
 )
 
 pub passed_bounds : PassedBoundsLaw

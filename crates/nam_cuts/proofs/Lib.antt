@@ -5,4 +5,5 @@ pub mod Turns
 pub mod OpenedLemmas
 pub mod BoundLemmas
 pub mod Stands
+pub mod ClosedLemmas
 pub mod CutsLemmas

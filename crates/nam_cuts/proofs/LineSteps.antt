@@ -1,6 +1,6 @@
 -- A line that is asked once more, and how many verbs it passed.
-use Rattle.std.proofs.Common.{◌≡◌, ℕ, zero, suc, ◌+◌, ◌-◌, ◌^◌, ◌<◌, ◌≤◌, Bool, true, false, refl, sym, ap, ◌∙◌, subst}
-use Rattle.std.proofs.Common.{arith, inl, inr, ◌⊎◌}
+use Rattle.std.proofs.Common.{◌≡◌, ℕ, zero, suc, ◌+◌, ◌-◌, ◌^◌, ◌<◌, ◌≤◌, true, false, refl, sym, ◌∙◌, subst}
+use Rattle.std.proofs.Common.{arith}
 use Rattle.std.proofs.Math.Nat.{min-eq_left}
 use Rattle.std.proofs.lemmas.Bool.{false≢true}
 use Rattle.nam_line.specs.Plan.{Plan, Line, asked_once, refuses, refuses_next, next_asked, passed_up_to, passed_by}

@@ -1,12 +1,11 @@
 -- What a session keeps with each word, however many calls it asks; and what a stop leaves of it.
-use Rattle.std.proofs.Common.{◌≡◌, ℕ, zero, suc, ◌+◌, ◌≤◌, Bool, true, false, not, List, refl, sym, ◌∙◌, ap, subst}
+use Rattle.std.proofs.Common.{◌≡◌, ℕ, zero, suc, ◌+◌, Bool, true, false, not, List, refl, sym, ◌∙◌, ap}
 use Rattle.std.proofs.Common.{arith, Option, Some, None}
 use Rattle.std.specs.Prelude.{◌==◌, ◌||◌, ◌&&◌, if◌then◌else◌, [], ◌∷◌, length, is_some, slice_get}
 use Rattle.std.proofs.lemmas.Bool.{false≢true}
 use Rattle.si_model.specs.declared.row.Key.{Key}
 use Rattle.si_model.specs.Rows.{key_at}
 use Rattle.si_model.specs.declared.log.Finish.{Finish}
-use Rattle.si_model.specs.declared.log.Log.{Log}
 use Rattle.si_model.specs.declared.op.Policy.{Policy}
 use Rattle.nam_verbs.specs.declared.now.Now.{Now}
 use Rattle.nam_verbs.specs.declared.now.Now.TheVariants.{At, Over}
@@ -15,11 +14,12 @@ use Rattle.nam_catalog.specs.declared.shape.Shape.{Shape}
 use Rattle.nam_catalog.specs.Fits.{FitsLimits}
 use Rattle.nam_layout.specs.declared.field.Field.{Field}
 use Rattle.nam_calls.specs.declared.medic.MedicPoint.{MedicPoint}
-use Rattle.nam_calls.specs.Medic.{medic_begin, medic_after}
+use Rattle.nam_calls.specs.Medic.{medic_begin}
 use Rattle.nam_calls.proofs.FallsTests.{either}
 use Rattle.nam_protocol.specs.declared.client.Answer.{Answer}
 use Rattle.nam_protocol.specs.declared.client.Answer.TheVariants as answer
 use Rattle.nam_protocol.specs.declared.client.Call.{Call}
+use Rattle.nam_protocol.specs.declared.client.CallPoint.{CallPoint}
 use Rattle.nam_protocol.specs.declared.client.ClientState.{ClientState}
 use Rattle.nam_protocol.specs.declared.session.DriverPoint.{DriverPoint}
 use Rattle.nam_protocol.specs.declared.session.DriverPoint.TheVariants.{ToBegin, ToAsk, ToTidy, ToCollect}
@@ -31,14 +31,14 @@ use Rattle.nam_protocol.specs.declared.txn.TxnAnswer.TheVariants as txn_answer
 use Rattle.nam_protocol.specs.Client.{client_after, client_ask, client_verb, verb_of}
 use Rattle.nam_protocol.specs.Commit.{has_intents}
 use Rattle.nam_protocol.specs.CutClient.{finish_of}
-use Rattle.nam_protocol.specs.Driver.{driver_next, driver_take, next_job, next_try, on_begin, on_commit, on_full, on_tidy}
+use Rattle.nam_protocol.specs.Driver.{driver_next, next_job, next_try, on_begin, on_tidy}
 use Rattle.nam_protocol.specs.Driver.{keys_of_job, new_driver, on_ask, on_txn, place_taken, retried, tidying}
 use Rattle.nam_protocol.specs.Telling.{new_client}
-use Rattle.nam_protocol.specs.Session.{new_session}
+use Rattle.nam_protocol.specs.Session.{new_session, verb_by}
 use Rattle.nam_protocol.specs.Session.{after_by, answer_now, call_taken, calls_at_most, cut_in, has_ended, jobs_over}
 use Rattle.nam_protocol.specs.Session.{session_after, session_cut, session_verb, settle, stopped, taken, treated}
-use Rattle.nam_protocol.specs.SessionFits.{SessionFits}
-use Rattle.nam_protocol.proofs.EndsSession.{by_medic}
+use Rattle.nam_protocol.specs.SessionFits.{SessionFits, is_running}
+use Rattle.nam_protocol.proofs.EndsSession.{by_medic, uncut_of}
 use Rattle.nam_protocol.proofs.EndsSettled.{sessions_settle}
 use Rattle.nam_cuts.proofs.ClientSteps.{ClientGoes, asked_goes, snaps_spent, word_goes}
 
@@ -196,6 +196,7 @@ module _ (shape : Shape) where
   -- the medic's word leaves the client and the driver as they were
   pub record Treats (session after : SessionState) : Type 0 where
     pub goes : SessionGoes 0 session after
+    pub call : after.client.call ≡ session.client.call
     pub driver : after.driver ≡ session.driver
 
   cut_has_none : (client : ClientState) (verb : VerbAt Field) → client.cut ≡ true
@@ -211,13 +212,30 @@ module _ (shape : Shape) where
   medic_treats limits session verb found cut e =
       by_medic shape limits session verb found (Treats session) e
       (λ none stands. absurd (cut_has_none session.client verb cut stands))
-      (λ place is. record { goes = treated_goes 0 session _; driver = refl })
+      (λ place is. record { goes = treated_goes 0 session _; call = refl; driver = refl })
+
+  -- where the verb is the client's its call runs
+  verb_runs : (client : ClientState) (now : Option (Now CallPoint Answer)) (verb : VerbAt Field)
+      → verb_of shape client now ≡ Some verb → is_running now ≡ true
+  verb_runs client None verb e = absurd (cc)
+  verb_runs client (Some (At place)) verb e = refl
+  verb_runs client (Some (Over end)) verb e = absurd (cc)
+
+  pub uncut_runs : (session : SessionState) (verb : VerbAt Field) → SessionFits shape session
+      → session.client.cut ≡ false → session_verb shape session ≡ Some verb → is_running session.client.call ≡ true
+  uncut_runs session verb fits uncut e =
+      let client = session.client in
+      let medic = (uncut_of shape session fits uncut).1 in
+      verb_runs client client.call verb
+      (sym (ap (λ (c : Bool). if c then None else verb_of shape client client.call) uncut)
+      ∙ sym (ap (λ m. verb_by shape session m) medic) ∙ e)
 
 -- 3. A stop
 
 -- the log, the call, the jobs and the driver are as they were
 pub record Leaves (shape : Shape) (session after : SessionState) : Type 0 where
   pub log : after.client.log ≡ session.client.log
+  pub call : after.client.call ≡ session.client.call
   pub spent : snaps_spent shape after.client ≡ snaps_spent shape session.client
   pub jobs : after.jobs ≡ session.jobs
   pub driver : after.driver ≡ session.driver
@@ -233,11 +251,12 @@ or_false false b e f = f
 module _ (shape : Shape) (session : SessionState) where
   pub stop_leaves : Leaves shape session (session_cut shape.form session)
   stop_leaves =
-      let same : Leaves shape session session = record { log = refl; spent = refl; jobs = refl; driver = refl } in
+      let same : Leaves shape session session =
+      record { log = refl; call = refl; spent = refl; jobs = refl; driver = refl } in
       let stop : Leaves shape session (stopped session) =
-      record { log = refl; spent = refl; jobs = refl; driver = refl } in
+      record { log = refl; call = refl; spent = refl; jobs = refl; driver = refl } in
       let held : Leaves shape session (treated (stopped session) (At medic_begin)) =
-      record { log = refl; spent = refl; jobs = refl; driver = refl } in
+      record { log = refl; call = refl; spent = refl; jobs = refl; driver = refl } in
       either (Leaves shape session) (jobs_over session || session.client.cut) session (cut_in shape.form session) same
       (either (Leaves shape session) (has_intents shape.form) (treated (stopped session) (At medic_begin))
       (stopped session) held stop)

@@ -1,10 +1,8 @@
--- What holds of a worker's session and its line after any turns: no cut is listed; the line passed all that it was asked
--- for, or the last was refused and the session is cut; and how many verbs it was asked for.
-use Rattle.std.proofs.Common.{◌≡◌, ℕ, suc, ◌+◌, ◌-◌, ◌^◌, ◌<◌, ◌≤◌, Bool, true, false, List, take, drop, refl, sym, ap, ◌∙◌}
+-- What holds of a worker's session and its line after any turns: no cut is listed; the line passed all that it was
+-- asked for, or the last was refused and the session is cut; and how many verbs it was asked for.
+use Rattle.std.proofs.Common.{◌≡◌, ℕ, ◌+◌, ◌-◌, ◌^◌, ◌≤◌, Bool, true, false, List, take, drop, sym, ap, ◌∙◌}
 use Rattle.std.proofs.Common.{subst, arith, Option, Some, None}
 use Rattle.std.proofs.lemmas.Bool.{false≢true}
-use Rattle.std.specs.List.{AllByRecursion}
-use Rattle.si_model.specs.declared.log.Log.{Log}
 use Rattle.si_model.specs.declared.op.Policy.{Policy}
 use Rattle.nam_verbs.specs.VerbAt.{VerbAt}
 use Rattle.nam_line.specs.Plan.{Line, asked_once, next_asked, passed_by, refuses_next}
@@ -18,14 +16,14 @@ use Rattle.nam_protocol.specs.declared.session.Job.{Job}
 use Rattle.nam_protocol.specs.declared.session.SessionState.{SessionState}
 use Rattle.nam_protocol.specs.Left.{jobs_bound, medic_room, session_left}
 use Rattle.nam_protocol.specs.Session.{session_after, session_cut, session_verb}
-use Rattle.nam_protocol.specs.SessionFits.{SessionFits}
+use Rattle.nam_protocol.specs.SessionFits.{SessionFits, is_running}
 use Rattle.nam_protocol.proofs.EndsSession.{session_word}
 use Rattle.nam_protocol.proofs.EndsSettled.{session_cut_ends}
 use Rattle.nam_cuts.specs.Cuts.{PassedAll, RefusedLast, TellsNoCut}
 use Rattle.nam_cuts.proofs.BoundLemmas.{bound_parts, left_more}
 use Rattle.nam_cuts.proofs.ClientSteps.{snaps_spent}
 use Rattle.nam_cuts.proofs.LineSteps.{next_count, passed_next, refused_next}
-use Rattle.nam_cuts.proofs.SessionSteps.{SessionGoes, after_goes, medic_treats, stop_cuts, stop_leaves}
+use Rattle.nam_cuts.proofs.SessionSteps.{after_goes, medic_treats, stop_cuts, stop_leaves, uncut_runs}
 use Rattle.nam_cuts.proofs.Turns.{TurnKeeps}
 
 clash : (b : Bool) → b ≡ false → b ≡ true → ⊥
@@ -39,6 +37,8 @@ module _ (shape : Shape) (limits : FitsLimits shape) (policy : Policy) (jobs : L
     pub jobs_are : session.jobs ≡ jobs
     pub policy_is : session.driver.policy ≡ policy
     pub tells : TellsNoCut session.client.log
+    -- it was stopped in a call
+    pub runs : session.client.cut ≡ true → is_running session.client.call ≡ true
 
   common_word : (session : SessionState) (verb : VerbAt Field) (found : ℕ) → session_verb shape session ≡ Some verb
       → Common session → Common (session_after shape session found)
@@ -49,16 +49,21 @@ module _ (shape : Shape) (limits : FitsLimits shape) (policy : Policy) (jobs : L
         jobs_are = goes.jobs ∙ c.jobs_are;
         policy_is = goes.policy ∙ c.policy_is;
         tells = goes.client.tells c.tells;
+        runs = λ cut.
+            let was = sym goes.client.cut ∙ cut in
+            ap is_running (medic_treats shape limits session verb found was e).call ∙ c.runs was;
       }
 
-  common_cut : (session : SessionState) → Common session → Common (session_cut shape.form session)
-  common_cut session c =
+  common_cut : (session : SessionState) (verb : VerbAt Field) → session.client.cut ≡ false
+      → session_verb shape session ≡ Some verb → Common session → Common (session_cut shape.form session)
+  common_cut session verb uncut e c =
       let leaves = stop_leaves shape session in
       record {
         fits = (session_cut_ends shape limits session c.fits).fits;
         jobs_are = leaves.jobs ∙ c.jobs_are;
         policy_is = ap (λ (d : DriverState). d.policy) leaves.driver ∙ c.policy_is;
         tells = subst TellsNoCut (sym leaves.log) c.tells;
+        runs = λ cut. ap is_running leaves.call ∙ uncut_runs shape session verb c.fits uncut e;
       }
 
   -- 2. A worker without a line is not cut
@@ -197,7 +202,7 @@ module _ (shape : Shape) (limits : FitsLimits shape) (policy : Policy) (jobs : L
       passes = λ line session verb found uncut e is l.
           (common_word session verb found e l.0, asked_passes line session verb found l.0 uncut e is l.1);
       refused = λ line session verb uncut e is l.
-          (common_cut session l.0, asked_refused line session verb l.0 uncut e is l.1);
+          (common_cut session verb uncut e l.0, asked_refused line session verb l.0 uncut e is l.1);
     }
 
   -- 4. The line of a session that is cut is asked no more

@@ -1,6 +1,6 @@
 -- Which verbs a line passed since it was last looked at, and which events of a log tell of a cut.
 use Rattle.std.specs.Prelude.{◌≡◌, ℕ, ◌-◌, ◌<◌, ◌≤◌, Bool, true, false}
-use Rattle.std.specs.List.{AllByRecursion}
+use Rattle.std.specs.List.{AllByRecursion, list_any}
 use Rattle.si_model.specs.declared.log.Event.{Event}
 use Rattle.si_model.specs.declared.log.Event.TheVariants.{TailCut, Finished}
 use Rattle.si_model.specs.declared.log.Log.{Log}
@@ -18,6 +18,9 @@ tells_cut event = is_stopped event
 
 abbrev pub TellsNoCut : Log → Type 0
 TellsNoCut log = AllByRecursion (λ event. tells_cut event ≡ false) log.events
+
+abbrev pub TellsCut : Log → Type 0
+TellsCut log = list_any tells_cut log.events ≡ true
 
 -- 2. A line at the start, and now
 

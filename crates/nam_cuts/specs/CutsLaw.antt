@@ -11,7 +11,7 @@ use Rattle.nam_protocol.specs.World.{session_of, HasNoVerb}
 use Rattle.nam_protocol.specs.Schedule.{Run, Scenario, after_workers, jobs_of, simulated}
 use Rattle.nam_protocol.specs.Left.{jobs_bound}
 use Rattle.nam_protocol.specs.EndsLaw.{ScenarioFits}
-use Rattle.nam_cuts.specs.Cuts.{TellsNoCut, PassedAll, RefusedLast, passed_since}
+use Rattle.nam_cuts.specs.Cuts.{TellsCut, TellsNoCut, PassedAll, RefusedLast, passed_since}
 
 -- 1. Cuts
 
@@ -30,6 +30,8 @@ pub record LineCuts (c : Scenario) (run : Run) (worker : ℕ) (session : Session
   pub uncut : session.client.cut ≡ false → PassedAll start now
   -- where it is cut the last verb was refused, and no other
   pub cut : session.client.cut ≡ true → RefusedLast start now
+  -- its log tells of the cut
+  pub told : session.client.cut ≡ true → TellsCut (session_log c.shape session)
   -- from then on the line is asked no more
   pub asked_no_more : session.client.cut ≡ true → (turns : List ℕ)
       → slice_get (after_workers c.shape run turns).lines (worker - 1) ≡ Some now

@@ -1,5 +1,5 @@
 -- A commit as its registers have it: where it stands, beside the transaction.
-use Rattle.std.specs.Prelude.{◌≡◌, ℕ, List, Option, Some, None}
+use Rattle.std.specs.Prelude.{◌≡◌, ℕ, List, Option, Some, None, Bool, true, false}
 use Rattle.nam_verbs.specs.declared.now.Now.{Now}
 use Rattle.nam_verbs.specs.declared.now.Now.TheVariants.{At, Over}
 use Rattle.nam_verbs.specs.declared.verb.Verb.{Verb}
@@ -54,6 +54,12 @@ call_of (Over end) = Over end
 -- the transaction with its commit
 abbrev pub committed : TxnState → Commits → Stepped
 committed state a = record { state = state; call = call_of a.state }
+
+-- only guards' headers, or the intent's end, are to be written: the worker's entry was
+abbrev pub has_published : Now CommitPoint TxnAnswer → Bool
+has_published (At (point.Freeing nth)) = true
+has_published (At point.Ending) = true
+has_published _ = false
 
 -- 2. By the step, and the words got or the old ones in the buffer
 

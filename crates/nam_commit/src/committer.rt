@@ -12,7 +12,7 @@ ghost use Rattle.nam_protocol.specs.Commit.{ask_commit};
 ghost use Rattle.nam_commit.specs.Stands.{IntentStands};
 ghost use Rattle.nam_protocol.specs.TxnFits.{StateFits, commit_bound};
 ghost use Rattle.nam_commit.specs.Commits.{committed, resting, CommitsFit, CommitsStand, commits_verb, commits_after};
-ghost use Rattle.nam_commit.specs.Commits.{commits_left, number_of};
+ghost use Rattle.nam_commit.specs.Commits.{commits_left, has_published, number_of};
 
 use crate::asking::begin;
 use crate::leaving::step_left;
@@ -126,6 +126,14 @@ impl Committer {
             Step::Refused { .. } | Step::Committed { .. } | Step::ReadOnly | Step::Spent => true,
             _ => false,
         }
+    }
+
+    /// Whether the commit that runs has published: only guards' headers, or the intent's end, are to be written.
+    #[inline]
+    pub fn has_published(&self) -> bool
+        ensures { result ≡ has_published self.now.state }
+    {
+        matches!(self.step, Step::Freeing { .. } | Step::Ending)
     }
 
     /// The number under which the commit is done, and none where it is not over or was over without a commit.

@@ -1,4 +1,4 @@
-use Rattle.std.proofs.Common.{[], ◌∷◌, ◌++◌, List, map, ap, sym, ◌∙◌, subst, append_assoc}
+use Rattle.std.proofs.Common.{[], ◌≡◌, ◌∷◌, ◌++◌, List, map, ap, sym, ◌∙◌, subst, append_assoc}
 use Rattle.std.specs.Prelude.{All}
 use Rattle.std.specs.Vec.Iter.{into_iter_items}
 use Rattle.std.proofs.lemmas.List.Elements.{All-tail}
@@ -11,6 +11,16 @@ use Rattle.nam_core.proofs.world.logs_of.Goals as goal
 abbrev logs_in : {S : Type 0} → Shape → (S → SessionState) → List S → List Log
 logs_in shape session sessions = map (session_log shape) (map session sessions)
 
+-- the log of the next session follows
+pushed : {S : Type 0} (shape : Shape) (session : S → SessionState) (logs more : List Log) (log : Log) (item : S)
+    (rest all : List S) → more ≡ logs ++ log ∷ [] → log ≡ session_log shape (session item) → all ≡ item ∷ rest
+    → more ++ logs_in shape session rest ≡ logs ++ logs_in shape session all
+pushed shape session logs more log item rest all m l a =
+    ap (λ (ls : List Log). ls ++ logs_in shape session rest) m
+    ∙ append_assoc logs (log ∷ []) (logs_in shape session rest)
+    ∙ ap (λ (x : Log). logs ++ x ∷ logs_in shape session rest) l
+    ∙ ap (λ ls. logs ++ logs_in shape session ls) (sym a)
+
 pub loop-session-preserved : goal.loop-session-preserved
 loop-session-preserved g c =
     let shape = c.args.layout.now in
@@ -22,9 +32,7 @@ loop-session-preserved g c =
           All-tail (g.S.Runs.IsOf c.args.layout.now) c.in-Some.session rest
           (subst (All (g.S.Runs.IsOf c.args.layout.now)) next c.loop-session.invariant.of);
       rest =
-          ap (λ (l : List Log). l ++ logs_in shape session rest) c.in_ok-push.ensures.ok
-          ∙ append_assoc c.loop-session.logs (c.into_log.result ∷ []) (logs_in shape session rest)
-          ∙ ap (λ (log : Log). c.loop-session.logs ++ log ∷ logs_in shape session rest) c.into_log.ensures
-          ∙ ap (λ l. c.loop-session.logs ++ logs_in shape session l) (sym next)
+          pushed shape session c.loop-session.logs c.push.new.self c.into_log.result c.in-Some.session rest
+          (into_iter_items c.loop-session.session-iterator) c.in_ok-push.ensures.ok c.into_log.ensures next
           ∙ c.loop-session.invariant.rest;
     }

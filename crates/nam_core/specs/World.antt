@@ -1,5 +1,7 @@
 -- A world of a shape.
-use Rattle.std.specs.Prelude.{◌≡◌, ℕ, List, map, length, All, Option, Some, None}
+use Rattle.std.specs.Prelude.{◌≡◌, ℕ, List, map, length, All, Option, Some, None, Bool}
+use Rattle.std.specs.Prelude.{is_some}
+use Rattle.std.specs.List.{list_any}
 use Rattle.si_model.specs.declared.row.Row.{Row}
 use Rattle.nam_verbs.specs.Verb.{after_verb, found_by}
 use Rattle.nam_verbs.specs.VerbAt.{VerbAt}
@@ -62,3 +64,8 @@ IsStep shape words session after next (Some verb) =
 
 abbrev pub IsStepped : Shape → List ℕ → SessionState → List ℕ → SessionState → Type 0
 IsStepped shape words session after next = IsStep shape words session after next (session_verb shape session)
+
+-- 4. Is there a verb to come
+
+abbrev pub are_live : Shape → List SessionState → Bool
+are_live shape sessions = list_any (λ session. is_some (session_verb shape session)) sessions

@@ -30,6 +30,10 @@ pub trait Runs: Drop {
         ensures within { (shape : Shape) → IsOf shape self.now
             → IfSome result (λ verb. address_of verb < words_of shape) };
 
+    /// Whether it was stopped.
+    fn is_cut(&self) -> bool
+        ensures { result ≡ (session self.now).client.cut };
+
     /// Goes on with the word that the verb found.
     fn take(&mut self, layout: &Layout, found: u64)
         requires of { IsOf layout.now self.old }

@@ -104,6 +104,10 @@ impl Runs for Never {
         None
     }
 
+    fn is_cut(&self) -> bool {
+        self.state.client.cut
+    }
+
     fn take(&mut self, _layout: &Layout, _found: u64) {}
 
     fn cut(&mut self, _layout: &Layout) {}

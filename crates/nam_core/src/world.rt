@@ -6,11 +6,12 @@ ghost use Rattle.nam_catalog.specs.Limits.{fault_of};
 ghost use Rattle.nam_catalog.specs.Words.{words_of};
 ghost use Rattle.nam_calls.specs.Memory.{verb_there};
 ghost use Rattle.nam_protocol.specs.Session.{session_verb, session_after, session_log};
-ghost use Rattle.nam_protocol.specs.World.{world_verb, step, cut, after_turn, after_turns};
+ghost use Rattle.nam_protocol.specs.World.{world_verb, session_of, is_cut, step, cut, after_turn, after_turns};
+ghost use Rattle.nam_protocol.specs.Schedule.{is_live};
 ghost use Rattle.nam_protocol.specs.Closed.{closed};
 ghost use Rattle.nam_core.specs.Opening.{FitsRow};
 ghost use Rattle.nam_core.specs.Turn.{turn_of, turns_of};
-ghost use Rattle.nam_core.specs.World.{Opened, NotMade, IsStepped};
+ghost use Rattle.nam_core.specs.World.{Opened, NotMade, IsStepped, are_live};
 
 use crate::audited::audit;
 use crate::make_error::MakeError;
@@ -81,6 +82,19 @@ fn step_session<S: Runs>(layout: &Layout, region: &mut PlainRegion, session: &mu
     }
 }
 
+// Whether any of the sessions has a verb to come.
+fn are_live<S: Runs>(layout: &Layout, sessions: &[S]) -> bool
+    requires { All (S.IsOf layout.now) sessions.now }
+    ensures { result ≡ are_live layout.now (map S.session sessions.now) }
+{
+    for session in sessions {
+        if session.verb().is_some() {
+            return true;
+        }
+    }
+    false
+}
+
 // The logs of the sessions.
 fn logs_of<S: Runs>(
     alloc: Global,
@@ -144,6 +158,23 @@ impl<S: Runs> World<S> {
     {
         let session = self.sessions.get(worker.saturating_sub(1) as usize)?;
         session.verb()
+    }
+
+    /// Whether the worker was stopped.
+    pub fn is_cut(&self, worker: u32) -> bool
+        ensures { result ≡ is_cut (session_of self.now.world worker) }
+    {
+        match self.sessions.get(worker.saturating_sub(1) as usize) {
+            Some(session) => session.is_cut(),
+            None => false,
+        }
+    }
+
+    /// Whether any worker has a verb to come.
+    pub fn is_live(&self) -> bool
+        ensures { result ≡ is_live self.now.shape self.now.world }
+    {
+        are_live(&self.layout, self.sessions.as_slice())
     }
 
     /// The worker's next verb is done, if it has one.

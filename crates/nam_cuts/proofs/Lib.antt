@@ -1,0 +1,9 @@
+pub mod ClientSteps
+pub mod SessionSteps
+pub mod LineSteps
+pub mod Turns
+pub mod OpenedLemmas
+pub mod BoundLemmas
+pub mod Stands
+pub mod ClosedLemmas
+pub mod CutsLemmas

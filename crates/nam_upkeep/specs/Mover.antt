@@ -1,6 +1,5 @@
 -- A move in registers.
-use Rattle.std.specs.Prelude.{◌≡◌, ℕ, Option, None, Some}
-use Rattle.si_model.specs.declared.log.Stamp.{Stamp}
+use Rattle.std.specs.Prelude.{◌≡◌, ℕ}
 use Rattle.nam_verbs.specs.declared.now.Now.{Now}
 use Rattle.nam_verbs.specs.declared.now.Now.TheVariants.{At, Over}
 use Rattle.nam_verbs.specs.Now.{FitsNow, after_now}

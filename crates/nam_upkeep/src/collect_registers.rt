@@ -133,7 +133,8 @@ impl CollectRegisters {
         requires cell { self.old.cell < self.old.cells.cells }
         requires tag { HasTag self.old }
         ensures value { collection_of self.new ≡ record (collection_of self.old) {
-            state = collect_next self.old.cells self.old.known self.old.cell } }
+          state = collect_next self.old.cells self.old.known self.old.cell;
+        } }
         ensures tag { HasTag self.new }
     {
         if self.cell + 1 == self.cells.cells {
@@ -186,7 +187,8 @@ impl CollectRegisters {
         requires more { length self.old.known < self.old.workers }
         requires tag { HasTag self.old }
         ensures value { collection_of self.new ≡ record (collection_of self.old) {
-            state = entry_known self.old.workers (self.old.known ++ entry ∷ []) } }
+          state = entry_known self.old.workers (self.old.known ++ entry ∷ []);
+        } }
         ensures tag { HasTag self.new }
     {
         self.known.push(entry);

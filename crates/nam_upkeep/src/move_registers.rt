@@ -169,8 +169,9 @@ impl MoveRegisters {
         requires cell { self.old.cell < self.old.cells.cells }
         requires tag { HasTag self.old }
         ensures value { moving_of self.new ≡ record (moving_of self.old) {
-            state = on_claim self.old.cells self.old.slot self.old.header self.old.ending
-            (claim_next self.old.cells self.old.cell) } }
+          state = on_claim self.old.cells self.old.slot self.old.header self.old.ending
+              (claim_next self.old.cells self.old.cell);
+        } }
         ensures tag { HasTag self.new }
     {
         if self.cell + 1 == self.cells.cells {

@@ -134,12 +134,30 @@ fn a_cell_within_the_horizon_is_freed(rt: HostRuntime) -> Result<(), AllocError>
     let seen = pair(1, 0);
     let mut collector = Collector::new();
     collector.begin(&cells, 2);
-    assert_eq!(rt; step_collection(&mut store, &mut collector, &seen), Some(read(2)));
-    assert_eq!(rt; step_collection(&mut store, &mut collector, &seen), Some(exchange(2, 0, 1)));
-    assert_eq!(rt; step_collection(&mut store, &mut collector, &seen), Some(read(3)));
-    assert_eq!(rt; step_collection(&mut store, &mut collector, &seen), Some(read(11)));
-    assert_eq!(rt; step_collection(&mut store, &mut collector, &seen), Some(read(14)));
-    assert_eq!(rt; step_collection(&mut store, &mut collector, &seen), Some(exchange(11, 2, 4)));
+    assert_eq!(rt;
+        step_collection(&mut store, &mut collector, &seen),
+        Some(read(2))
+    );
+    assert_eq!(rt;
+        step_collection(&mut store, &mut collector, &seen),
+        Some(exchange(2, 0, 1))
+    );
+    assert_eq!(rt;
+        step_collection(&mut store, &mut collector, &seen),
+        Some(read(3))
+    );
+    assert_eq!(rt;
+        step_collection(&mut store, &mut collector, &seen),
+        Some(read(11))
+    );
+    assert_eq!(rt;
+        step_collection(&mut store, &mut collector, &seen),
+        Some(read(14))
+    );
+    assert_eq!(rt;
+        step_collection(&mut store, &mut collector, &seen),
+        Some(exchange(11, 2, 4))
+    );
     if collector.is_over() {
         assert!(rt; collector.known().as_slice() == [1, 0].as_slice());
     } else {

@@ -1,8 +1,7 @@
 -- A snapshot in registers.
-use Rattle.std.specs.Prelude.{ℕ, ◌≤◌, List, [], Option, Some, None}
+use Rattle.std.specs.Prelude.{◌≡◌, ℕ, ◌≤◌, List, [], length, Option, Some, None}
 use Rattle.nam_verbs.specs.declared.now.Now.{Now}
 use Rattle.nam_verbs.specs.declared.now.Now.TheVariants.{At, Over}
-use Rattle.nam_verbs.specs.Now.{FitsNow}
 use Rattle.nam_catalog.specs.declared.bounds.TheConstants.{MOST_WORKERS}
 use Rattle.nam_vector.specs.declared.snap.SnapPoint.{SnapPoint}
 use Rattle.nam_vector.specs.declared.snap.SnapPoint.TheVariants.{First, Second}
@@ -21,9 +20,12 @@ state_of step.Second seen nth = At (Second seen nth)
 state_of (step.Over told.Done) seen nth = Over (Done seen)
 state_of (step.Over (told.Again worker first second)) seen nth = Over (Again worker first second)
 
--- there are not too many workers, and the point fits, where the snapshot is not over
+-- there are not too many workers, and the point fits, where the snapshot is not over; one that is done has an entry for
+-- each worker
 abbrev pub FitsSnapper : ℕ → Now SnapPoint SnapEnd → Type 0
-FitsSnapper workers state = FitsNow (λ at. (workers ≤ MOST_WORKERS) × SnapFits workers at) state
+FitsSnapper workers (At at) = (workers ≤ MOST_WORKERS) × SnapFits workers at
+FitsSnapper workers (Over (Done seen)) = length seen ≡ workers
+FitsSnapper workers (Over (Again worker first second)) = Unit {0}
 
 -- a snapshot of no workers that is done
 abbrev pub resting : Snapping

@@ -106,6 +106,13 @@ impl Mover {
         self.registers.end()
     }
 
+    /// The bucket whose cells it is of.
+    pub fn bucket(&self) -> u32
+        ensures { result ≡ self.now.cells.bucket }
+    {
+        self.registers.cells.bucket
+    }
+
     /// The stamp of the version for which a cell was claimed, from the exchange that claimed it to the move's end.
     pub fn claimed(&self) -> Option<Stamp>
         ensures { result ≡ claimed_now self.now }

@@ -1,6 +1,6 @@
 //! Snapshots of the vector, in registers.
 
-ghost use Rattle.std.specs.Prelude.{◌≡◌, ◌<◌, ◌≤◌, ◌*◌, Some, IsSome, IfSome};
+ghost use Rattle.std.specs.Prelude.{◌≡◌, ◌<◌, ◌≤◌, ◌*◌, length, Some, IsSome, IfSome};
 ghost use Rattle.nam_verbs.specs.declared.now.Now.TheVariants.{Over};
 ghost use Rattle.nam_verbs.specs.Verb.{address_of};
 ghost use Rattle.nam_verbs.specs.Running.{next_verb, after_found, end_of, verbs_left};
@@ -159,7 +159,8 @@ impl Snapper {
     #[inline]
     pub fn seen(&self) -> &Snapshot
         requires { end_told (end_of (running self.now)) ≡ Some told.Done }
-        ensures { self.now.state ≡ Over (Done result.now) }
+        ensures done { self.now.state ≡ Over (Done result.now) }
+        ensures whole { length result.now ≡ self.now.workers }
     {
         &self.seen
     }

@@ -1,0 +1,3 @@
+pub mod Registers
+pub mod Room
+pub mod Fits

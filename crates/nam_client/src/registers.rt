@@ -1,0 +1,93 @@
+//! What a client has at hand.
+
+use nam_calls::Path;
+use nam_log::{RoomyList, RunningLog};
+use nam_protocol::Scanned;
+use nam_protocol::TxnState;
+use nam_upkeep::{Collector, Mover, Snapper};
+use si_model::Finish;
+
+/// How many calls a client has room for: begins, operations, and tidyings or collections.
+#[derive(Clone, Copy, Debug, PartialEq, Eq)]
+pub struct Spare {
+    pub attempts: u32,
+    pub ops: u32,
+    pub tidies: u32,
+}
+
+/// What is counted of the open transaction, or of the last one.
+#[derive(Clone, Copy, Debug, PartialEq, Eq)]
+pub struct Attempting {
+    pub txn: u32,
+    pub nth: u32,
+    pub prefix: u64,
+    pub ops: u32,
+    /// The same, where a scan counts as many as its table has positions.
+    pub ops_so_far: u32,
+    pub reads: u32,
+    pub locks: u32,
+}
+
+/// The call that was asked last. Where it stands is said by what it runs on.
+#[derive(Clone, Copy, Debug, PartialEq, Eq)]
+pub enum Step {
+    /// No call was asked yet.
+    Resting,
+    /// A begin, on the snapper.
+    Beginning { txn: u32, nth: u32 },
+    /// A call of the transaction.
+    InTxn,
+    /// A scan, on the scan.
+    Scanning { table: u32, low: u64, high: u64 },
+    /// A tidying that searches its key's position, having passed so many of its path.
+    Seeking { table: u32, key: u64, passed: u32 },
+    /// A tidying of that position, on the mover.
+    Moving { table: u32, key: u64, position: u32 },
+    /// A collection's snapshot, on the snapper.
+    Snapping { bucket: u32 },
+    /// A collection on that snapshot, on the collector.
+    Collecting { bucket: u32, prefix: u64 },
+    /// A call that was answered where no machine tells it.
+    Answered(Told),
+}
+
+/// An answer that is kept as it is.
+#[derive(Clone, Copy, Debug, PartialEq, Eq)]
+pub enum Told {
+    /// There was nothing to be moved.
+    Nothing,
+    /// A scan listed so many rows.
+    Scanned { items: u32 },
+    /// A scan found its snapshot too old.
+    TooOld {
+        worker: u32,
+        entry: u64,
+        horizon: u64,
+    },
+    /// A scan's read went astray.
+    Astray,
+}
+
+/// A client's registers.
+#[derive(Debug, Drop)]
+pub struct Registers {
+    pub worker: u32,
+    pub start: u64,
+    pub last: u64,
+    pub log: RunningLog,
+    pub spare: Spare,
+    pub is_open: bool,
+    pub attempt: Attempting,
+    pub state: TxnState,
+    pub step: Step,
+    pub snapper: Snapper,
+    pub mover: Mover,
+    pub collector: Collector,
+    /// The path of the key to be tidied.
+    pub path: Path,
+    /// What the scan that runs has found, position by position.
+    pub scanned: RoomyList<Scanned>,
+    pub is_cut: bool,
+    /// How the client was finished, if it was.
+    pub finish: Option<Finish>,
+}

@@ -1,3 +1,4 @@
 pub mod Registers
 pub mod Room
 pub mod Fits
+pub mod Ending

@@ -1,5 +1,5 @@
 -- The client that a client's registers are.
-use Rattle.std.specs.Prelude.{if◌then◌else◌, ℕ, ◌-◌, true, List, [], Option, Some, None}
+use Rattle.std.specs.Prelude.{if◌then◌else◌, ℕ, ◌+◌, ◌-◌, true, List, drop, length, [], Option, Some, None}
 use Rattle.si_model.specs.declared.log.Event.{Event}
 use Rattle.si_model.specs.declared.log.Event.TheVariants as event
 use Rattle.si_model.specs.declared.log.MoveEnd.TheVariants as moved_how
@@ -26,8 +26,10 @@ use Rattle.nam_protocol.specs.declared.client.CallPoint.TheVariants.{Beginning, 
 use Rattle.nam_protocol.specs.declared.client.CallPoint.TheVariants.{Snapping, Collecting}
 use Rattle.nam_protocol.specs.declared.client.Open.{Open}
 use Rattle.nam_protocol.specs.declared.client.ClientState.{ClientState}
-use Rattle.nam_protocol.specs.Log.{with_event, with_snap, prefix_of}
+use Rattle.nam_protocol.specs.Log.{with_event, with_locks, with_snap, prefix_of}
+use Rattle.nam_protocol.specs.Telling.{locks_from}
 use Rattle.nam_protocol.specs.Txn.{new_txn}
+use Rattle.nam_scan.specs.Scan.{Scanning as ScanValue}
 use Rattle.nam_upkeep.specs.Collector.{collection}
 use Rattle.nam_client.specs.declared.registers.Registers.{Registers}
 use Rattle.nam_client.specs.declared.registers.Step.{Step}
@@ -63,11 +65,19 @@ abbrev pub seen_in : Now SnapPoint SnapEnd → List ℕ
 seen_in (Over (snap_end.Done seen)) = seen
 seen_in _ = []
 
+abbrev pub in_txn : Option (Now TxnPoint TxnAnswer) → Option (Now CallPoint Answer)
+in_txn None = None
+in_txn (Some now) = runs InTxn answer.Txn now
+
+abbrev pub in_scan : Option ScanValue → Option (Now CallPoint Answer)
+in_scan None = None
+in_scan (Some scan) = runs (Scanning scan.range.table scan.range.low scan.range.high) (λ end. answer.Nothing) scan.state
+
 abbrev pub call_of : Step → Registers → Option (Now CallPoint Answer)
 call_of step.Resting a = None
 call_of (step.Beginning txn nth) a = runs (Beginning txn nth) (begun a.attempt.prefix) a.snapper.state
-call_of step.InTxn a = None
-call_of (step.Scanning table low high) a = None
+call_of step.InTxn a = in_txn a.txn.call
+call_of step.Scanning a = in_scan a.scan
 call_of (step.Seeking table key passed) a = Some (At (Seeking table key passed))
 call_of (step.Moving table key position) a = runs (Moving table key position) moved a.mover.state
 call_of (step.Snapping bucket) a = runs (Snapping bucket) (begun 0) a.snapper.state
@@ -86,7 +96,7 @@ open_of a = record {
   ops_so_far = a.attempt.ops_so_far;
   reads = a.attempt.reads;
   locks = a.attempt.locks;
-  state = a.state;
+  state = a.txn.state;
 }
 
 abbrev pub medic_of : Option Finish → Option (Now MedicPoint Finish)
@@ -129,4 +139,16 @@ collecting shape a bucket =
       log = record { log = with_snap a.log.log seen; room = record a.log.room { snaps = a.log.room.snaps - 1 } };
       collector = collection (cells_of shape bucket) shape.workers;
       step = step.Collecting bucket (prefix_of a.start seen);
+    }
+
+-- the transaction's locks beyond those listed are listed
+abbrev pub with_new_locks : Registers → Registers
+with_new_locks a =
+    let locks = locks_from a.txn.state a.attempt.locks (drop a.attempt.locks a.txn.state.held) in
+    record a {
+      log = record {
+        log = with_locks a.log.log locks;
+        room = record a.log.room { locks = a.log.room.locks - length locks };
+      };
+      attempt = record a.attempt { locks = a.attempt.locks + length locks };
     }

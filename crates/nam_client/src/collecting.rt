@@ -34,7 +34,9 @@ pub fn collect(a: &mut Registers, layout: &Layout, bucket: u32)
     ensures room { HasRoom a.new }
 {
     a.spare.tidies -= 1;
-    a.snapper.begin(workers_of(layout, a.worker));
+    let workers = workers_of(layout, a.worker);
+    a.snapper.begin(workers);
+    a.to_follow = 2 * workers as u64 + 3 * layout.cells(bucket).cells as u64;
     a.step = Step::Snapping { bucket };
 }
 

@@ -3,7 +3,8 @@
 use nam_calls::Path;
 use nam_log::{RoomyList, RunningLog};
 use nam_protocol::Scanned;
-use nam_protocol::TxnState;
+use nam_scan::Scan;
+use nam_txn::Txn;
 use nam_upkeep::{Collector, Mover, Snapper};
 use si_model::Finish;
 
@@ -38,7 +39,7 @@ pub enum Step {
     /// A call of the transaction.
     InTxn,
     /// A scan, on the scan.
-    Scanning { table: u32, low: u64, high: u64 },
+    Scanning,
     /// A tidying that searches its key's position, having passed so many of its path.
     Seeking { table: u32, key: u64, passed: u32 },
     /// A tidying of that position, on the mover.
@@ -78,13 +79,16 @@ pub struct Registers {
     pub spare: Spare,
     pub is_open: bool,
     pub attempt: Attempting,
-    pub state: TxnState,
+    pub txn: Txn,
     pub step: Step,
     pub snapper: Snapper,
     pub mover: Mover,
     pub collector: Collector,
     /// The path of the key to be tidied.
     pub path: Path,
+    /// How many verbs follow the search or the snapshot that runs at the most.
+    pub to_follow: u64,
+    pub scan: Option<Scan>,
     /// What the scan that runs has found, position by position.
     pub scanned: RoomyList<Scanned>,
     pub is_cut: bool,

@@ -8,6 +8,7 @@ ghost use Rattle.nam_layout.specs.Place.{place_of, cells_by};
 ghost use Rattle.nam_index.specs.Path.{FitsPath};
 ghost use Rattle.nam_calls.specs.Words.{path_of, capacity_of};
 ghost use Rattle.nam_calls.specs.Fits.{IsTableOf};
+ghost use Rattle.nam_calls.specs.Left.{move_most};
 ghost use Rattle.nam_upkeep.specs.Move.{running, moving};
 ghost use Rattle.nam_protocol.specs.declared.client.Call.TheVariants.{Tidy};
 ghost use Rattle.nam_protocol.specs.Client.{client_ask, client_after};
@@ -24,6 +25,16 @@ use nam_layout::Layout;
 use nam_verbs::Now;
 use si_model::{Event, MoveEnd};
 
+/// How many verbs the move of a version of the table takes at the most.
+fn move_most(layout: &Layout, table: u32) -> u64
+    requires { IsTableOf layout.now table }
+    ensures { result ≡ move_most layout.now table }
+{
+    // A layout's total says that the shape is within its limits: it has a bucket, and the table a position.
+    let _words = layout.total();
+    2 * layout.cells(0).cells as u64 + 2 * layout.place(table, 0).width as u64 + 9
+}
+
 /// Asks for the tidying of a key.
 pub fn tidy(a: &mut Registers, layout: &Layout, table: u32, key: u64)
     requires of { IsClientOf layout.now a.old }
@@ -37,6 +48,7 @@ pub fn tidy(a: &mut Registers, layout: &Layout, table: u32, key: u64)
 {
     a.spare.tidies -= 1;
     a.path = path_of(layout, table, key);
+    a.to_follow = move_most(layout, table);
     a.step = Step::Seeking {
         table,
         key,

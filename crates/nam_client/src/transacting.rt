@@ -1,0 +1,160 @@
+//! Calls of the open transaction, and what they list.
+
+ghost use Rattle.std.specs.Prelude.{◌≡◌, ◌<◌, ◌≤◌, ◌+◌, ◌-◌, ◌^◌, IsSome, true, length};
+ghost use Rattle.nam_protocol.specs.declared.txn.TxnAnswer.{TxnAnswer as Answered};
+ghost use Rattle.nam_protocol.specs.declared.client.Answer.TheVariants as answer;
+ghost use Rattle.nam_protocol.specs.declared.client.Call.TheVariants as call;
+ghost use Rattle.nam_protocol.specs.Client.{client_ask, client_after};
+ghost use Rattle.nam_protocol.specs.Own.{MayAsk};
+ghost use Rattle.nam_protocol.specs.RoomLaw.{call_room};
+ghost use Rattle.nam_protocol.specs.Telling.{on_answer, with_answer};
+ghost use Rattle.nam_catalog.specs.declared.shape.Shape.{Shape};
+ghost use Rattle.nam_txn.specs.Txn.{IsTxnOf, Rests, Runs, answer_in};
+ghost use Rattle.nam_client.specs.declared.registers.Step.TheVariants as step;
+ghost use Rattle.nam_client.specs.Registers.{client_of, call_of, open_of, with_new_locks};
+ghost use Rattle.nam_client.specs.Room.{CanList, HasAnswered, HasRoom, Holds, reads_at_hand};
+ghost use Rattle.nam_client.specs.Fits.{IsClientOf, HandFits};
+ghost use Rattle.nam_client.specs.Ending.{attempt_listed, commit_listed, read_listed};
+
+use crate::ending::{Ending, ending_of};
+use crate::registers::{Registers, Step};
+use nam_layout::Layout;
+use nam_protocol::TxnCall;
+use si_model::{Attempt, Outcome};
+
+/// Asks a call of the open transaction.
+pub fn ask_txn(a: &mut Registers, layout: &Layout, call: &TxnCall)
+    requires of { IsClientOf layout.now a.old }
+    requires may { MayAsk layout.now (client_of a.old) (call.Txn call.now) }
+    requires holds { Holds a.old }
+    requires spare { (call_room layout.now (call.Txn call.now)).ops ≤ a.old.spare.ops }
+    requires counted { a.old.attempt.ops_so_far + (call_room layout.now (call.Txn call.now)).ops < 2 ^ 32 }
+    ensures client { client_of a.new ≡ client_ask layout.now (client_of a.old) (call.Txn call.now) }
+    ensures spare { a.new.spare
+        ≡ record a.old.spare { ops = a.old.spare.ops - (call_room layout.now (call.Txn call.now)).ops } }
+    ensures txn { a.new.is_open ≡ true → IsTxnOf layout.now a.new.txn }
+    ensures hand { HandFits layout.now a.new (call_of a.new.step a.new) }
+    ensures room { HasRoom a.new }
+{
+    if !matches!(call, TxnCall::Commit) {
+        a.spare.ops -= 1;
+        a.attempt.ops += 1;
+        a.attempt.ops_so_far += 1;
+    }
+    a.step = Step::InTxn;
+    a.txn.ask(layout, call);
+    if !a.txn.is_busy() {
+        list_answer(a);
+    }
+}
+
+/// Goes on with a word of the transaction's call. A lock that it takes is listed at once.
+#[inline]
+pub fn take_txn(a: &mut Registers, layout: &Layout, found: u64)
+    requires of { IsClientOf layout.now a.old }
+    requires holds { Holds a.old }
+    requires step { a.old.step ≡ step.InTxn }
+    requires runs { Runs a.old.txn.call }
+    ensures client { client_of a.new ≡ client_after layout.now (client_of a.old) found }
+    ensures spare { a.new.spare ≡ a.old.spare }
+    ensures txn { a.new.is_open ≡ true → IsTxnOf layout.now a.new.txn }
+    ensures hand { HandFits layout.now a.new (call_of a.new.step a.new) }
+    ensures room { HasRoom a.new }
+{
+    a.txn.take(layout, found);
+    if a.txn.held_len() != a.attempt.locks {
+        list_lock(a);
+    }
+    if !a.txn.is_busy() {
+        list_answer(a);
+    }
+}
+
+/// Lists the lock that the commit has taken.
+#[inline(never)]
+fn list_lock(a: &mut Registers)
+    requires one { length a.old.txn.state.held ≡ a.old.attempt.locks + 1 }
+    requires word { a.old.attempt.locks + 1 < 2 ^ 32 }
+    requires room { 0 < a.old.log.room.locks }
+    ensures { a.new ≡ with_new_locks a.old }
+{
+    a.log.list_lock(a.txn.lock(a.attempt.locks));
+    a.attempt.locks += 1;
+}
+
+/// Lists what the call has read, and the attempt where it has ended.
+#[inline(never)]
+fn list_answer(a: &mut Registers)
+    requires can { CanList a.old }
+    requires answered { IsSome (answer_in a.old.txn.call) }
+    ensures client { (end : Answered) → HasAnswered a.old end
+        → client_of a.new ≡ with_answer (on_answer (client_of a.old) (open_of a.old) end) (answer.Txn end) }
+    ensures spare { a.new.spare ≡ a.old.spare }
+    ensures txn { (shape : Shape) → IsTxnOf shape a.old.txn → IsTxnOf shape a.new.txn }
+    ensures same { a.new ≡ record a.old {
+      last = a.new.last;
+      log = a.new.log;
+      is_open = a.new.is_open;
+      attempt = a.new.attempt;
+      txn = record a.old.txn { state = a.new.txn.state };
+    } }
+    ensures room { HasRoom a.new }
+{
+    let ending = match a.txn.answered() {
+        Some(answer) => ending_of(answer, a.attempt.ops),
+        None => return,
+    };
+    match ending {
+        Ending::Passes => list_read(a),
+        Ending::Commits { number } => list_commit(a, number),
+        Ending::Ends(outcome) => list_attempt(a, outcome, 0),
+        Ending::EndsReading(outcome) => {
+            list_read(a);
+            list_attempt(a, outcome, 0);
+        }
+    }
+}
+
+/// Lists what the call has read.
+fn list_read(a: &mut Registers)
+    requires rests { Rests a.old.txn.call }
+    requires room { reads_at_hand a.old ≤ a.old.log.room.reads }
+    requires word { a.old.attempt.reads + reads_at_hand a.old < 2 ^ 32 }
+    ensures value { a.new ≡ read_listed a.old }
+    ensures txn { (shape : Shape) → IsTxnOf shape a.old.txn → IsTxnOf shape a.new.txn }
+{
+    if let Some(item) = a.txn.read() {
+        a.log.list_read(item.table, item.key, &item.value);
+        a.attempt.reads += 1;
+    }
+    a.txn.forget_read();
+}
+
+/// Lists the open transaction's attempt as a commit under this number.
+pub fn list_commit(a: &mut Registers, number: u64)
+    requires events { 0 < a.old.log.room.events }
+    requires writes { length a.old.txn.state.writes ≤ a.old.log.room.writes }
+    ensures { a.new ≡ commit_listed a.old number }
+{
+    a.last = number;
+    let writes = a.txn.written();
+    list_attempt(a, Outcome::Commit { number }, writes);
+    a.log.list_writes(a.txn.writes());
+}
+
+/// Lists the open transaction's attempt, which is no longer open then.
+pub fn list_attempt(a: &mut Registers, outcome: Outcome, writes: u32)
+    requires { 0 < a.old.log.room.events }
+    ensures { a.new ≡ attempt_listed a.old outcome writes }
+{
+    a.is_open = false;
+    a.log.list_tried(Attempt {
+        txn: a.attempt.txn,
+        nth: a.attempt.nth,
+        prefix: Some(a.attempt.prefix),
+        reads: a.attempt.reads,
+        locks: a.attempt.locks,
+        writes,
+        outcome,
+    });
+}

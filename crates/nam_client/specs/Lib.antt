@@ -2,3 +2,4 @@ pub mod Registers
 pub mod Room
 pub mod Fits
 pub mod Ending
+pub mod Client

@@ -1,14 +1,23 @@
-//! Scratch.
+//! A worker's client: its calls one at a time, and its log.
+//!
+//! [`Client`] is the client of nam_protocol in registers: what it does with each call and each word is exactly the
+//! definitions' `client_ask` and `client_after`, what it lists is exactly theirs, and it takes no memory but in
+//! `reserve`. It does no input or output: it tells the verb that stands and takes the word that was found.
 #![tactic(auto)]
 
+mod answering;
 mod beginning;
+mod client;
+mod closing;
 mod collecting;
+mod ending;
 mod registers;
 mod room;
+mod scanning;
 mod tidying;
+mod transacting;
+#[cfg(test)]
+mod tests;
 
-pub use beginning::{begin, list_unbegun};
-pub use collecting::{collect, take_collect, take_snap, list_collect};
-pub use room::reserve;
-pub use tidying::{tidy, take_move, take_seek};
-pub use registers::Registers;
+pub use client::Client;
+pub use nam_protocol::{Answer, Call, TxnAnswer, TxnCall};

@@ -1,12 +1,18 @@
 //! What a client has at hand.
 
+ghost use Rattle.std.specs.Prelude.{◌≡◌, false};
+ghost use Rattle.nam_protocol.specs.Telling.{new_client};
+ghost use Rattle.nam_client.specs.Registers.{client_of};
+ghost use Rattle.nam_client.specs.Room.{Holds};
+
 use nam_calls::Path;
 use nam_log::{RoomyList, RunningLog};
 use nam_protocol::Scanned;
 use nam_scan::Scan;
 use nam_txn::Txn;
 use nam_upkeep::{Collector, Mover, Snapper};
-use si_model::Finish;
+use si_model::{Finish, Snapshot};
+use std::alloc::Global;
 
 /// How many calls a client has room for: begins, operations, and tidyings or collections.
 #[derive(Clone, Copy, Debug, PartialEq, Eq)]
@@ -94,4 +100,51 @@ pub struct Registers {
     pub is_cut: bool,
     /// How the client was finished, if it was.
     pub finish: Option<Finish>,
+}
+
+/// The registers of a new client of a worker, whose commit numbers follow `start`.
+pub fn new_registers(alloc: Global, worker: u32, start: u64) -> Registers
+    ensures client { client_of result ≡ new_client worker start }
+    ensures spare { result.spare ≡ record { attempts = 0; ops = 0; tidies = 0 } }
+    ensures holds { Holds result }
+    ensures rests { result.is_open ≡ false }
+{
+    Registers {
+        worker,
+        start,
+        last: start,
+        log: RunningLog::new(alloc),
+        spare: Spare {
+            attempts: 0,
+            ops: 0,
+            tidies: 0,
+        },
+        is_open: false,
+        attempt: Attempting {
+            txn: 0,
+            nth: 0,
+            prefix: 0,
+            ops: 0,
+            ops_so_far: 0,
+            reads: 0,
+            locks: 0,
+        },
+        txn: Txn::new(worker, start, Snapshot::new()),
+        step: Step::Resting,
+        snapper: Snapper::new(),
+        mover: Mover::new(),
+        collector: Collector::new(),
+        path: Path {
+            key: 0,
+            capacity: 1,
+            row: 0,
+            first: 0,
+            words: 0,
+        },
+        to_follow: 0,
+        scan: None,
+        scanned: RoomyList::new(alloc),
+        is_cut: false,
+        finish: None,
+    }
 }

@@ -1,11 +1,10 @@
--- Sorted commits of settled depths are an arranged history.
-use Rattle.std.proofs.Common.{◌≡◌, ℕ, suc, ◌+◌, ◌-◌, ◌^◌, ◌<◌, ◌≤◌, min, max, Bool, true, false, cond, inl, inr, List}
-use Rattle.std.proofs.Common.{[], ◌∷◌, length, map, refl, ap, sym, ◌∙◌, subst, arith, ◌&&◌, ◌==◌, Bor}
+-- The history of any logs, and that it is an arranged one where they can be arranged.
+use Rattle.std.proofs.Common.{◌≡◌, ℕ, suc, ◌+◌, ◌-◌, ◌<◌, ◌≤◌, max, Bool, true, false, cond, inl, inr, List}
+use Rattle.std.proofs.Common.{[], ◌∷◌, length, map, refl, ap, sym, ◌∙◌, subst, arith}
 use Rattle.std.specs.Prelude.{IsPermutation, filter}
-use Rattle.std.specs.List.{AllByRecursion, IsDistinct, list_any}
-use Rattle.std.specs.List.Sorted.{IsNonDecreasingBy}
+use Rattle.std.specs.List.{AllByRecursion, IsDistinct}
 use Rattle.std.proofs.Math.Path.{fun_ext}
-use Rattle.std.proofs.lemmas.Bool.{cond_both, false≢true, true≢false, cases_eq}
+use Rattle.std.proofs.lemmas.Bool.{false≢true, true≢false, cases_eq}
 use Rattle.std.proofs.lemmas.Bool.Decides.{nat_tests}
 use Rattle.std.proofs.lemmas.List.{length-map}
 use Rattle.std.proofs.lemmas.Simd.{map-map}
@@ -16,35 +15,28 @@ use Rattle.si_model.specs.declared.log.Stamp.{Stamp}
 use Rattle.si_model.specs.declared.log.Log.{Log}
 use Rattle.si_model.specs.declared.report.CommitLine.{CommitLine}
 use Rattle.si_model.specs.Lists.{Listed, Pairwise}
-use Rattle.si_model.specs.Rows.{writes_key}
 use Rattle.si_model.specs.Evaluation.{guard_keys}
 use Rattle.si_model.specs.History.{stamp_of, same_stamp}
-use Rattle.si_model.specs.Tells.{Tell, tells_of}
+use Rattle.si_model.specs.Tells.{Tell, CountsFit, tells_of}
 use Rattle.si_model.specs.Commits.{Published, entry_of, published_by, snaps_by}
-use Rattle.si_model.specs.Snapshots.{contains, sum_above}
-use Rattle.si_model.specs.Knowledge.{AreAtMost}
 use Rattle.si_model.specs.Arranged.{level_from, level_of, guards_beside, above_all, AreDepths, Precedes, IsArranged}
-use Rattle.si_model.specs.Consistency.{HaveOrder, CanBeArranged}
-use Rattle.si_model.proofs.ListLemmas.{All-listed, All-from_listed, listed_permutation, listed_map, map_listed}
-use Rattle.si_model.proofs.ListLemmas.{Pairwise-weaker, Pairwise-both, Pairwise-map, Pairwise-unmap, Pairwise-from_near}
-use Rattle.si_model.proofs.SnapshotLemmas.{at_most_by_sum, level_at_most, level_says}
+use Rattle.si_model.specs.Consistency.{CanBeArranged}
+use Rattle.si_model.proofs.ListLemmas.{All-listed, listed_permutation, listed_map, map_listed}
+use Rattle.si_model.proofs.ListLemmas.{Pairwise-weaker, Pairwise-both, Pairwise-map, Pairwise-unmap}
+use Rattle.si_model.proofs.SnapshotLemmas.{level_at_most, level_says}
 use Rattle.nam_report.specs.declared.arranging.placed.Placed.{Placed}
-use Rattle.nam_report.specs.Lines.{lines_by, referents, AreChained}
-use Rattle.nam_report.specs.Depths.{HasJob, placed_with, at_depth, flat, next_depth, AreSettled, is_beside, AreAcyclic}
-use Rattle.nam_report.specs.Depths.{depth_in, NotAfter, line_of, AreOrdered}
-use Rattle.nam_report.proofs.LineLemmas.{lines_by_told}
-use Rattle.nam_report.proofs.DepthLemmas.{next_by, next_is}
-use Rattle.nam_report.proofs.PublishedLemmas.{HasOps, ops_from, sum_within, apart_from, distinct_from_pairs}
-use Rattle.nam_report.proofs.PublishedLemmas.{pairs_from_distinct}
+use Rattle.nam_report.specs.declared.arranging.levels.Levels.{Levels}
+use Rattle.nam_report.specs.Lines.{lines_by, snaps_in_logs, referents}
+use Rattle.nam_report.specs.Depths.{placed_with, at_depth, flat, next_depth, AreSettled, is_beside, AreAcyclic}
+use Rattle.nam_report.specs.Depths.{depth_in, NotAfter, line_of}
+use Rattle.nam_report.specs.Arranging.{placed_at, after_rounds, placed_by, in_order, arranged}
+use Rattle.nam_report.proofs.LineLemmas.{lines_by_told, snaps_told}
+use Rattle.nam_report.proofs.LevelLemmas.{level_top}
+use Rattle.nam_report.proofs.DepthLemmas.{next_by, next_is, flat_rounds, rounds_settle}
+use Rattle.nam_report.proofs.OrderLemmas.{are_ordered, are_permuted}
+use Rattle.nam_report.proofs.PublishedLemmas.{HasOps, ops_from, apart_from, distinct_from_pairs, pairs_from_distinct}
 
 -- ---- levels
-
-level_top : (start top : ℕ) (ss : List (List ℕ)) (s : Stamp) → level_from start top ss s ≤ top
-level_top start top [] s = omega arith
-level_top start top (x ∷ ss) s =
-    let rest = level_top start top ss s in
-    cond_both (contains x s) (min (sum_above start x) (level_from start top ss s)) (level_from start top ss s)
-    (λ m. m ≤ top) (λ _. omega (arith, rest)) (λ _. rest)
 
 level_le : (start top : ℕ) (xs ys : List (List ℕ)) (s : Stamp) → ((x : List ℕ) → Listed x ys → Listed x xs)
     → level_from start top xs s ≤ level_from start top ys s
@@ -61,44 +53,11 @@ level_permuted start top xs ys h = fun_ext (λ s.
     let above = level_le start top ys xs s (λ x l. listed_permutation xs ys x h l) in
     omega (arith, below, above))
 
--- snapshots by rising sums are a chain
-pub chained : (start : ℕ) (tss : List (List Tell)) → HaveOrder start tss → (ss : List (Bor (List ℕ)))
-    → IsPermutation (snaps_by tss) (referents ss)
-    → IsNonDecreasingBy (λ (s : Bor (List ℕ)). min (sum_above start s.now) (2 ^ 64 - 1)) ss
-    → length (published_by tss) < 2 ^ 64 → AreChained start (suc (length (published_by tss))) (referents ss)
-chained start tss order ss same rise few = record {
-  ordered =
-      Pairwise-weaker (λ x. Listed x (snaps_by tss))
-      (λ x y. min (sum_above start x) (2 ^ 64 - 1) ≤ min (sum_above start y) (2 ^ 64 - 1)) AreAtMost
-      (λ x y lx ly le. at_most_by_sum start x y tss (order.within x lx) (order.within y ly) (order.ordered x y lx ly)
-      (let a = sum_within start 1 x tss order.owned (order.within x lx) in
-      let b = sum_within start 1 y tss order.owned (order.within y ly) in
-      omega (arith, le, a, b, few)))
-      (referents ss) listed
-      (Pairwise-map (λ (s : Bor (List ℕ)). s.now)
-      (λ x y. min (sum_above start x) (2 ^ 64 - 1) ≤ min (sum_above start y) (2 ^ 64 - 1)) ss
-      (Pairwise-from_near (λ (x y : Bor (List ℕ)). min (sum_above start x.now) (2 ^ 64 - 1)
-      ≤ min (sum_above start y.now) (2 ^ 64 - 1)) (λ x y z h k. omega (arith, h, k)) ss
-      (λ k d lt. rise k (k + 1) d (omega arith) lt)));
-  most = All-from_listed (λ snap. sum_above start snap ≤ suc (length (published_by tss))) (referents ss) (λ x l.
-      let a = sum_within start 1 x tss order.owned (order.within x (listed x l)) in omega (arith, a));
-}
-  where
-    listed : (x : List ℕ) → Listed x (referents ss) → Listed x (snaps_by tss)
-    listed x l =
-        listed_permutation (referents ss) (snaps_by tss) x (IsPermutation-sym (snaps_by tss) (referents ss) same) l
-
 -- ---- depths
 
 -- a published commit at its level and depth
-abbrev pub told : (Stamp → ℕ) → (Stamp → ℕ) → List (List Op) → Published → Placed
-told level depth jobs c = at_depth (depth (stamp_of c.line)) (placed_with level jobs c.line)
-
-beside_told : (level : Stamp → ℕ) (jobs : List (List Op)) (c d : Published) → HasOps jobs c
-    → is_beside (placed_with level jobs c.line) (placed_with level jobs d.line) ≡ guards_beside level c d
-beside_told level jobs c d ops =
-    ap (λ os. (level (stamp_of c.line) == level (stamp_of d.line))
-    && list_any (λ key. writes_key d.line.writes key) (guard_keys os)) (sym ops)
+abbrev pub told : (Stamp → ℕ) → (Stamp → ℕ) → Published → Placed
+told level depth c = at_depth (depth (stamp_of c.line)) (placed_at level c)
 
 pick : (depth : Stamp → ℕ) (d : Published) (ds : List Published) (n : ℕ) (a b : Bool) → a ≡ b
     → n ≡ above_all depth ds → max (cond a (suc (depth (stamp_of d.line))) 0) n ≡ above_all depth (cond b (d ∷ ds) ds)
@@ -107,31 +66,27 @@ pick depth d ds n true false e h = absurd (true≢false e)
 pick depth d ds n false true e h = absurd (false≢true e)
 pick depth d ds n false false e h = omega (arith, h)
 
-next_told : (level depth : Stamp → ℕ) (jobs : List (List Op)) (c : Published) (cs : List Published)
-    → AllByRecursion (HasOps jobs) cs
-    → next_by (map (told level depth jobs) cs) (told level depth jobs c)
+next_told : (level depth : Stamp → ℕ) (c : Published) (cs : List Published)
+    → next_by (map (told level depth) cs) (told level depth c)
     ≡ above_all depth (filter (λ d. guards_beside level d c) cs)
-next_told level depth jobs c [] ops = refl
-next_told level depth jobs c (d ∷ cs) ops =
-    pick depth d (filter (λ d. guards_beside level d c) cs)
-    (next_by (map (told level depth jobs) cs) (told level depth jobs c))
-    (is_beside (told level depth jobs d) (told level depth jobs c)) (guards_beside level d c)
-    (beside_told level jobs d c ops.0) (next_told level depth jobs c cs ops.1)
+next_told level depth c [] = refl
+next_told level depth c (d ∷ cs) =
+    pick depth d (filter (λ d. guards_beside level d c) cs) (next_by (map (told level depth) cs) (told level depth c))
+    (is_beside (told level depth d) (told level depth c)) (guards_beside level d c) refl (next_told level depth c cs)
 
 -- commits are told where their depths are those of their stamps
-regain : (level depth : Stamp → ℕ) (jobs : List (List Op)) (ps : List Placed) (cs : List Published)
-    → map flat ps ≡ map (λ c. placed_with level jobs c.line) cs
-    → ((p : Placed) → Listed p ps → depth (stamp_of p.line) ≡ p.depth) → ps ≡ map (told level depth jobs) cs
-regain level depth jobs [] [] e h = refl
-regain level depth jobs [] (c ∷ cs) e h = cc
-regain level depth jobs (p ∷ ps) [] e h = cc
-regain level depth jobs (p ∷ ps) (c ∷ cs) e h =
-    let here : flat p ≡ placed_with level jobs c.line = cc in
-    let rest : map flat ps ≡ map (λ c. placed_with level jobs c.line) cs = cc in
+regain : (level depth : Stamp → ℕ) (ps : List Placed) (cs : List Published) → map flat ps ≡ map (placed_at level) cs
+    → ((p : Placed) → Listed p ps → depth (stamp_of p.line) ≡ p.depth) → ps ≡ map (told level depth) cs
+regain level depth [] [] e h = refl
+regain level depth [] (c ∷ cs) e h = cc
+regain level depth (p ∷ ps) [] e h = cc
+regain level depth (p ∷ ps) (c ∷ cs) e h =
+    let here : flat p ≡ placed_at level c = cc in
+    let rest : map flat ps ≡ map (placed_at level) cs = cc in
     let own : p ≡ at_depth (depth (stamp_of p.line)) (flat p) = ap (λ n. at_depth n (flat p)) (sym (h p (inl refl))) in
-    let one : p ≡ told level depth jobs c = own ∙ ap (λ (q : Placed). at_depth (depth (stamp_of q.line)) q) here in
-    let all = regain level depth jobs ps cs rest (λ q l. h q (inr l)) in
-    ap (λ q. q ∷ ps) one ∙ ap (λ qs. told level depth jobs c ∷ qs) all
+    let one : p ≡ told level depth c = own ∙ ap (λ (q : Placed). at_depth (depth (stamp_of q.line)) q) here in
+    let all = regain level depth ps cs rest (λ q l. h q (inr l)) in
+    ap (λ q. q ∷ ps) one ∙ ap (λ qs. told level depth c ∷ qs) all
 
 abbrev AreApart : Placed → Placed → Type 0
 AreApart p q = same_stamp (stamp_of p.line) (stamp_of q.line) ≡ false
@@ -178,50 +133,108 @@ pub no_depths : (level : Stamp → ℕ) (jobs : List (List Op)) (es : List Commi
 no_depths level jobs [] = tt
 no_depths level jobs (e ∷ es) = (refl, no_depths level jobs es)
 
--- ---- the commits of logs
+-- ---- the commits of any logs
 
-module _ (start : ℕ) (jobs : List (List Op)) (logs : List Log)
-    (can : CanBeArranged start jobs (map (tells_of jobs) logs)) where
+-- entries placed by the jobs are the published commits placed by their operations
+pub placed_told : (level : Stamp → ℕ) (jobs : List (List Op)) (logs : List Log)
+    → map (placed_with level jobs) (lines_by 1 logs)
+    ≡ map (placed_at level) (published_by (map (tells_of jobs) logs))
+placed_told level jobs logs =
+    let cs = published_by (map (tells_of jobs) logs) in
+    ap (map (placed_with level jobs)) (sym (lines_by_told 1 jobs logs))
+    ∙ map-map (placed_with level jobs) entry_of cs
+    ∙ each cs (ops_from jobs 1 logs)
+  where
+    each : (cs : List Published) → AllByRecursion (HasOps jobs) cs
+        → map (λ (c : Published). placed_with level jobs c.line) cs ≡ map (placed_at level) cs
+    each [] h = refl
+    each (c ∷ cs) h =
+        let one : placed_with level jobs c.line ≡ placed_at level c = ap (λ (os : List Op). record {
+          level = level (stamp_of c.line);
+          depth = 0;
+          guards = guard_keys os;
+          line = c.line;
+        }) (sym h.0) in
+        ap (λ q. q ∷ map (λ (c : Published). placed_with level jobs c.line) cs) one
+        ∙ ap (λ qs. placed_at level c ∷ qs) (each cs h.1)
+
+module _ (start : ℕ) (tss : List (List Tell)) where
+  abbrev all : List Published
+  all = published_by tss
+
+  abbrev level_by_all : Stamp → ℕ
+  level_by_all = level_of start tss
+
+  placed_long : length (map (placed_at level_by_all) all) ≡ length all
+  placed_long = length-map all (placed_at level_by_all)
+
+  pub flat_by : map flat (placed_by start tss) ≡ map (placed_at level_by_all) all
+  flat_by = flat_rounds (length all) (map (placed_at level_by_all) all)
+      ∙ map-map flat (placed_at level_by_all) all
+
+  pub lines_by_all : map line_of (placed_by start tss) ≡ map entry_of all
+  lines_by_all = sym (map-map line_of flat (placed_by start tss)) ∙ ap (map line_of) flat_by
+      ∙ map-map line_of (placed_at level_by_all) all
+
+  -- the history has exactly the published commits
+  pub has_published : IsPermutation (map entry_of all) (arranged start tss)
+  has_published = subst (λ es. IsPermutation es (arranged start tss)) lines_by_all
+      (IsPermutation-map line_of (placed_by start tss) (in_order (placed_by start tss))
+      (are_permuted (placed_by start tss)))
+
+-- commits placed by any order of the snapshots, after the rounds
+pub placed_is : (start : ℕ) (jobs : List (List Op)) (logs : List Log) (levels : Levels) (lines : List CommitLine)
+    (ps : List Placed)
+    → AllByRecursion CountsFit logs → lines ≡ lines_by 1 logs → levels.start ≡ start → levels.top ≡ suc (length lines)
+    → IsPermutation (snaps_in_logs logs) (referents levels.snapshots.items)
+    → ps ≡ map (placed_with (level_from levels.start levels.top (referents levels.snapshots.items)) jobs) lines
+    → after_rounds (length ps) ps ≡ placed_by start (map (tells_of jobs) logs)
+placed_is start jobs logs levels lines ps fit lines_are start_is top_is same ps_are =
+    let tss = map (tells_of jobs) logs in
+    let cs = published_by tss in
+    let many : length lines ≡ length cs =
+    ap length (lines_are ∙ sym (lines_by_told 1 jobs logs)) ∙ length-map cs entry_of in
+    let top : levels.top ≡ suc (length cs) = top_is ∙ ap suc many in
+    let snaps : IsPermutation (snaps_by tss) (referents levels.snapshots.items) =
+    subst (λ zs. IsPermutation zs (referents levels.snapshots.items)) (sym (snaps_told jobs logs fit)) same in
+    let level : level_from levels.start levels.top (referents levels.snapshots.items) ≡ level_of start tss =
+    level_permuted levels.start levels.top (snaps_by tss) (referents levels.snapshots.items) snaps
+    ∙ ap (λ n. level_from n levels.top (snaps_by tss)) start_is
+    ∙ ap (λ n. level_from start n (snaps_by tss)) top in
+    let placed : ps ≡ map (placed_at (level_of start tss)) cs =
+    ps_are ∙ ap (λ l. map (placed_with l jobs) lines) level ∙ ap (map (placed_with (level_of start tss) jobs)) lines_are
+    ∙ placed_told (level_of start tss) jobs logs in
+    ap (λ qs. after_rounds (length qs) qs) placed
+    ∙ ap (λ n. after_rounds n (map (placed_at (level_of start tss)) cs)) (placed_long start tss)
+
+-- ---- the commits of logs that can be arranged
+
+module _ (start : ℕ) (jobs : List (List Op)) (tss : List (List Tell)) (can : CanBeArranged start jobs tss) where
   abbrev cs : List Published
-  cs = published_by (map (tells_of jobs) logs)
+  cs = published_by tss
 
   abbrev level : Stamp → ℕ
-  level = level_of start (map (tells_of jobs) logs)
+  level = level_of start tss
 
-  -- each entry's transaction is in range
-  pub have_jobs : AllByRecursion (HasJob (length jobs)) (lines_by 1 logs)
-  have_jobs = subst (AllByRecursion (HasJob (length jobs))) (lines_by_told 1 jobs logs)
-      (All-from_listed (HasJob (length jobs)) (map entry_of cs) (λ e l.
-      let m = map_listed entry_of cs e l in subst (HasJob (length jobs)) m.2 (can.jobs_in_range m.0 m.1)))
+  abbrev ps : List Placed
+  ps = placed_by start tss
 
-  -- a placed commit is a published one
-  commit_of : (p : Placed) → Listed p (map (placed_with level jobs) (lines_by 1 logs)) → (c : Published) × Listed c cs
-      × (placed_with level jobs c.line ≡ p)
-  commit_of p l =
-      let m = map_listed (placed_with level jobs) (lines_by 1 logs) p l in
-      let n = map_listed entry_of cs m.0 (subst (Listed m.0) (sym (lines_by_told 1 jobs logs)) m.1) in
-      (n.0, n.1, ap (placed_with level jobs) n.2 ∙ m.2)
+  abbrev qs : List Placed
+  qs = in_order (placed_by start tss)
 
-  pub acyclic : AreAcyclic (length (map (placed_with level jobs) (lines_by 1 logs)))
-      (map (placed_with level jobs) (lines_by 1 logs))
+  acyclic : AreAcyclic (length cs) (map (placed_at level) cs)
   acyclic = record {
     number = can.no_circle.place;
     below = λ p l.
-        let c = commit_of p l in
-        let low = can.no_circle.below c.0 c.1 in
-        let long = length-map (lines_by 1 logs) (placed_with level jobs) in
-        let longer = length-map cs entry_of in
-        let same = ap length (lines_by_told 1 jobs logs) in
-        subst (λ (q : Placed). can.no_circle.place (stamp_of q.line)
-        < length (map (placed_with level jobs) (lines_by 1 logs))) c.2 (omega (arith, low, long, longer, same));
+        let c = map_listed (placed_at level) cs p l in
+        subst (λ (q : Placed). can.no_circle.place (stamp_of q.line) < length cs) c.2 (can.no_circle.below c.0 c.1);
     rises = λ p q lp lq beside.
-        let c = commit_of p lp in
-        let d = commit_of q lq in
-        let b : is_beside (placed_with level jobs c.0.line) (placed_with level jobs d.0.line) ≡ true =
-        ap (λ (z : Placed). is_beside z (placed_with level jobs d.0.line)) c.2 ∙ ap (λ (z : Placed). is_beside p z) d.2
+        let c = map_listed (placed_at level) cs p lp in
+        let d = map_listed (placed_at level) cs q lq in
+        let b : is_beside (placed_at level c.0) (placed_at level d.0) ≡ true =
+        ap (λ (z : Placed). is_beside z (placed_at level d.0)) c.2 ∙ ap (λ (z : Placed). is_beside p z) d.2
         ∙ beside in
-        let lt = can.no_circle.rises c.0 d.0 c.1 d.1
-        (sym (beside_told level jobs c.0 d.0 (All-listed (HasOps jobs) cs c.0 (ops_from jobs 1 logs) c.1)) ∙ b) in
+        let lt = can.no_circle.rises c.0 d.0 c.1 d.1 b in
         omega (
           arith,
           lt,
@@ -230,82 +243,56 @@ module _ (start : ℕ) (jobs : List (List Op)) (logs : List Log)
         );
   }
 
-  -- the commits placed by the sorted snapshots
-  pub placed_same : (top : ℕ) (ss : List (Bor (List ℕ))) → top ≡ suc (length cs)
-      → IsPermutation (snaps_by (map (tells_of jobs) logs)) (referents ss) → (found : List CommitLine)
-      → found ≡ lines_by 1 logs
-      → map (placed_with (level_from start top (referents ss)) jobs) found
-      ≡ map (placed_with level jobs) (lines_by 1 logs)
-  placed_same top ss top_is h found found_are =
-      ap (λ l. map (placed_with l jobs) found)
-      (level_permuted start top (snaps_by (map (tells_of jobs) logs)) (referents ss) h)
-      ∙ ap (λ n. map (placed_with (level_from start n (snaps_by (map (tells_of jobs) logs))) jobs) found) top_is
-      ∙ ap (map (placed_with level jobs)) found_are
+  settled : AreSettled ps
+  settled = rounds_settle (length cs) (map (placed_at level) cs) acyclic
 
-  pub placed_flat : map flat (map (placed_with level jobs) (lines_by 1 logs))
-      ≡ map (placed_with level jobs) (lines_by 1 logs)
-  placed_flat = map-map flat (placed_with level jobs) (lines_by 1 logs)
+  apart : Pairwise AreApart ps
+  apart =
+      let by_entry : Pairwise (λ (a b : CommitLine). same_stamp (stamp_of a) (stamp_of b) ≡ false) (map entry_of cs) =
+      Pairwise-map entry_of (λ (a b : CommitLine). same_stamp (stamp_of a) (stamp_of b) ≡ false) cs
+      (apart_from start 1 tss can.order.owned) in
+      Pairwise-unmap line_of (λ (a b : CommitLine). same_stamp (stamp_of a) (stamp_of b) ≡ false) ps
+      (subst (Pairwise (λ (a b : CommitLine). same_stamp (stamp_of a) (stamp_of b) ≡ false))
+      (sym (lines_by_all start tss)) by_entry)
 
-  module _ (ps : List Placed) (same : map flat ps ≡ map (placed_with level jobs) (lines_by 1 logs)) where
-    flat_told : map flat ps ≡ map (λ (c : Published). placed_with level jobs c.line) cs
-    flat_told = same ∙ ap (map (placed_with level jobs)) (sym (lines_by_told 1 jobs logs))
-        ∙ map-map (placed_with level jobs) entry_of cs
+  are_told : ps ≡ map (told level (depth_in ps)) cs
+  are_told = regain level (depth_in ps) ps cs (flat_by start tss) (depth_is ps apart)
 
-    lines : map line_of ps ≡ map entry_of cs
-    lines = sym (map-map line_of flat ps) ∙ ap (map line_of) flat_told
-        ∙ map-map line_of (λ (c : Published). placed_with level jobs c.line) cs
+  has_level : (p : Placed) → Listed p ps → level (stamp_of p.line) ≡ p.level
+  has_level p l =
+      let m = map_listed (told level (depth_in ps)) cs p (subst (Listed p) are_told l) in
+      subst (λ (q : Placed). level (stamp_of q.line) ≡ q.level) m.2 refl
 
-    apart : Pairwise AreApart ps
-    apart =
-        let by_entry : Pairwise (λ (a b : CommitLine). same_stamp (stamp_of a) (stamp_of b) ≡ false) (map entry_of cs) =
-        Pairwise-map entry_of (λ (a b : CommitLine). same_stamp (stamp_of a) (stamp_of b) ≡ false) cs
-        (apart_from start 1 (map (tells_of jobs) logs) can.order.owned) in
-        Pairwise-unmap line_of (λ (a b : CommitLine). same_stamp (stamp_of a) (stamp_of b) ≡ false) ps
-        (subst (Pairwise (λ (a b : CommitLine). same_stamp (stamp_of a) (stamp_of b) ≡ false)) (sym lines) by_entry)
+  depths : AreDepths level (depth_in ps) cs
+  depths c l =
+      let told_settled : AreSettled (map (told level (depth_in ps)) cs) = subst AreSettled are_told settled in
+      let here = All-listed (λ p. p.depth ≡ next_depth (map (told level (depth_in ps)) cs) p)
+      (map (told level (depth_in ps)) cs) (told level (depth_in ps) c) told_settled
+      (listed_map (told level (depth_in ps)) cs c l) in
+      here ∙ next_is (map (told level (depth_in ps)) cs) (told level (depth_in ps) c)
+      ∙ next_told level (depth_in ps) c cs
 
-    are_told : ps ≡ map (told level (depth_in ps) jobs) cs
-    are_told = regain level (depth_in ps) jobs ps cs flat_told (depth_is ps apart)
+  apart_sorted : Pairwise AreApart qs
+  apart_sorted =
+      let s : Placed → Stamp = λ p. stamp_of p.line in
+      let before : IsDistinct same_stamp (map s ps) =
+      distinct_from_pairs same_stamp (map s ps) (Pairwise-map s (λ a b. same_stamp a b ≡ false) ps apart) in
+      let after : IsDistinct same_stamp (map s qs) =
+      IsDistinct-IsPermutation same_stamp same_flips (map s ps) (map s qs)
+      (IsPermutation-map s ps qs (are_permuted ps)) before in
+      Pairwise-unmap s (λ a b. same_stamp a b ≡ false) qs (pairs_from_distinct same_stamp (map s qs) after)
 
-    has_level : (p : Placed) → Listed p ps → level (stamp_of p.line) ≡ p.level
-    has_level p l =
-        let m = map_listed (told level (depth_in ps) jobs) cs p (subst (Listed p) are_told l) in
-        subst (λ (q : Placed). level (stamp_of q.line) ≡ q.level) m.2 refl
-
-    depths : AreSettled ps → AreDepths level (depth_in ps) cs
-    depths settled c l =
-        let all : AreSettled (map (told level (depth_in ps) jobs) cs) = subst AreSettled are_told settled in
-        let here = All-listed (λ p. p.depth ≡ next_depth (map (told level (depth_in ps) jobs) cs) p)
-        (map (told level (depth_in ps) jobs) cs) (told level (depth_in ps) jobs c) all
-        (listed_map (told level (depth_in ps) jobs) cs c l) in
-        here ∙ next_is (map (told level (depth_in ps) jobs) cs) (told level (depth_in ps) jobs c)
-        ∙ next_told level (depth_in ps) jobs c cs (ops_from jobs 1 logs)
-
-    apart_sorted : (qs : List Placed) → IsPermutation ps qs → Pairwise AreApart qs
-    apart_sorted qs h =
-        let s : Placed → Stamp = λ p. stamp_of p.line in
-        let before : IsDistinct same_stamp (map s ps) =
-        distinct_from_pairs same_stamp (map s ps) (Pairwise-map s (λ a b. same_stamp a b ≡ false) ps apart) in
-        let after : IsDistinct same_stamp (map s qs) =
-        IsDistinct-IsPermutation same_stamp same_flips (map s ps) (map s qs) (IsPermutation-map s ps qs h) before in
-        Pairwise-unmap s (λ a b. same_stamp a b ≡ false) qs (pairs_from_distinct same_stamp (map s qs) after)
-
-    -- the entries of the sorted commits are an arranged history
-    pub arranged : AreSettled ps → (entries : List CommitLine) → AreOrdered ps entries
-        → IsArranged start (map (tells_of jobs) logs) entries
-    arranged settled entries ordered = record {
-      same = subst (IsPermutation (map entry_of cs)) ordered.entries_are
-          (subst (λ es. IsPermutation es (map line_of ordered.commits)) lines
-          (IsPermutation-map line_of ps ordered.commits ordered.same));
-      depth = depth_in ps;
-      depths = depths settled;
-      ordered = subst (Pairwise (Precedes level (depth_in ps))) ordered.entries_are
-          (Pairwise-map line_of (Precedes level (depth_in ps)) ordered.commits
-          (Pairwise-weaker (λ q. Listed q ps) (λ a b. NotAfter a b × AreApart a b)
-          (λ a b. Precedes level (depth_in ps) a.line b.line)
-          (λ a b la lb h. strict level (depth_in ps) a b (has_level a la) (has_level b lb) (depth_is ps apart a la)
-          (depth_is ps apart b lb) h.0 h.1)
-          ordered.commits (λ q l. listed_permutation ordered.commits ps q
-          (IsPermutation-sym ps ordered.commits ordered.same) l)
-          (Pairwise-both NotAfter AreApart ordered.commits ordered.ordered
-          (apart_sorted ordered.commits ordered.same))));
-    }
+  -- the history is the arranged one
+  pub are_arranged : IsArranged start tss (arranged start tss)
+  are_arranged = record {
+    same = has_published start tss;
+    depth = depth_in ps;
+    depths = depths;
+    ordered = Pairwise-map line_of (Precedes level (depth_in ps)) qs
+        (Pairwise-weaker (λ q. Listed q ps) (λ a b. NotAfter a b × AreApart a b)
+        (λ a b. Precedes level (depth_in ps) a.line b.line)
+        (λ a b la lb h. strict level (depth_in ps) a b (has_level a la) (has_level b lb) (depth_is ps apart a la)
+        (depth_is ps apart b lb) h.0 h.1)
+        qs (λ q l. listed_permutation qs ps q (IsPermutation-sym ps qs (are_permuted ps)) l)
+        (Pairwise-both NotAfter AreApart qs (are_ordered ps) apart_sorted));
+  }

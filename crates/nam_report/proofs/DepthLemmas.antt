@@ -15,6 +15,7 @@ use Rattle.nam_report.specs.declared.arranging.placed.Placed.{Placed}
 use Rattle.nam_report.specs.declared.arranging.placed.LevelKey.{LevelKey}
 use Rattle.nam_report.specs.Depths.{at_depth, flat, has_guard, reach, deepest, next_depth, with_next_depths, AreSettled}
 use Rattle.nam_report.specs.Depths.{is_beside, Rises, SettledBelow, AreAcyclic}
+use Rattle.nam_report.specs.Arranging.{after_rounds}
 
 -- ---- a map over the front of a list
 
@@ -97,10 +98,10 @@ flat_round : (f : Placed → ℕ) (ps : List Placed) → map flat (map (λ p. at
 flat_round f [] = refl
 flat_round f (p ∷ ps) = ap (λ qs. flat p ∷ qs) (flat_round f ps)
 
-pub flat_deepened : (ps : List Placed) → map flat (with_next_depths ps) ≡ map flat ps
+flat_deepened : (ps : List Placed) → map flat (with_next_depths ps) ≡ map flat ps
 flat_deepened ps = flat_round (next_depth ps) ps
 
-pub settled_round : (n : ℕ) (ps : List Placed) → SettledBelow n ps → SettledBelow (suc n) (with_next_depths ps)
+settled_round : (n : ℕ) (ps : List Placed) → SettledBelow n ps → SettledBelow (suc n) (with_next_depths ps)
 settled_round n ps settled number rises p l lt =
     let m = map_listed (λ p. at_depth (next_depth ps p) p) ps p l in
     subst (λ (r : Placed). r.depth ≡ next_depth (with_next_depths ps) r) m.2
@@ -122,24 +123,12 @@ settled_round n ps settled number rises p l lt =
 
 -- ---- all rounds
 
-fixed : (f : Placed → ℕ) (ps : List Placed) → ps ≡ map (λ p. at_depth (f p) p) ps
-    → AllByRecursion (λ p. p.depth ≡ f p) ps
-fixed f [] h = tt
-fixed f (p ∷ ps) h =
-    let here : p ≡ at_depth (f p) p = cc in
-    let rest : ps ≡ map (λ p. at_depth (f p) p) ps = cc in
-    (ap (λ (q : Placed). q.depth) here, fixed f ps rest)
-
--- a round that changes nothing ends it
-pub settled_fixed : (ps : List Placed) → ps ≡ with_next_depths ps → AreSettled ps
-settled_fixed ps h = fixed (next_depth ps) ps h
-
 -- commits that differ in depth alone stand so to each other
 same_flat : (ps qs : List Placed) → map flat qs ≡ map flat ps → (q : Placed) → Listed q qs → (p : Placed) × Listed p ps
     × (flat p ≡ flat q)
 same_flat ps qs same q l = map_listed flat ps (flat q) (subst (Listed (flat q)) same (listed_map flat qs q l))
 
-pub rises_flat : (number : Stamp → ℕ) (ps qs : List Placed) → map flat qs ≡ map flat ps → Rises number ps
+rises_flat : (number : Stamp → ℕ) (ps qs : List Placed) → map flat qs ≡ map flat ps → Rises number ps
     → Rises number qs
 rises_flat number ps qs same rises a b la lb beside =
     let x = same_flat ps qs same a la in
@@ -155,7 +144,7 @@ rises_flat number ps qs same rises a b la lb beside =
     )
 
 -- after as many rounds as commits all are settled
-pub settled_all : (n : ℕ) (ps qs : List Placed) → map flat qs ≡ map flat ps → AreAcyclic n ps → SettledBelow n qs
+settled_all : (n : ℕ) (ps qs : List Placed) → map flat qs ≡ map flat ps → AreAcyclic n ps → SettledBelow n qs
     → AreSettled qs
 settled_all n ps qs same acyclic settled =
     All-from_listed (λ q. q.depth ≡ next_depth qs q) qs (λ q l.
@@ -163,6 +152,32 @@ settled_all n ps qs same acyclic settled =
     let low = acyclic.below x.0 x.1 in
     settled acyclic.number (rises_flat acyclic.number ps qs same acyclic.rises) q l
     (omega (arith, low, ap (λ (z : Placed). acyclic.number (stamp_of z.line)) x.2)))
+
+-- rounds that change nothing
+pub rounds_fixed : (n : ℕ) (ps : List Placed) → ps ≡ with_next_depths ps → ps ≡ after_rounds n ps
+rounds_fixed zero ps h = refl
+rounds_fixed (suc n) ps h = rounds_fixed n ps h ∙ ap (after_rounds n) h
+
+-- rounds change depths alone
+pub flat_rounds : (n : ℕ) (ps : List Placed) → map flat (after_rounds n ps) ≡ map flat ps
+flat_rounds zero ps = refl
+flat_rounds (suc n) ps = flat_rounds n (with_next_depths ps) ∙ flat_deepened ps
+
+-- so many rounds settle the commits of lower numbers
+settled_rounds : (m n : ℕ) (ps : List Placed) → SettledBelow m ps → SettledBelow (n + m) (after_rounds n ps)
+settled_rounds m zero ps h = let e : m ≡ 0 + m = omega arith in subst (λ k. SettledBelow k ps) e h
+settled_rounds m (suc n) ps h =
+    let e : n + suc m ≡ suc n + m = omega arith in
+    subst (λ k. SettledBelow k (after_rounds n (with_next_depths ps))) e
+    (settled_rounds (suc m) n (with_next_depths ps) (settled_round m ps h))
+
+-- as many rounds as commits settle all
+pub rounds_settle : (n : ℕ) (ps : List Placed) → AreAcyclic n ps → AreSettled (after_rounds n ps)
+rounds_settle n ps acyclic =
+    let none : SettledBelow 0 ps = λ number rises p l lt. absurd (omega (arith, lt)) in
+    let e : n + 0 ≡ n = omega arith in
+    settled_all n ps (after_rounds n ps) (flat_rounds n ps) acyclic
+    (subst (λ k. SettledBelow k (after_rounds n ps)) e (settled_rounds 0 n ps none))
 
 -- ---- a map over the front, place by place
 

@@ -12,4 +12,3 @@ mod LineLemmas
 mod PublishedLemmas
 mod ArrangedLemmas
 mod ArrangedExamples
-mod SizedExamples

@@ -96,43 +96,6 @@ ops_from jobs j (log ∷ logs) =
     All-append (HasOps jobs) (published_of j (tells_of jobs log)) (published_from (suc j) (map (tells_of jobs) logs))
     (ops_of jobs j log.events log.reads log.locks log.writes log.snaps) (ops_from jobs (suc j) logs)
 
--- ---- the numbers
-
-last_in : (j n : ℕ) (t : Tell) (ts : List Tell) (cs : List Published) (a : Attempt) (p : Option ℕ) (o : Outcome)
-    → (IsTrue (is_some (number_in o)) → IsTrue (is_some p)) → NumbersFollow n (published_in j t a p o ++ cs)
-    → ((m : ℕ) → NumbersFollow m cs → last_number m ts ≡ m + length cs)
-    → last_number (unwrap_or (number_in o) n) ts ≡ n + length (published_in j t a p o ++ cs)
-last_in j n t ts cs a (Some p) (Commit number) has follow rest =
-    let at : last_number number ts ≡ last_number (suc n) ts = ap (λ m. last_number m ts) follow.0 in
-    omega (arith, at, rest (suc n) follow.1)
-last_in j n t ts cs a None (Commit number) has follow rest = absurd (false≢true (has refl))
-last_in j n t ts cs a p o has follow rest = rest n follow
-
-last_at : (j n : ℕ) (t : Tell) (ts : List Tell) (cs : List Published) (e : Event)
-    → (IsTrue (is_some (commit_in e)) → IsTrue (is_some (prefix_in e))) → NumbersFollow n (published_at j t e ++ cs)
-    → ((m : ℕ) → NumbersFollow m cs → last_number m ts ≡ m + length cs)
-    → last_number (unwrap_or (commit_in e) n) ts ≡ n + length (published_at j t e ++ cs)
-last_at j n t ts cs (Tried a) has follow rest = last_in j n t ts cs a a.prefix a.outcome has follow rest
-last_at j n t ts cs e has follow rest = rest n follow
-
--- a worker's last number counts its commits
-pub last_counts : (start j n : ℕ) (ts : List Tell) → AllByRecursion (OwnsSnapshot start) ts
-    → NumbersFollow n (published_of j ts) → last_number n ts ≡ n + length (published_of j ts)
-last_counts start j n [] owned follow = omega arith
-last_counts start j n (t ∷ ts) owned follow =
-    last_at j n t ts (published_of j ts) t.event owned.0.commit follow (λ m h. last_counts start j m ts owned.1 h)
-
--- a snapshot has at most the published commits
-pub sum_within : (start j : ℕ) (snap : List ℕ) (tss : List (List Tell)) → AreOwned start j tss → IsWithin start snap tss
-    → sum_above start snap ≤ length (published_from j tss)
-sum_within start j [] [] owned within = omega arith
-sum_within start j [] (ts ∷ tss) owned within = elim within [ ]
-sum_within start j (n ∷ ns) [] owned within = elim within [ ]
-sum_within start j (n ∷ ns) (ts ∷ tss) owned within =
-    let last = last_counts start j start ts owned.0.snapshots owned.0.numbers in
-    let rest = sum_within start (suc j) ns tss owned.1 within.2 in
-    omega (arith, last, rest, within.1, length-append (published_of j ts) (published_from (suc j) tss))
-
 -- ---- each stamp once
 
 abbrev pub Apart : Published → Published → Type 0

@@ -1,24 +1,19 @@
 -- Logs of worked examples, without their reads and locks, for tests.
-use Rattle.std.specs.Prelude.{ℕ, zero, suc, ◌≡◌, ◌<◌, ◌^◌, true, false, List, [], ◌∷◌, length, map, replicate, Option}
-use Rattle.std.specs.Prelude.{Some, None}
+use Rattle.std.specs.Prelude.{ℕ, zero, suc, ◌≡◌, ◌<◌, ◌^◌, List, [], ◌∷◌, length, replicate, Option, Some, None}
 use Rattle.std.specs.List.{AllByRecursion}
 use Rattle.si_model.specs.declared.row.Item.{Item}
-use Rattle.si_model.specs.declared.op.Op.{Op}
-use Rattle.si_model.specs.declared.op.Op.TheVariants.{Get, Put, Add, Need, Guard}
 use Rattle.si_model.specs.declared.log.Outcome.{Outcome}
 use Rattle.si_model.specs.declared.log.Outcome.TheVariants.{Commit, ReadOnly, Again, Newer}
 use Rattle.si_model.specs.declared.log.Event.{Event}
 use Rattle.si_model.specs.declared.log.Event.TheVariants.{Tried}
 use Rattle.si_model.specs.declared.log.Log.{Log}
 use Rattle.si_model.specs.History.{stamp_at}
-use Rattle.si_model.specs.Tells.{CountsFit, tells_of}
-use Rattle.si_model.specs.Consistency.{CanBeArranged}
+use Rattle.si_model.specs.Tells.{CountsFit}
 
--- what arranging asks of logs whose workers start at 0
-pub record AreReady (jobs : List (List Op)) (logs : List Log) : Type 0 where
+-- what arranging asks of logs
+pub record AreReady (logs : List Log) : Type 0 where
   pub few : length logs < 2 ^ 31
   pub counts : AllByRecursion CountsFit logs
-  pub can_be_arranged : CanBeArranged 0 jobs (map (tells_of jobs) logs)
 
 abbrev pub attempt : ℕ → ℕ → Option ℕ → ℕ → Outcome → Event
 attempt txn nth prefix writes outcome =
@@ -34,9 +29,6 @@ item key word = record { table = 0; key = key; value = Some (word ∷ []) }
 abbrev pub log : List Event → List Item → List (List ℕ) → Log
 log events writes snaps = record { events = events; reads = []; locks = []; writes = writes; snaps = snaps }
 
-abbrev pub first_committer_jobs : List (List Op)
-first_committer_jobs = (Add 0 0 1 true 5 ∷ []) ∷ (Add 0 0 1 true 7 ∷ []) ∷ []
-
 abbrev pub first_committer_logs : List Log
 first_committer_logs =
     log (commit 1 1 0 1 ∷ []) (item 0 105 ∷ []) ((0 ∷ 0 ∷ []) ∷ [])
@@ -44,25 +36,15 @@ first_committer_logs =
     (item 0 112 ∷ []) ((0 ∷ 0 ∷ []) ∷ (1 ∷ 0 ∷ []) ∷ [])
     ∷ []
 
-abbrev pub write_skew_jobs : List (List Op)
-write_skew_jobs = (Need 0 0 1 60 ∷ Need 0 1 1 60 ∷ Add 0 0 1 false 60 ∷ [])
-    ∷ (Need 0 0 1 60 ∷ Need 0 1 1 60 ∷ Add 0 1 1 false 60 ∷ []) ∷ []
-
 abbrev pub write_skew_logs : List Log
 write_skew_logs = log (commit 1 1 0 1 ∷ []) (item 0 0 ∷ []) ((0 ∷ 0 ∷ []) ∷ [])
     ∷ log (commit 2 1 0 1 ∷ []) (item 1 0 ∷ []) ((0 ∷ 0 ∷ []) ∷ []) ∷ []
-
-abbrev pub again_jobs : List (List Op)
-again_jobs = (Get 0 0 ∷ []) ∷ (Add 0 0 1 true 1 ∷ []) ∷ []
 
 abbrev pub again_logs : List Log
 again_logs =
     log (attempt 1 1 None 0 (Again 2 0 1) ∷ attempt 1 2 (Some 1) 0 ReadOnly ∷ []) [] ((0 ∷ 1 ∷ []) ∷ [])
     ∷ log (commit 2 1 0 1 ∷ []) (item 0 101 ∷ []) ((0 ∷ 0 ∷ []) ∷ [])
     ∷ []
-
-abbrev pub cause_jobs : List (List Op)
-cause_jobs = (Add 0 0 1 true 1 ∷ []) ∷ (Get 0 0 ∷ Put 0 1 (9 ∷ []) ∷ []) ∷ (Get 0 0 ∷ Get 0 1 ∷ []) ∷ []
 
 abbrev pub cause_logs : List Log
 cause_logs =
@@ -71,16 +53,18 @@ cause_logs =
     ∷ log (attempt 3 1 None 0 (Again 1 0 1) ∷ attempt 3 2 (Some 2) 0 ReadOnly ∷ []) [] ((1 ∷ 1 ∷ 0 ∷ []) ∷ [])
     ∷ []
 
-abbrev pub guard_jobs : List (List Op)
-guard_jobs = (Guard 0 0 ∷ Put 0 1 (1 ∷ []) ∷ []) ∷ (Put 0 0 (9 ∷ []) ∷ []) ∷ []
-
 abbrev pub guard_logs : List Log
 guard_logs = log (commit 2 1 0 1 ∷ []) (item 0 9 ∷ []) ((0 ∷ 0 ∷ []) ∷ [])
     ∷ log (commit 1 1 0 1 ∷ []) (item 1 1 ∷ []) ((0 ∷ 0 ∷ []) ∷ []) ∷ []
 
--- the operations of the one transaction of logs of any size
-abbrev pub sized_jobs : List (List Op)
-sized_jobs = (Put 0 0 (0 ∷ []) ∷ []) ∷ []
+-- neither snapshot is at most the other
+abbrev pub unordered_logs : List Log
+unordered_logs = log (commit 1 1 2 1 ∷ []) (item 0 1 ∷ []) ((0 ∷ 2 ∷ []) ∷ [])
+    ∷ log (commit 1 1 1 1 ∷ []) (item 1 1 ∷ []) ((1 ∷ 0 ∷ []) ∷ []) ∷ []
+
+-- two commits of one number
+abbrev pub tied_logs : List Log
+tied_logs = log (commit 2 1 0 1 ∷ commit 1 1 0 1 ∷ []) (item 5 1 ∷ item 3 1 ∷ []) ((0 ∷ []) ∷ (0 ∷ []) ∷ []) ∷ []
 
 -- so many commits, with numbers from a + 1 on, all on the loaded state
 abbrev pub sized_events : ℕ → ℕ → List Event

@@ -18,10 +18,6 @@ use Rattle.si_model.specs.Held.{key_cmp}
 use Rattle.nam_report.specs.declared.arranging.placed.Placed.{Placed}
 use Rattle.nam_report.specs.declared.arranging.placed.LevelKey.{LevelKey}
 
--- the entry's transaction is one of so many
-abbrev pub HasJob : ℕ → CommitLine → Type 0
-HasJob jobs e = (1 ≤ e.txn) × (e.txn ≤ jobs)
-
 -- a commit at its level, at depth 0
 abbrev pub placed_with : (Stamp → ℕ) → List (List Op) → CommitLine → Placed
 placed_with level jobs e =
@@ -109,10 +105,3 @@ NotAfter a b =
 
 abbrev pub line_of : Placed → CommitLine
 line_of p = p.line
-
--- the entries are those of the commits, in order
-pub record AreOrdered (ps : List Placed) (entries : List CommitLine) : Type 0 where
-  pub commits : List Placed
-  pub same : IsPermutation ps commits
-  pub ordered : Pairwise NotAfter commits
-  pub entries_are : map line_of commits ≡ entries

@@ -5,4 +5,5 @@ pub mod Fits
 pub mod Shown
 pub mod Lines
 pub mod Depths
+pub mod Arranging
 pub mod ArrangedExamples

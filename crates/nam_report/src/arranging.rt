@@ -1,10 +1,9 @@
 //! The order of a history.
 
-ghost use Rattle.std.specs.Prelude.{◌<◌, ◌^◌, length, map, IfOk};
+ghost use Rattle.std.specs.Prelude.{◌≡◌, ◌<◌, ◌^◌, length, map, IfOk};
 ghost use Rattle.std.specs.List.{AllByRecursion};
 ghost use Rattle.si_model.specs.Tells.{CountsFit, tells_of};
-ghost use Rattle.si_model.specs.Consistency.{CanBeArranged};
-ghost use Rattle.si_model.specs.Arranged.{IsArranged};
+ghost use Rattle.nam_report.specs.Arranging.{arranged};
 
 mod depths;
 mod levels;
@@ -13,14 +12,15 @@ mod order;
 mod placed;
 
 use crate::arranging::depths::settle;
-use crate::arranging::levels::snapshots_of;
+use crate::arranging::levels::levels_of;
 use crate::arranging::lines::lines_of;
 use crate::arranging::order::in_order;
 use crate::arranging::placed::place_all;
 use si_model::{CommitLine, Log, Op, Row};
 use std::alloc::{AllocError, Global};
 
-/// The history of the logs: the commits that they list, by level, depth, worker and number.
+/// The history of the logs: the commits that they list, by level, depth, worker and number, and where these are the
+/// same in the order of the logs.
 ///
 /// The level of a commit is the least prefix of a listed snapshot that contains it, and one more than the number of
 /// commits where none does. Its depth is one more than the greatest of those of its level that guard a key that it
@@ -29,12 +29,14 @@ use std::alloc::{AllocError, Global};
 /// log. The guards are read off the operations: they are the guarded keys that none of them writes. So the loaded
 /// rows are not needed.
 ///
-/// The logs must have an order, by their snapshots, and no circle of guards within a level. A check of their snapshots
-/// must come first where they were read from a text.
+/// The logs may say anything, as those that are read from a text. Of logs that can be arranged, which have an order by
+/// their snapshots and no circle of guards within a level, the history is the arranged one (`arranged_law`). In a
+/// circle the depths are those after as many rounds as there are commits. A transaction beyond the jobs guards nothing.
 ///
-/// Takes memory for a copy of each write set, for each snapshot's address, and for the guarded keys of each commit,
-/// twice. It is at most n log n in these, times one more than the greatest depth. An error says that memory was not
-/// found.
+/// Takes memory for a copy of each write set, for each snapshot's address, for the guarded keys of each commit, twice,
+/// and for the sorts. It is at most n log n in these, times one more than the greatest depth, where each two snapshots
+/// are ordered in every entry; where they are not, it looks at each snapshot for each commit. An error says that memory
+/// was not found.
 pub fn arrange(
     alloc: Global,
     rows: &[Row],
@@ -44,15 +46,13 @@ pub fn arrange(
 ) -> Result<Vec<CommitLine>, AllocError>
     requires few { length logs.now < 2 ^ 31 }
     requires counts { AllByRecursion CountsFit logs.now }
-    requires can_be_arranged { let jobs = map (λ job. job.items) jobs.now in
-        CanBeArranged start jobs (map (tells_of jobs) logs.now) }
     ensures { IfOk result (λ history.
-        IsArranged start (map (tells_of (map (λ job. job.items) jobs.now)) logs.now) history.items) }
+        history.items ≡ arranged start (map (tells_of (map (λ job. job.items) jobs.now)) logs.now)) }
 {
     let lines = lines_of(alloc, logs)?;
-    let snapshots = snapshots_of(alloc, logs, start)?;
     let top = lines.len() as u64 + 1;
-    let mut placed = place_all(alloc, lines, jobs, snapshots.as_slice(), start, top)?;
+    let levels = levels_of(alloc, logs, start, top)?;
+    let mut placed = place_all(alloc, lines, jobs, &levels)?;
     settle(alloc, &mut placed)?;
     in_order(alloc, placed)
 }

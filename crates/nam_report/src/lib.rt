@@ -1,7 +1,7 @@
 //! The history of closed logs, and the text of a report.
 //!
-//! `arrange` puts the commits that consistent logs list into the order of a history. A report that fits its script, in
-//! its tables, widths and counts, has one text. `report_text` gives exactly that.
+//! `arrange` puts the commits that logs list into the order of a history, whatever the logs say. A report that fits its
+//! script, in its tables, widths and counts, has one text. `report_text` gives exactly that.
 #![tactic(auto)]
 
 mod arranging;
@@ -20,6 +20,6 @@ mod tests;
 mod tests_arrange;
 
 pub use arranging::arrange;
-pub use laws::text_law;
+pub use laws::{arranged_law, text_law};
 pub use numbers::numbers_fit;
 pub use report::report_text;

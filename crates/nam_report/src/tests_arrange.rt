@@ -1,11 +1,9 @@
-ghost use Rattle.std.specs.Prelude.{◌≡◌, ◌+◌, ◌<◌, ◌≤◌, ◌^◌, [], ◌∷◌, length, map, replicate, Some, None, IfOk};
+ghost use Rattle.std.specs.Prelude.{◌≡◌, ◌+◌, ◌<◌, ◌≤◌, ◌^◌, [], ◌∷◌, length, replicate, Some, None, IfOk};
 ghost use Rattle.std.specs.List.{AllByRecursion};
-ghost use Rattle.si_model.specs.declared.op.Op.TheVariants.{Get, Put, Add, Need};
 ghost use Rattle.si_model.specs.declared.log.Outcome.TheVariants.{Again, ReadOnly};
 ghost use Rattle.nam_report.specs.ArrangedExamples.{AreReady, IsSized, attempt, commit, item, log};
-ghost use Rattle.nam_report.specs.ArrangedExamples.{first_committer_jobs, first_committer_logs, write_skew_jobs};
-ghost use Rattle.nam_report.specs.ArrangedExamples.{write_skew_logs, again_jobs, again_logs, cause_jobs, cause_logs};
-ghost use Rattle.nam_report.specs.ArrangedExamples.{guard_jobs, guard_logs, sized_jobs};
+ghost use Rattle.nam_report.specs.ArrangedExamples.{first_committer_logs, write_skew_logs, again_logs, cause_logs};
+ghost use Rattle.nam_report.specs.ArrangedExamples.{guard_logs, unordered_logs, tied_logs};
 
 use crate::arrange;
 use lists::List;
@@ -76,13 +74,11 @@ fn log(alloc: Global, events: Vec<Event>, writes: Vec<Item>, snaps: Vec<Snapshot
 }
 
 fn get(key: u64) -> Op
-    ensures { result ≡ Get 0 key }
 {
     Op::Get { table: 0, key }
 }
 
 fn put(key: u64, word: u64) -> Op
-    ensures { result ≡ Put 0 key (word ∷ []) }
 {
     Op::Put {
         table: 0,
@@ -92,7 +88,6 @@ fn put(key: u64, word: u64) -> Op
 }
 
 fn add(key: u64, up: bool, by: u64) -> Op
-    ensures { result ≡ Add 0 key 1 up by }
 {
     Op::Add {
         table: 0,
@@ -104,7 +99,6 @@ fn add(key: u64, up: bool, by: u64) -> Op
 }
 
 fn need(key: u64, least: u64) -> Op
-    ensures { result ≡ Need 0 key 1 least }
 {
     Op::Need {
         table: 0,
@@ -155,7 +149,6 @@ fn read_again(
 }
 
 fn first_committer_jobs(alloc: Global) -> Result<Vec<Vec<Op>>, AllocError>
-    ensures { IfOk result (λ jobs. map (λ job. job.items) jobs.items ≡ first_committer_jobs) }
 {
     let first = vec![in alloc; add(0, true, 5)]?;
     let second = vec![in alloc; add(0, true, 7)]?;
@@ -183,7 +176,6 @@ fn first_committer_logs(alloc: Global) -> Result<Vec<Log>, AllocError>
 }
 
 fn write_skew_jobs(alloc: Global) -> Result<Vec<Vec<Op>>, AllocError>
-    ensures { IfOk result (λ jobs. map (λ job. job.items) jobs.items ≡ write_skew_jobs) }
 {
     let first = vec![in alloc; need(0, 60), need(1, 60), add(0, false, 60)]?;
     let second = vec![in alloc; need(0, 60), need(1, 60), add(1, false, 60)]?;
@@ -199,7 +191,6 @@ fn write_skew_logs(alloc: Global) -> Result<Vec<Log>, AllocError>
 }
 
 fn again_jobs(alloc: Global) -> Result<Vec<Vec<Op>>, AllocError>
-    ensures { IfOk result (λ jobs. map (λ job. job.items) jobs.items ≡ again_jobs) }
 {
     let first = vec![in alloc; get(0)]?;
     let second = vec![in alloc; add(0, true, 1)]?;
@@ -215,7 +206,6 @@ fn again_logs(alloc: Global) -> Result<Vec<Log>, AllocError>
 }
 
 fn cause_jobs(alloc: Global) -> Result<Vec<Vec<Op>>, AllocError>
-    ensures { IfOk result (λ jobs. map (λ job. job.items) jobs.items ≡ cause_jobs) }
 {
     let first = vec![in alloc; add(0, true, 1)]?;
     let second = vec![in alloc; get(0), put(1, 9)]?;
@@ -233,7 +223,6 @@ fn cause_logs(alloc: Global) -> Result<Vec<Log>, AllocError>
 }
 
 fn guard_jobs(alloc: Global) -> Result<Vec<Vec<Op>>, AllocError>
-    ensures { IfOk result (λ jobs. map (λ job. job.items) jobs.items ≡ guard_jobs) }
 {
     let first = vec![in alloc; Op::Guard { table: 0, key: 0 }, put(1, 1)]?;
     let second = vec![in alloc; put(0, 9)]?;
@@ -248,9 +237,26 @@ fn guard_logs(alloc: Global) -> Result<Vec<Log>, AllocError>
     Ok(vec![in alloc; first, second]?)
 }
 
+fn unordered_logs(alloc: Global) -> Result<Vec<Log>, AllocError>
+    ensures { IfOk result (λ logs. logs.items ≡ unordered_logs) }
+{
+    let first = one_commit(alloc, 1, 2, item(0, 1), snapshot(&[0, 2]))?;
+    let second = one_commit(alloc, 1, 1, item(1, 1), snapshot(&[1, 0]))?;
+    Ok(vec![in alloc; first, second]?)
+}
+
+fn tied_logs(alloc: Global) -> Result<Vec<Log>, AllocError>
+    ensures { IfOk result (λ logs. logs.items ≡ tied_logs) }
+{
+    let events = vec![in alloc; commit(2, 1, 0, 1), commit(1, 1, 0, 1)]?;
+    let writes = vec![in alloc; item(5, 1), item(3, 1)]?;
+    let snaps = vec![in alloc; snapshot(&[0]), snapshot(&[0])]?;
+    Ok(vec![in alloc; log(alloc, events, writes, snaps)]?)
+}
+
 /// The order of a history, each entry by worker, number, prefix, transaction and the keys that it writes.
 fn order_of(alloc: Global, jobs: &[Vec<Op>], logs: &[Log]) -> Result<String, AllocError>
-    requires { AreReady (map (λ job. job.items) jobs.now) logs.now }
+    requires { AreReady logs.now }
 {
     let history = arrange(alloc, &[], jobs, logs, 0)?;
     let mut text = String::new(alloc);
@@ -295,6 +301,18 @@ fn cause_order(alloc: Global) -> Result<String, AllocError> {
 fn guard_order(alloc: Global) -> Result<String, AllocError> {
     let jobs = guard_jobs(alloc)?;
     let logs = guard_logs(alloc)?;
+    order_of(alloc, jobs.as_slice(), logs.as_slice())
+}
+
+fn unordered_order(alloc: Global) -> Result<String, AllocError> {
+    let jobs = sized_jobs(alloc)?;
+    let logs = unordered_logs(alloc)?;
+    order_of(alloc, jobs.as_slice(), logs.as_slice())
+}
+
+fn tied_order(alloc: Global) -> Result<String, AllocError> {
+    let jobs = sized_jobs(alloc)?;
+    let logs = tied_logs(alloc)?;
     order_of(alloc, jobs.as_slice(), logs.as_slice())
 }
 
@@ -348,7 +366,7 @@ fn sized_logs(alloc: Global, workers: u64, commits: u64) -> Result<Vec<Log>, All
 
 /// The length of a history, and its first and its last entry by worker and number.
 fn ends_of(alloc: Global, jobs: &[Vec<Op>], logs: &[Log]) -> Result<String, AllocError>
-    requires { AreReady (map (λ job. job.items) jobs.now) logs.now }
+    requires { AreReady logs.now }
 {
     let history = arrange(alloc, &[], jobs, logs, 0)?;
     let mut text = String::new(alloc);
@@ -363,7 +381,6 @@ fn ends_of(alloc: Global, jobs: &[Vec<Op>], logs: &[Log]) -> Result<String, Allo
 }
 
 fn sized_jobs(alloc: Global) -> Result<Vec<Vec<Op>>, AllocError>
-    ensures { IfOk result (λ jobs. map (λ job. job.items) jobs.items ≡ sized_jobs) }
 {
     let job = vec![in alloc; put(0, 0)]?;
     Ok(vec![in alloc; job]?)
@@ -389,6 +406,22 @@ fn orders_of_worked_examples(rt: HostRuntime) -> Result<(), Fail> {
     assert_eq!(rt; again_order(alloc)?.as_str(), "2 1 0 2 0,");
     assert_eq!(rt; cause_order(alloc)?.as_str(), "1 1 0 1 0,2 1 1 2 1,");
     assert_eq!(rt; guard_order(alloc)?.as_str(), "2 1 0 1 1,1 1 0 2 0,");
+    Ok(())
+}
+
+/// The first snapshot by count has what the second lacks, so neither comes before the other.
+#[test]
+fn order_by_unordered_snapshots(rt: HostRuntime) -> Result<(), Fail> {
+    let order = unordered_order(rt.alloc())?;
+    assert_eq!(rt; order.as_str(), "1 1 2 1 0,2 1 1 1 1,");
+    Ok(())
+}
+
+/// Two commits of one number keep their order, and the transaction of one is beyond the jobs.
+#[test]
+fn order_of_tied_commits(rt: HostRuntime) -> Result<(), Fail> {
+    let order = tied_order(rt.alloc())?;
+    assert_eq!(rt; order.as_str(), "1 1 0 2 5,1 1 0 1 3,");
     Ok(())
 }
 

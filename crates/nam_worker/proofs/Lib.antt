@@ -1,2 +1,3 @@
 mod KeysLemmas
 mod DriverLemmas
+pub mod CallAnswers

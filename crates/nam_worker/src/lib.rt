@@ -8,6 +8,7 @@
 mod answering;
 mod driver;
 mod keys;
+mod laws;
 mod room;
 #[cfg(test)]
 mod tests;
@@ -15,6 +16,7 @@ mod tests;
 pub use answering::is_answer_to;
 pub use driver::Driver;
 pub use keys::are_jobs;
+pub use laws::answers_fit;
 pub use nam_protocol::{Answer, Call, Job, TxnAnswer, TxnCall};
 pub use room::needs;
 pub use si_model::Policy;

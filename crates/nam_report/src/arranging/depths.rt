@@ -3,8 +3,9 @@
 ghost use Rattle.std.specs.Prelude.{◌≡◌, ◌<◌, ◌+◌, ◌^◌, max, false, length, map, if◌then◌else◌, OnOk, IfOk, All};
 ghost use Rattle.std.specs.List.{AllByRecursion};
 ghost use Rattle.nam_report.specs.declared.arranging.placed.LevelKey.{LevelKey};
-ghost use Rattle.nam_report.specs.Depths.{at_depth, flat, same_level_key, reach_in, has_guard, reach, deepest};
-ghost use Rattle.nam_report.specs.Depths.{with_next_depths, AreSettled, AreAcyclic};
+ghost use Rattle.nam_report.specs.Depths.{at_depth, same_level_key, reach_in, has_guard, reach, deepest};
+ghost use Rattle.nam_report.specs.Depths.{with_next_depths};
+ghost use Rattle.nam_report.specs.Arranging.{after_rounds};
 
 use crate::arranging::placed::{LevelKey, Placed};
 use si_model::{Item, Key};
@@ -109,13 +110,11 @@ fn deepen_all(alloc: Global, placed: &mut Vec<Placed>) -> Result<bool, AllocErro
     Ok(deepen_each(placed.as_mut_slice(), &reached))
 }
 
-/// Gives the commits, which are at depth 0, their depths. A round settles those that stand behind settled commits
-/// alone, so there are at most as many rounds as commits, and one more than the greatest depth.
+/// Gives the commits, which are at depth 0, as many rounds as they are. A round settles those that stand behind settled
+/// commits alone, so without a circle of guards there is one more than the greatest depth before one changes nothing.
 pub fn settle(alloc: Global, placed: &mut Vec<Placed>) -> Result<(), AllocError>
-    requires depths { AllByRecursion (λ p. p.depth ≡ 0) placed.old.items }
-    requires acyclic { AreAcyclic (length placed.old.items) placed.old.items }
-    ensures same { OnOk result (map flat placed.new.items ≡ map flat placed.old.items) }
-    ensures settled { OnOk result (AreSettled placed.new.items) }
+    requires { AllByRecursion (λ p. p.depth ≡ 0) placed.old.items }
+    ensures { OnOk result (placed.new.items ≡ after_rounds (length placed.old.items) placed.old.items) }
 {
     for _round in 0..placed.len() {
         if !deepen_all(alloc, placed)? {

@@ -1,26 +1,26 @@
 //! Commits in the order of a history.
 
-ghost use Rattle.std.specs.Prelude.{◌≡◌, map, IfOk, IsPermutation};
-ghost use Rattle.si_model.specs.Lists.{Pairwise};
-ghost use Rattle.nam_report.specs.Depths.{NotAfter, AreOrdered, line_of};
+ghost use Rattle.std.specs.Prelude.{◌≡◌, map, OnOk, IfOk};
+ghost use Rattle.nam_report.specs.Depths.{line_of};
+ghost use Rattle.nam_report.specs.Arranging.{in_order};
 
 use crate::arranging::placed::Placed;
 use si_model::CommitLine;
 use std::alloc::{AllocError, Global};
 
-/// Sorts by level, depth, worker and number.
-fn sort(placed: &mut Vec<Placed>)
-    ensures same { IsPermutation placed.old.items placed.new.items }
-    ensures ordered { Pairwise NotAfter placed.new.items }
+/// Sorts by level, depth, worker and number, and keeps the order of commits in which these are the same.
+fn sort(placed: &mut Vec<Placed>) -> Result<(), AllocError>
+    ensures { OnOk result (placed.new.items ≡ in_order placed.old.items) }
 {
-    placed.sort_unstable_by_key(|commit| {
+    placed.sort_by_key(|commit| {
         (
             commit.level,
             commit.depth,
             commit.line.worker,
             commit.line.number,
         )
-    });
+    })?;
+    Ok(())
 }
 
 /// The entries of the commits.
@@ -37,9 +37,9 @@ fn into_entries(alloc: Global, placed: Vec<Placed>) -> Result<Vec<CommitLine>, A
 
 /// The entries of the commits, by level, depth, worker and number.
 pub fn in_order(alloc: Global, placed: Vec<Placed>) -> Result<Vec<CommitLine>, AllocError>
-    ensures { IfOk result (λ entries. AreOrdered placed.items entries.items) }
+    ensures { IfOk result (λ entries. map line_of (in_order placed.items) ≡ entries.items) }
 {
     let mut placed = placed;
-    sort(&mut placed);
+    sort(&mut placed)?;
     into_entries(alloc, placed)
 }

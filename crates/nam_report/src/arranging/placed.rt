@@ -1,14 +1,13 @@
 //! Commits with what places them in the order of a history.
 
-ghost use Rattle.std.specs.Prelude.{◌≡◌, length, map, IfOk};
-ghost use Rattle.std.specs.List.{AllByRecursion};
+ghost use Rattle.std.specs.Prelude.{◌≡◌, ◌-◌, [], map, slice_index_or, IfOk};
 ghost use Rattle.si_model.specs.Arranged.{level_from};
-ghost use Rattle.nam_report.specs.Lines.{referents, AreChained};
-ghost use Rattle.nam_report.specs.Depths.{HasJob, placed_with};
+ghost use Rattle.nam_report.specs.Lines.{referents, AreSearchable};
+ghost use Rattle.nam_report.specs.Depths.{placed_with};
 
-use crate::arranging::levels::level_by;
+use crate::arranging::levels::{Levels, level_by};
 use lists::List;
-use si_model::{CommitLine, Key, Op, Snapshot, guard_keys};
+use si_model::{CommitLine, Key, Op, guard_keys};
 use std::alloc::{AllocError, Global};
 
 /// A commit, with its level and depth and the keys that it guards.
@@ -27,23 +26,30 @@ pub struct LevelKey {
     pub key: Key,
 }
 
+/// The operations of a transaction, and none where there are fewer transactions. Number 0 has those of number 1.
+fn ops_of(jobs: &[Vec<Op>], txn: u32) -> &[Op]
+    ensures { result.now ≡ slice_index_or (map (λ job. job.items) jobs.now) (txn - 1) [] }
+{
+    match jobs.get((txn as usize).saturating_sub(1)) {
+        Some(job) => job.as_slice(),
+        None => &[],
+    }
+}
+
 /// A commit at its level, at depth 0.
 fn place(
     alloc: Global,
     line: CommitLine,
     jobs: &[Vec<Op>],
-    snapshots: &[&Snapshot],
-    start: u64,
-    top: u64,
+    levels: &Levels,
 ) -> Result<Placed, AllocError>
-    requires chain { AreChained start top (referents snapshots.now) }
-    requires job { HasJob (length jobs.now) line }
+    requires { AreSearchable levels.now }
     ensures { IfOk result (λ placed.
-        let level = level_from start top (referents snapshots.now) in
+        let level = level_from levels.now.start levels.now.top (referents levels.now.snapshots.items) in
         placed ≡ placed_with level (map (λ job. job.items) jobs.now) line) }
 {
-    let level = level_by(snapshots, start, top, line.worker, line.number);
-    let guards = guard_keys(alloc, jobs[line.txn as usize - 1].as_slice())?;
+    let level = level_by(levels, line.worker, line.number);
+    let guards = guard_keys(alloc, ops_of(jobs, line.txn))?;
     Ok(Placed {
         level,
         depth: 0,
@@ -57,19 +63,16 @@ pub fn place_all(
     alloc: Global,
     lines: Vec<CommitLine>,
     jobs: &[Vec<Op>],
-    snapshots: &[&Snapshot],
-    start: u64,
-    top: u64,
+    levels: &Levels,
 ) -> Result<Vec<Placed>, AllocError>
-    requires chain { AreChained start top (referents snapshots.now) }
-    requires jobs { AllByRecursion (HasJob (length jobs.now)) lines.items }
+    requires { AreSearchable levels.now }
     ensures { IfOk result (λ placed.
-        let level = level_from start top (referents snapshots.now) in
+        let level = level_from levels.now.start levels.now.top (referents levels.now.snapshots.items) in
         placed.items ≡ map (placed_with level (map (λ job. job.items) jobs.now)) lines.items) }
 {
     let mut placed = Vec::new(alloc);
     for line in lines {
-        placed.push(place(alloc, line, jobs, snapshots, start, top)?)?;
+        placed.push(place(alloc, line, jobs, levels)?)?;
     }
     Ok(placed)
 }

@@ -1,11 +1,7 @@
-use Rattle.std.proofs.Common.{map, ap, ◌∙◌, Vec, Global}
-use Rattle.si_model.specs.declared.op.Op.{Op}
-use Rattle.nam_report.specs.ArrangedExamples.{guard_jobs, guard_logs}
-use Rattle.nam_report.proofs.ArrangedExamples.{ready_at, guard_ready}
+use Rattle.std.proofs.Common.{sym, ◌∙◌, subst}
+use Rattle.nam_report.specs.ArrangedExamples.{AreReady}
+use Rattle.nam_report.proofs.ArrangedExamples.{guard_ready}
 use Rattle.nam_report.proofs.tests_arrange.guard_order.Goals as goal
 
 pub order_of-requires : goal.order_of-requires
-order_of-requires c =
-    ready_at guard_jobs guard_logs guard_ready c.as_slice.result.now c.as_slice-2.result.now
-    (ap (map (λ (job : Vec Op Global). job.items)) c.as_slice.ensures.value ∙ c.in_ok-jobs.ensures)
-    (c.as_slice-2.ensures.value ∙ c.in_ok-logs.ensures)
+order_of-requires c = subst AreReady (sym (c.as_slice-2.ensures.value ∙ c.in_ok-logs.ensures)) guard_ready

@@ -4,7 +4,7 @@ use Rattle.std.proofs.lemmas.List.{length-append, replicate_more}
 use Rattle.si_model.specs.declared.row.Item.{Item}
 use Rattle.si_model.specs.declared.log.Event.{Event}
 use Rattle.nam_report.specs.ArrangedExamples.{commit}
-use Rattle.nam_report.proofs.SizedExamples.{sized_more}
+use Rattle.nam_report.proofs.ArrangedExamples.{sized_more}
 use Rattle.nam_report.proofs.tests_arrange.sized_log.Goals as goal
 
 pub loop-place-preserved : goal.loop-place-preserved

@@ -1,19 +1,12 @@
-use Rattle.std.proofs.Common.{◌≡◌, ◌≤◌, ◌<◌, ◌+◌, ◌^◌, suc, length, map, refl, ap, sym, ◌∙◌, subst, arith}
+use Rattle.std.proofs.Common.{◌≡◌, ◌≤◌, ◌<◌, ◌+◌, ◌-◌, ◌^◌, ℕ, List, suc, length, ap, sym, ◌∙◌, subst, arith}
 use Rattle.std.specs.List.{AllByRecursion}
 use Rattle.std.proofs.lemmas.List.Elements.{All-from_recursion}
 use Rattle.si_model.proofs.ListLemmas.{All-listed, All-from_listed}
 use Rattle.nam_report.specs.declared.arranging.placed.Placed.{Placed}
-use Rattle.nam_report.specs.Depths.{flat, with_next_depths, SettledBelow}
-use Rattle.nam_report.proofs.DepthLemmas.{low_round, flat_deepened, settled_round, settled_fixed, settled_all}
+use Rattle.nam_report.specs.Depths.{with_next_depths}
+use Rattle.nam_report.specs.Arranging.{after_rounds}
+use Rattle.nam_report.proofs.DepthLemmas.{low_round, rounds_fixed}
 use Rattle.nam_report.proofs.arranging.depths.settle.Goals as goal
-
-pub loop-round-init : goal.loop-round-init
-loop-round-init c = record {
-  same = refl;
-  low = All-from_listed (λ p. p.depth ≤ 0) c.args.placed.now.items
-      (λ p l. omega (arith, All-listed (λ p. p.depth ≡ 0) c.args.placed.now.items p c.requires.depths l));
-  settled = λ number rises p l lt. absurd (omega arith);
-}
 
 pub deepen_all-requires : goal.deepen_all-requires
 deepen_all-requires c =
@@ -27,39 +20,52 @@ deepen_all-requires c =
       c.len-round-end.type_inv,
     )))
 
-pub returns-then-not-branch-clause-same : goal.returns-then-not-branch-clause-same
-returns-then-not-branch-clause-same c =
-    ap (map flat) c.in_ok-deepen_all.ensures.after ∙ flat_deepened c.loop-round.placed.items
-    ∙ c.loop-round.invariant.same
-
-pub returns-then-not-branch-clause-settled : goal.returns-then-not-branch-clause-settled
-returns-then-not-branch-clause-settled c =
-    let new = c.deepen_all.new.placed.items in
-    settled_fixed new (c.in_ok-deepen_all.ensures.after
-    ∙ ap with_next_depths (sym (c.in_ok-deepen_all.ensures.same c.if-not-branch.true)))
+pub returns-then-not-branch : goal.returns-then-not-branch
+returns-then-not-branch c =
+    let n = length c.args.placed.now.items in
+    let items = c.loop-round.placed.items in
+    let same = c.in_ok-deepen_all.ensures.same c.if-not-branch.true in
+    same ∙ rounds_fixed (n - c.loop-round._round) items (sym same ∙ c.in_ok-deepen_all.ensures.after)
+    ∙ c.loop-round.invariant.rounds
 
 pub loop-round-preserved : goal.loop-round-preserved
 loop-round-preserved c =
     let items = c.loop-round.placed.items in
+    let new : List Placed = c.deepen_all.new.placed.items in
     let after = c.in_ok-deepen_all.ensures.after in
-    let n = c.loop-round._round in
-    let next : suc n ≡ n + 1 = omega arith in
+    let r = c.loop-round._round in
+    let n = length c.args.placed.now.items in
+    let next : suc r ≡ r + 1 = omega arith in
+    let left : n - r ≡ suc (n - (r + 1)) =
+    omega (
+      arith,
+      c.loop-round-test.true,
+      c.loop-round.auto._round-end,
+      c.len-round-end.ensures,
+      c.args.placed.now.ok.0,
+    ) in
     record {
-      same = ap (map flat) after ∙ flat_deepened items ∙ c.loop-round.invariant.same;
-      low = subst (λ m. AllByRecursion (λ (p : Placed). p.depth ≤ m) c.deepen_all.new.placed.items) next
-          (subst (AllByRecursion (λ (p : Placed). p.depth ≤ suc n)) (sym after)
-          (low_round n items c.loop-round.invariant.low));
-      settled = subst (λ m. SettledBelow m c.deepen_all.new.placed.items) next
-          (subst (SettledBelow (suc n)) (sym after) (settled_round n items c.loop-round.invariant.settled));
+      low = subst (λ m. AllByRecursion (λ (p : Placed). p.depth ≤ m) new) next
+          (subst (AllByRecursion (λ (p : Placed). p.depth ≤ suc r)) (sym after)
+          (low_round r items c.loop-round.invariant.low));
+      rounds = ap (after_rounds (n - (r + 1))) after ∙ sym (ap (λ m. after_rounds m items) left)
+          ∙ c.loop-round.invariant.rounds;
     }
 
-pub returns-clause-same : goal.returns-clause-same
-returns-clause-same c = c.loop-round.invariant.same
+pub loop-round-init : goal.loop-round-init
+loop-round-init c =
+    let items : List Placed = c.args.placed.now.items in
+    let all : length items - 0 ≡ length items = omega arith in
+    record {
+      low = All-from_listed (λ p. p.depth ≤ 0) items
+          (λ p l. omega (arith, All-listed (λ p. p.depth ≡ 0) items p c.requires l));
+      rounds = ap (λ m. after_rounds m items) all;
+    }
 
-pub returns-clause-settled : goal.returns-clause-settled
-returns-clause-settled c =
-    let old = c.args.placed.now.items in
-    let all : length old ≡ c.loop-round._round =
+pub returns : goal.returns
+returns c =
+    let n = length c.args.placed.now.items in
+    let none : n - c.loop-round._round ≡ 0 =
     omega (
       arith,
       c.loop-round-test.false,
@@ -67,5 +73,4 @@ returns-clause-settled c =
       c.len-round-end.ensures,
       c.args.placed.now.ok.0,
     ) in
-    settled_all (length old) old c.loop-round.placed.items c.loop-round.invariant.same c.requires.acyclic
-    (subst (λ n. SettledBelow n c.loop-round.placed.items) (sym all) c.loop-round.invariant.settled)
+    sym (ap (λ m. after_rounds m c.loop-round.placed.items) none) ∙ c.loop-round.invariant.rounds

@@ -1,0 +1,7 @@
+use Rattle.std.proofs.Common.{sym, ◌∙◌, subst}
+use Rattle.nam_report.specs.ArrangedExamples.{AreReady}
+use Rattle.nam_report.proofs.ArrangedExamples.{tied_ready}
+use Rattle.nam_report.proofs.tests_arrange.tied_order.Goals as goal
+
+pub order_of-requires : goal.order_of-requires
+order_of-requires c = subst AreReady (sym (c.as_slice-2.ensures.value ∙ c.in_ok-logs.ensures)) tied_ready

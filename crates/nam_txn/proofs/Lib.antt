@@ -1,0 +1,11 @@
+pub mod KeyLemmas
+pub mod WalkLemmas
+pub mod ValueLemmas
+pub mod RunLemmas
+pub mod ReadLemmas
+pub mod TableLemmas
+pub mod AskLemmas
+pub mod HeldLemmas
+pub mod StandLemmas
+pub mod VerbLemmas
+pub mod OwnLemmas

@@ -1,0 +1,6 @@
+use Rattle.nam_txn.proofs.StandLemmas.{new_is}
+use Rattle.nam_txn.proofs.txn.Txn.new.Goals as goal
+
+pub returns-clause-of : goal.returns-clause-of
+returns-clause-of c = λ shape can.
+    new_is shape c.args.worker c.args.last c.args.seen can c.new.result c.new.ensures.step c.new.ensures.state

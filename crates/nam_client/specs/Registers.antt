@@ -28,7 +28,6 @@ use Rattle.nam_protocol.specs.declared.client.Open.{Open}
 use Rattle.nam_protocol.specs.declared.client.ClientState.{ClientState}
 use Rattle.nam_protocol.specs.Log.{with_event, with_locks, with_snap, prefix_of}
 use Rattle.nam_protocol.specs.Telling.{locks_from}
-use Rattle.nam_protocol.specs.Txn.{new_txn}
 use Rattle.nam_scan.specs.Scan.{Scanning as ScanValue}
 use Rattle.nam_upkeep.specs.Collector.{collection}
 use Rattle.nam_client.specs.declared.registers.Registers.{Registers}
@@ -123,6 +122,24 @@ abbrev pub listed : Registers → Event → Registers
 listed a event = record a {
   log = record { log = with_event a.log.log event; room = record a.log.room { events = a.log.room.events - 1 } };
 }
+
+-- a transaction is open on the snapshot that was taken, but for what it has at hand
+abbrev pub opened : Registers → ℕ → ℕ → Registers
+opened a txn nth =
+    let seen = seen_in a.snapper.state in
+    record a {
+      log = record { log = with_snap a.log.log seen; room = record a.log.room { snaps = a.log.room.snaps - 1 } };
+      is_open = true;
+      attempt = record {
+        txn = txn;
+        nth = nth;
+        prefix = prefix_of a.start seen;
+        ops = 0;
+        ops_so_far = 0;
+        reads = 0;
+        locks = 0;
+      };
+    }
 
 -- a move has ended: it is listed where it claimed a cell or found none
 abbrev pub after_move : Registers → ℕ → ℕ → MoveAnswer → Registers

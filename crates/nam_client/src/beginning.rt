@@ -1,6 +1,6 @@
 //! Begins.
 
-ghost use Rattle.std.specs.Prelude.{◌≡◌, ◌<◌, ◌≤◌, ◌-◌, IsSome, false, length};
+ghost use Rattle.std.specs.Prelude.{◌≡◌, ◌<◌, ◌≤◌, ◌-◌, IsSome, None, true, false};
 ghost use Rattle.nam_verbs.specs.Running.{next_verb};
 ghost use Rattle.nam_verbs.specs.declared.now.Now.TheVariants.{Over};
 ghost use Rattle.nam_catalog.specs.declared.shape.Shape.{Shape};
@@ -11,7 +11,9 @@ ghost use Rattle.nam_protocol.specs.Client.{client_ask, client_after};
 ghost use Rattle.nam_protocol.specs.Log.{prefix_of, unbegun};
 ghost use Rattle.nam_protocol.specs.Own.{MayAsk};
 ghost use Rattle.nam_layout.specs.Address.{IsWorker};
-ghost use Rattle.nam_client.specs.Registers.{client_of, call_of, listed};
+ghost use Rattle.nam_client.specs.Registers.{client_of, call_of, seen_in, opened, listed};
+ghost use Rattle.nam_txn.specs.Txn.{CanBegin, IsTxnOf};
+ghost use Rattle.nam_protocol.specs.Txn.{new_txn};
 ghost use Rattle.nam_client.specs.declared.registers.Step.TheVariants as step;
 ghost use Rattle.nam_client.specs.Room.{HasRoom};
 ghost use Rattle.nam_client.specs.Fits.{IsClientOf, HandFits};
@@ -75,4 +77,72 @@ pub fn list_unbegun(a: &mut Registers, txn: u32, nth: u32, outcome: Outcome)
         writes: 0,
         outcome,
     });
+}
+
+/// Goes on with a word of the snapshot.
+#[inline]
+pub fn take_begin(a: &mut Registers, txn: u32, nth: u32, found: u64)
+    requires step { a.old.step ≡ step.Beginning txn nth }
+    requires stands { IsSome (next_verb (running a.old.snapper)) }
+    requires closed { a.old.is_open ≡ false }
+    requires room { HasRoom a.old }
+    ensures client { (shape : Shape) → a.old.snapper.workers ≡ shape.workers
+        → a.old.txn.state.worker ≡ a.old.worker
+        → client_of a.new ≡ client_after shape (client_of a.old) found }
+    ensures spare { a.new.spare ≡ a.old.spare }
+    ensures txn { (shape : Shape) → CanBegin shape a.old.txn.state.worker a.old.last (seen_in a.new.snapper.state)
+        → a.new.is_open ≡ true → IsTxnOf shape a.new.txn }
+    ensures hand { (shape : Shape) → a.old.snapper.workers ≡ shape.workers
+        → HandFits shape a.new (call_of a.new.step a.new) }
+    ensures room { HasRoom a.new }
+{
+    a.snapper.take(found);
+    match a.snapper.end() {
+        None => {}
+        Some(SnapperEnd::Done) => open(a, txn, nth),
+        Some(
+            SnapperEnd::Again {
+                worker,
+                first,
+                second,
+            },
+        ) => {
+            list_unbegun(
+                a,
+                txn,
+                nth,
+                Outcome::Again {
+                    worker,
+                    first,
+                    second,
+                },
+            );
+        }
+    }
+}
+
+/// The transaction is open, on the snapshot that was taken.
+#[inline(never)]
+fn open(a: &mut Registers, txn: u32, nth: u32)
+    requires done { a.old.snapper.state ≡ Over (Done (seen_in a.old.snapper.state)) }
+    requires snaps { 0 < a.old.log.room.snaps }
+    ensures state { a.new.txn.state ≡ new_txn a.old.txn.state.worker a.old.last (seen_in a.old.snapper.state) }
+    ensures call { a.new.txn.call ≡ None }
+    ensures txn { (shape : Shape) → CanBegin shape a.old.txn.state.worker a.old.last (seen_in a.old.snapper.state)
+        → IsTxnOf shape a.new.txn }
+    ensures rest { a.new ≡ record (opened a.old txn nth) { txn = a.new.txn } }
+{
+    let seen = a.snapper.seen();
+    a.attempt = Attempting {
+        txn,
+        nth,
+        prefix: prefix_of(a.start, seen.as_slice()),
+        ops: 0,
+        ops_so_far: 0,
+        reads: 0,
+        locks: 0,
+    };
+    a.txn.restart(a.last, seen);
+    a.log.list_snap(seen);
+    a.is_open = true;
 }

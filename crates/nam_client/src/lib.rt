@@ -1,23 +1,19 @@
-//! A worker's client: its calls one at a time, and its log.
-//!
-//! [`Client`] is the client of nam_protocol in registers: what it does with each call and each word is exactly the
-//! definitions' `client_ask` and `client_after`, what it lists is exactly theirs, and it takes no memory but in
-//! `reserve`. It does no input or output: it tells the verb that stands and takes the word that was found.
+//! Scratch.
 #![tactic(auto)]
 
 mod answering;
 mod beginning;
-mod client;
-mod closing;
 mod collecting;
 mod ending;
 mod registers;
 mod room;
-mod scanning;
 mod tidying;
 mod transacting;
-#[cfg(test)]
-mod tests;
 
-pub use client::Client;
-pub use nam_protocol::{Answer, Call, TxnAnswer, TxnCall};
+pub use answering::{answer_of, is_busy};
+pub use beginning::{begin, list_unbegun, take_begin};
+pub use collecting::{collect, list_collect, take_collect, take_snap};
+pub use registers::{Registers, new_registers};
+pub use room::reserve;
+pub use tidying::{take_move, take_seek, tidy};
+pub use transacting::{ask_txn, list_attempt, list_commit, take_txn};

@@ -1,5 +1,5 @@
 -- A call that is an operation.
-use Rattle.std.proofs.Common.{◌≡◌, ap, subst, Option, Some, None, refl}
+use Rattle.std.proofs.Common.{◌≡◌, subst, Some, None, refl}
 use Rattle.si_model.specs.declared.op.Op.{Op}
 use Rattle.si_model.specs.declared.op.Op.TheVariants as op
 use Rattle.nam_catalog.specs.declared.shape.Shape.{Shape}

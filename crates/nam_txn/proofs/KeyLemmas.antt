@@ -1,7 +1,6 @@
 -- A list with one more key, by whether the key stands in it.
-use Rattle.std.proofs.Common.{◌≡◌, ℕ, zero, suc, ◌+◌, ◌<◌, ◌≤◌, List, [], ◌∷◌, ◌++◌, length, length-append, ap, refl, sym, ◌∙◌, arith}
-use Rattle.std.proofs.Common.{Bool, true, false, cond, Option, Some, None, inl, inr}
-use Rattle.std.specs.Prelude.{slice_set}
+use Rattle.std.proofs.Common.{◌≡◌, ℕ, suc, ◌+◌, ◌<◌, ◌≤◌, List, [], ◌∷◌, ◌++◌, length, length-append, ap, refl, ◌∙◌, arith}
+use Rattle.std.proofs.Common.{true, false, Option, Some, None, inl, inr}
 use Rattle.std.specs.List.{position_from}
 use Rattle.std.specs.Option.{option_map}
 use Rattle.std.proofs.lemmas.Bool.{cases_Bool, false≢true}
@@ -12,7 +11,7 @@ use Rattle.si_model.specs.Rows.{same_key, has_key, item_key}
 use Rattle.si_model.specs.Evaluation.{with_write, with_guard}
 use Rattle.si_model.proofs.WriteLemmas.{guarded_new}
 use Rattle.si_model.specs.Places.{place_of}
-use Rattle.si_model.proofs.PlaceLemmas.{wrote_again, wrote_first}
+use Rattle.si_model.proofs.PlaceLemmas.{wrote_first}
 use Rattle.nam_protocol.specs.declared.txn.Record.{Record}
 use Rattle.nam_protocol.specs.Txn.{with_claim}
 use Rattle.nam_protocol.specs.TxnFits.{is_claimed}

@@ -9,3 +9,4 @@ pub mod HeldLemmas
 pub mod StandLemmas
 pub mod VerbLemmas
 pub mod OwnLemmas
+pub mod ClaimLemmas

@@ -1,5 +1,5 @@
 -- The read of a running operation: where it looks, and that what it gets has its table's width.
-use Rattle.std.proofs.Common.{◌≡◌, ℕ, ◌+◌, ◌<◌, ◌≤◌, List, length, Option, Some, None, refl, sym, ap, ◌∙◌, subst, arith}
+use Rattle.std.proofs.Common.{◌≡◌, ℕ, ◌≤◌, length, Some, None, refl, sym, ap, ◌∙◌, subst, arith}
 use Rattle.si_model.specs.Evaluation.{op_key}
 use Rattle.nam_verbs.specs.declared.now.Now.{Now}
 use Rattle.nam_verbs.specs.declared.now.Now.TheVariants.{At, Over}
@@ -9,13 +9,12 @@ use Rattle.nam_catalog.specs.declared.shape.Shape.{Shape}
 use Rattle.nam_layout.specs.declared.field.Field.{Field}
 use Rattle.nam_layout.specs.declared.field.Place.{Place}
 use Rattle.nam_layout.specs.declared.field.Cells.{Cells}
-use Rattle.nam_layout.specs.Place.{place_of, cells_of, cells_by, bucket_of}
-use Rattle.nam_calls.specs.declared.reading.Sight.{Sight}
+use Rattle.nam_layout.specs.Place.{place_of, cells_of, bucket_of}
 use Rattle.nam_calls.specs.declared.reading.ReadPoint.{ReadPoint}
 use Rattle.nam_calls.specs.declared.reading.ReadingEnd.{ReadingEnd}
 use Rattle.nam_calls.specs.declared.reading.ReadingEnd.TheVariants.{Got, Passed, Astray}
-use Rattle.nam_calls.specs.Words.{width_of, capacity_of}
-use Rattle.nam_calls.specs.Reading.{sight_of, read_begin, read_after, read_left, read_most}
+use Rattle.nam_calls.specs.Words.{width_of}
+use Rattle.nam_calls.specs.Reading.{sight_of, read_begin, read_after, read_left}
 use Rattle.nam_calls.specs.Fits.{SightFits, HasWidth}
 use Rattle.nam_calls.proofs.FallsRead.{ReadFalls, read_falls}
 use Rattle.nam_calls.proofs.FallsTables.{sight_fits, width_is, read_figure}
@@ -39,7 +38,7 @@ module _ (shape : Shape) (a : Registers) (runs : OpRuns shape a) where
   pub begins_within : read_left (sight_of shape (op_key a.op).table a.walk.position) read_begin ≤ a.read_most
   begins_within =
       let figure = read_figure shape runs.limits (op_key a.op).table a.walk.position (is_table shape a runs)
-          (position_less shape a runs) in
+      (position_less shape a runs) in
       let most = runs.table.read_most in
       omega (arith, figure, most)
 

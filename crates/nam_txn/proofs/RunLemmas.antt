@@ -1,21 +1,19 @@
 -- A running operation: where its key stands, and that its claim, its write and its guard have room.
-use Rattle.std.proofs.Common.{◌≡◌, ℕ, ◌+◌, ◌<◌, ◌≤◌, List, length, refl, sym, ap, ◌∙◌, subst, arith, true}
-use Rattle.si_model.specs.declared.op.Op.{Op}
+use Rattle.std.proofs.Common.{◌≡◌, ◌<◌, ◌≤◌, length, refl, sym, ap, subst, true}
 use Rattle.si_model.specs.Rows.{writes_key}
 use Rattle.si_model.specs.Evaluation.{op_key, guards_after}
 use Rattle.nam_catalog.specs.declared.shape.Shape.{Shape}
 use Rattle.nam_layout.specs.RowLaw.{IsPosition}
 use Rattle.nam_calls.specs.Words.{capacity_of, width_of}
 use Rattle.nam_calls.specs.Fits.{IsTableOf, HasWidth}
-use Rattle.nam_protocol.specs.declared.txn.TxnState.{TxnState}
-use Rattle.nam_protocol.specs.Operations.{value_in, own_value}
+use Rattle.nam_protocol.specs.Operations.{value_in}
 use Rattle.nam_protocol.specs.Txn.{with_claim, with_op, record_of, after_claim}
 use Rattle.nam_protocol.specs.TxnFits.{StateFits, OpStands}
 use Rattle.nam_protocol.specs.FewLaw.{FewKeys}
 use Rattle.nam_protocol.proofs.FallsKeys.{op_table, new_fits, own_fits, own_claimed}
 use Rattle.nam_protocol.proofs.FewLemmas.{few_keys}
-use Rattle.nam_txn.specs.Read.{NamesField, written_by, changed_by}
-use Rattle.nam_txn.specs.Txn.{OpRuns, ClaimStands, HasTable}
+use Rattle.nam_txn.specs.Read.{NamesField, written_by}
+use Rattle.nam_txn.specs.Txn.{OpRuns, ClaimStands}
 use Rattle.nam_txn.specs.declared.registers.Registers.{Registers}
 use Rattle.nam_txn.proofs.WalkLemmas.{on_path_less}
 use Rattle.nam_txn.proofs.ValueLemmas.{names, written_is}

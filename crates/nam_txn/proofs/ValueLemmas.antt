@@ -1,5 +1,5 @@
 -- What an operation makes of a value: the same of what it has read.
-use Rattle.std.proofs.Common.{◌≡◌, ℕ, ◌+◌, ◌<◌, ◌≤◌, List, length, refl, sym, ap, ◌∙◌, subst, arith, Bool, true, false}
+use Rattle.std.proofs.Common.{◌≡◌, ℕ, ◌≤◌, List, refl, arith, false}
 use Rattle.std.proofs.Common.{Option, Some, None}
 use Rattle.si_model.specs.declared.row.Item.{Item}
 use Rattle.si_model.specs.declared.op.Op.{Op}
@@ -12,7 +12,7 @@ use Rattle.nam_calls.specs.Words.{width_of}
 use Rattle.nam_calls.specs.Fits.{HasWidth}
 use Rattle.nam_protocol.specs.declared.txn.TxnState.{TxnState}
 use Rattle.nam_protocol.specs.Operations.{holding, value_in, read_of}
-use Rattle.nam_protocol.specs.Txn.{Stepped, with_op, with_own, on_decision}
+use Rattle.nam_protocol.specs.Txn.{with_op, with_own, on_decision}
 use Rattle.nam_txn.specs.Read.{HasField, CanRead, NamesField, written_by, changed_by}
 
 -- 1. A value is known by what was read

@@ -1,5 +1,5 @@
 -- Where the verb of a running operation is, and how many are to come.
-use Rattle.std.proofs.Common.{◌≡◌, ℕ, ◌+◌, ◌-◌, ◌*◌, ◌<◌, List, refl, sym, ap, ◌∙◌, subst, arith, Option, Some, None}
+use Rattle.std.proofs.Common.{◌≡◌, ℕ, ◌+◌, ◌-◌, ◌*◌, ◌<◌, refl, sym, ap, ◌∙◌, subst, Option, Some, None}
 use Rattle.std.specs.Prelude.{IfSome, if◌then◌else◌}
 use Rattle.si_model.specs.Evaluation.{op_key}
 use Rattle.si_model.specs.Operations.{op_claims}
@@ -7,7 +7,7 @@ use Rattle.nam_verbs.specs.declared.verb.Verb.{Verb}
 use Rattle.nam_verbs.specs.declared.verb.Verb.TheVariants.{Read, Exchange}
 use Rattle.nam_verbs.specs.declared.now.Now.{Now}
 use Rattle.nam_verbs.specs.declared.now.Now.TheVariants.{At, Over}
-use Rattle.nam_verbs.specs.Now.{verb_now, left_now}
+use Rattle.nam_verbs.specs.Now.{verb_now}
 use Rattle.nam_verbs.specs.Running as running_call
 use Rattle.nam_verbs.specs.Verb.{address_of}
 use Rattle.nam_verbs.specs.VerbAt.{VerbAt, ReadAt, WriteAt, ExchangeAt, target, verb_by}
@@ -19,17 +19,13 @@ use Rattle.nam_layout.specs.Address.{address}
 use Rattle.nam_layout.specs.Place.{bucket_of}
 use Rattle.nam_layout.proofs.PlaceLemmas.{known_stands}
 use Rattle.nam_calls.specs.declared.index.ClaimKeyPoint.TheVariants.{KeyLook, KeyTake}
-use Rattle.nam_calls.specs.declared.reading.ReadPoint.{ReadPoint}
 use Rattle.nam_calls.specs.Words.{capacity_of, key_word}
 use Rattle.nam_calls.specs.Index.{nth_key}
 use Rattle.nam_calls.specs.Memory.{verb_there}
 use Rattle.nam_calls.specs.Reading.{sight_of, read_verb, read_left, read_most}
-use Rattle.nam_calls.specs.Fits.{ReadFits}
-use Rattle.nam_calls.proofs.FallsTables.{sight_fits}
 use Rattle.nam_calls.proofs.FieldLemmas.{read_field}
 use Rattle.nam_index.specs.Path.{path_address}
 use Rattle.nam_index.proofs.PathLemmas as path
-use Rattle.nam_protocol.specs.declared.txn.TxnState.{TxnState}
 use Rattle.nam_protocol.specs.declared.txn.TxnAnswer.{TxnAnswer}
 use Rattle.nam_protocol.specs.declared.txn.TxnPoint.{TxnPoint}
 use Rattle.nam_protocol.specs.declared.txn.TxnPoint.TheVariants.{Finding, Reading, Claiming}
@@ -40,7 +36,7 @@ use Rattle.nam_protocol.proofs.FieldLemmas.{txn_fields, reached_within}
 use Rattle.nam_reader.specs.Reading.{sight_address, running}
 use Rattle.nam_txn.specs.Txn.{Transacting, IsTxnOf, CallFits, OpRuns, ReadStands, point_of, verb_of, next_verb}
 use Rattle.nam_txn.specs.declared.registers.Registers.{Registers}
-use Rattle.nam_txn.proofs.RunLemmas.{is_table, capacity_is, position_less}
+use Rattle.nam_txn.proofs.RunLemmas.{is_table, capacity_is}
 use Rattle.nam_txn.proofs.ReadLemmas.{looks_fit}
 
 -- a verb is the same where its word has the same address

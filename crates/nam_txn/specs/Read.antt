@@ -7,7 +7,6 @@ use Rattle.si_model.specs.declared.op.Op.{Op}
 use Rattle.si_model.specs.declared.op.Op.TheVariants.{Get, Put, Add, Del, Need, Guard, Scan}
 use Rattle.si_model.specs.Rows.{key_at, same_key, item_key, item_at}
 use Rattle.si_model.specs.Evaluation.{field_of, with_field, new_number, with_write, guards_after}
-use Rattle.nam_calls.specs.Fits.{HasWidth}
 use Rattle.nam_protocol.specs.declared.txn.Record.{Record}
 use Rattle.nam_protocol.specs.declared.txn.TxnState.{TxnState}
 

@@ -165,8 +165,8 @@ impl Registers {
         requires table { IsTableOf layout.now table }
         requires workers { length self.old.state.seen ≡ layout.now.workers }
         ensures { self.new ≡ record self.old {
-            width = width_of layout.now table;
-            read_most = read_most layout.now table;
+          width = width_of layout.now table;
+          read_most = read_most layout.now table;
         } }
     {
         let place = layout.place(table, 0);

@@ -30,7 +30,11 @@ fn field_in(read: &Option<Item>, field: u32) -> u64
 fn can_change(number: u64, up: bool, by: u64) -> bool
     ensures { result ≡ can_change up number by }
 {
-    if up { number <= u64::MAX - by } else { by <= number }
+    if up {
+        number <= u64::MAX - by
+    } else {
+        by <= number
+    }
 }
 
 fn new_number(number: u64, up: bool, by: u64) -> u64

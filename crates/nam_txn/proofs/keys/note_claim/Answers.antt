@@ -1,5 +1,4 @@
-use Rattle.std.proofs.Common.{◌≡◌, ◌∙◌, sym, true, false, arith}
-use Rattle.nam_protocol.specs.TxnFits.{is_claimed}
+use Rattle.std.proofs.Common.{◌∙◌, sym, arith}
 use Rattle.nam_txn.proofs.KeyLemmas.{claim_same, claim_last, claim_room, claimed_any}
 use Rattle.nam_txn.proofs.keys.note_claim.Goals as goal
 

@@ -11,13 +11,16 @@ returns-clause-keeps c =
     let place = rw c.key-key.ensures at c.place-place.ensures.value in
     let cells = rw c.bucket_of.ensures.value at c.cells-cells.ensures.value in
     let same = c.begin.ensures
-        ∙ ap reading (looks shape a runs c.place-place.result c.cells-cells.result c.len.result place cells
-        c.len.ensures.value) in
+    ∙ ap reading (looks shape a runs c.place-place.result c.cells-cells.result c.len.result place cells
+    c.len.ensures.value) in
     record {
       holds = record { walk = runs.walk; at = rw same (refl, begins_within shape a runs) };
-      at = rw same (record {
-        path = runs.table.path;
-        width = runs.table.width;
-        read_most = runs.table.read_most;
-      }, refl);
+      at = rw same (
+        record {
+          path = runs.table.path;
+          width = runs.table.width;
+          read_most = runs.table.read_most;
+        },
+        refl,
+      );
     }

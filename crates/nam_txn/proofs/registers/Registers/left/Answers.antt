@@ -1,4 +1,4 @@
-use Rattle.std.proofs.Common.{◌≡◌, ◌+◌, sym, subst, arith}
+use Rattle.std.proofs.Common.{◌≡◌, ◌+◌, sym, subst}
 use Rattle.nam_txn.specs.Txn.{left_of, call_at}
 use Rattle.nam_txn.specs.declared.step.Step.TheVariants as step
 use Rattle.nam_txn.proofs.StandLemmas.{stands}

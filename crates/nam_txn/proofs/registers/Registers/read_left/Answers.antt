@@ -1,4 +1,4 @@
-use Rattle.std.proofs.Common.{◌≡◌, ◌≤◌, ◌∙◌, [], ap, arith}
+use Rattle.std.proofs.Common.{◌≡◌, ◌∙◌, [], ap, arith}
 use Rattle.nam_verbs.specs.Now.{left_now}
 use Rattle.nam_calls.specs.Reading.{read_left}
 use Rattle.nam_txn.specs.Txn.{point_of}

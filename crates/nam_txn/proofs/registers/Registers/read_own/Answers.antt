@@ -1,5 +1,4 @@
-use Rattle.std.proofs.Common.{◌∙◌, sym, ap}
-use Rattle.si_model.specs.declared.row.Item.{Item}
+use Rattle.std.proofs.Common.{◌∙◌}
 use Rattle.si_model.specs.Evaluation.{op_key}
 use Rattle.nam_txn.proofs.OwnLemmas.{is_written, own_found, own_read_wide, own_steps}
 use Rattle.nam_txn.proofs.registers.Registers.read_own.Goals as goal
@@ -13,7 +12,7 @@ pub do_own-requires-clause-wide : goal.do_own-requires-clause-wide
 do_own-requires-clause-wide c =
     let a = c.args.self.now in
     let own = c.copy_value-own.ensures
-        ∙ own_found a.state.writes (op_key a.op) c.args.place c.at.result.now c.requires.place c.at.ensures in
+    ∙ own_found a.state.writes (op_key a.op) c.args.place c.at.result.now c.requires.place c.at.ensures in
     rw c.read_of-self.ensures
     (own_read_wide c.args.layout.now a.state a.op c.requires.fits c.requires.stands a.width c.requires.width
     c.copy_value-own.result own)
@@ -22,6 +21,6 @@ pub returns-clause-value : goal.returns-clause-value
 returns-clause-value c =
     let a = c.args.self.now in
     let own = c.copy_value-own.ensures
-        ∙ own_found a.state.writes (op_key a.op) c.args.place c.at.result.now c.requires.place c.at.ensures in
+    ∙ own_found a.state.writes (op_key a.op) c.args.place c.at.result.now c.requires.place c.at.ensures in
     rw c.read_of-self.ensures at c.do_own.ensures.value
     ∙ own_steps c.args.layout.now a.state a.op c.copy_value-own.result own

@@ -1,4 +1,4 @@
-use Rattle.std.proofs.Common.{◌≡◌, ◌+◌, ◌∙◌, sym, subst, Some}
+use Rattle.std.proofs.Common.{◌≡◌, ◌+◌, sym, subst, Some}
 use Rattle.nam_verbs.specs.declared.verb.Verb.TheVariants.{Read, Exchange}
 use Rattle.nam_txn.specs.Txn.{verb_of, call_at}
 use Rattle.nam_txn.specs.declared.step.Step.TheVariants as step

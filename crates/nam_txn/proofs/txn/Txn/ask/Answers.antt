@@ -10,7 +10,7 @@ returns-clause-of c =
     let a = c.self.inside.registers in
     let of = subst (IsTxnOf shape) (sym c.self.view_is) c.requires.of in
     let fits = subst (λ (v : Transacting). TxnCallFits shape v.state c.args.call.now) (sym c.self.view_is)
-        c.requires.fits in
+    c.requires.fits in
     let none = subst (λ (v : Transacting). v.state.held ≡ []) (sym c.self.view_is) c.requires.unlocked in
     (asked shape a c.ask.new.self of c.args.call.now fits none c.ask.ensures.keeps c.ask.ensures.value).of
 
@@ -20,7 +20,7 @@ returns-clause-left c =
     let a = c.self.inside.registers in
     let of = subst (IsTxnOf shape) (sym c.self.view_is) c.requires.of in
     let fits = subst (λ (v : Transacting). TxnCallFits shape v.state c.args.call.now) (sym c.self.view_is)
-        c.requires.fits in
+    c.requires.fits in
     let none = subst (λ (v : Transacting). v.state.held ≡ []) (sym c.self.view_is) c.requires.unlocked in
     subst (λ (v : Transacting). verbs_left shape (value_of c.ask.new.self) ≤ txn_call_bound shape v.state c.args.call.now)
     c.self.view_is

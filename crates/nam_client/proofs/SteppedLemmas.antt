@@ -1,6 +1,6 @@
 -- The registers whose transaction has stepped, and whose new locks are listed, are the client that has stepped.
 use Rattle.std.specs.Prelude.{Option, Some, None, drop, slice_index, suc, zero}
-use Rattle.std.proofs.Common.{List, [], ◌∷◌, ap, length, refl, sym, true, ℕ, ◌+◌, ◌∙◌, ◌≡◌, arith, omega}
+use Rattle.std.proofs.Common.{List, [], ◌∷◌, ap, length, refl, sym, true, ℕ, ◌+◌, ◌∙◌, ◌≡◌, arith}
 use Rattle.std.proofs.Math.Seq.{drop-length}
 use Rattle.nam_verbs.specs.declared.now.Now.{Now}
 use Rattle.nam_verbs.specs.declared.now.Now.TheVariants.{At, Over}
@@ -26,7 +26,8 @@ pub none_new : (state : TxnState) (n : ℕ) → length state.held ≡ n → lock
 none_new state n e = rw (← e) (ap (λ headers. locks_from state (length state.held) headers) (drop-length state.held))
 
 last_of : (xs : List ℕ) (n : ℕ) → length xs ≡ n + 1 → drop n xs ≡ slice_index xs n ∷ []
-last_of [] n e = absurd (cc)
+last_of [] zero e = absurd (zero≢suc e)
+last_of [] (suc n) e = absurd (zero≢suc e)
 last_of (x ∷ []) zero e = refl
 last_of (x ∷ y ∷ ys) zero e = absurd (cc)
 last_of (x ∷ xs) (suc n) e = last_of xs n (omega (arith, e))

@@ -1,7 +1,8 @@
 -- The room that a client has in its log: for the calls that it may still be asked, and for what it owes.
-use Rattle.std.specs.Prelude.{◌≡◌, Bool, true, ℕ, ◌+◌, ◌^◌, ◌≤◌, ◌<◌, min, max, if◌then◌else◌, List, length, Option, Some, None}
+use Rattle.std.specs.Prelude.{◌≡◌, Bool, true, ℕ, ◌+◌, ◌^◌, ◌≤◌, ◌<◌, min, max, if◌then◌else◌, List, length, Option, Some, None, IsNone}
 use Rattle.nam_verbs.specs.declared.now.Now.{Now}
 use Rattle.nam_verbs.specs.declared.now.Now.TheVariants.{At, Over}
+use Rattle.nam_verbs.specs.Now.{end_now}
 use Rattle.nam_catalog.specs.declared.bounds.TheConstants.{MOST_CAPACITY}
 use Rattle.nam_protocol.specs.declared.txn.TxnPoint.{TxnPoint}
 use Rattle.nam_protocol.specs.declared.txn.TxnPoint.TheVariants.{Committing}
@@ -111,9 +112,15 @@ pub record HasRoom (a : Registers) : Type 0 where
 
 -- 5. What holds of the registers whatever the shape is: they have room, and a transaction is open exactly for its calls
 
+-- a scan that is at hand while it runs stands at a point
+abbrev pub ScanStands : Option ScanValue → Type 0
+ScanStands None = ⊥
+ScanStands (Some scan) = IsNone (end_now scan.state)
+
 pub record Holds (a : Registers) : Type 0 where
   pub room : HasRoom a
   pub opened : OpenClient (client_of a)
+  pub scans : a.step ≡ step.Scanning → ScanStands a.scan
 
 -- at least as many calls
 abbrev pub greater_spare : Spare → Spare → Spare

@@ -3,12 +3,15 @@
 ghost use Rattle.std.specs.Prelude.{◌≡◌};
 ghost use Rattle.nam_protocol.specs.Session.{answer_now};
 ghost use Rattle.nam_protocol.specs.SessionFits.{is_running};
-ghost use Rattle.nam_client.specs.Registers.{call_of, moved, begun, answer_told};
+ghost use Rattle.nam_protocol.specs.declared.client.CallPoint.TheVariants.{Beginning};
+ghost use Rattle.nam_client.specs.declared.registers.Step.TheVariants as step;
+ghost use Rattle.nam_client.specs.Registers.{runs, call_of, moved, begun, answer_told};
+ghost use Rattle.nam_client.specs.Room.{ScanStands};
 
 use crate::registers::{Registers, Step, Told};
 use nam_calls::MoveAnswer;
 use nam_protocol::{Answer, TxnAnswer};
-use nam_upkeep::SnapperEnd;
+use nam_upkeep::{Snapper, SnapperEnd};
 
 /// The answer that is kept as it is.
 fn answer_told(told: Told) -> Answer
@@ -42,33 +45,44 @@ fn moved(end: MoveAnswer) -> Answer
     }
 }
 
-/// The answer of a call whose snapshot ended so, on the state after so many commits.
-fn begun(prefix: u64, end: SnapperEnd) -> Answer {
-    match end {
-        SnapperEnd::Done => Answer::Begun { prefix },
-        SnapperEnd::Again {
+/// The answer of a call on the snapshot, where that has ended.
+fn begun_now(snapper: &Snapper, prefix: u64) -> Option<Answer>
+    ensures { result ≡ answer_now (runs (Beginning 0 0) (begun prefix) snapper.now.state) }
+{
+    match snapper.end() {
+        None => None,
+        Some(SnapperEnd::Done) => Some(Answer::Begun { prefix }),
+        Some(
+            SnapperEnd::Again {
+                worker,
+                first,
+                second,
+            },
+        ) => Some(Answer::Again {
             worker,
             first,
             second,
-        } => Answer::Again {
-            worker,
-            first,
-            second,
-        },
+        }),
     }
 }
 
 /// The answer to the last call, and none where no call was asked or one runs.
 pub fn answer_of(a: &Registers) -> Option<Answer>
+    requires { a.now.step ≡ step.Scanning → ScanStands a.now.scan }
     ensures { result ≡ answer_now (call_of a.now.step a.now) }
 {
     match a.step {
-        Step::Resting | Step::Seeking { .. } => None,
-        Step::Beginning { .. } => a.snapper.end().map(|end| begun(a.attempt.prefix, end)),
-        Step::InTxn => a.txn.answer().map(|answer| Answer::Txn(answer)),
-        Step::Scanning => None,
-        Step::Moving { .. } => a.mover.end().map(|end| moved(end)),
-        Step::Snapping { .. } => a.snapper.end().map(|end| begun(0, end)),
+        Step::Resting | Step::Seeking { .. } | Step::Scanning => None,
+        Step::Beginning { .. } => begun_now(&a.snapper, a.attempt.prefix),
+        Step::Snapping { .. } => begun_now(&a.snapper, 0),
+        Step::InTxn => match a.txn.answer() {
+            Some(answer) => Some(Answer::Txn(answer)),
+            None => None,
+        },
+        Step::Moving { .. } => match a.mover.end() {
+            Some(end) => Some(moved(end)),
+            None => None,
+        },
         Step::Collecting { .. } => {
             if a.collector.is_over() {
                 Some(Answer::Collected(a.collector.known().copy()))
@@ -82,11 +96,13 @@ pub fn answer_of(a: &Registers) -> Option<Answer>
 
 /// Whether a call runs.
 pub fn is_busy(a: &Registers) -> bool
+    requires { a.now.step ≡ step.Scanning → ScanStands a.now.scan }
     ensures { result ≡ is_running (call_of a.now.step a.now) }
 {
     match a.step {
         Step::Resting | Step::Answered(_) => false,
-        Step::Seeking { .. } | Step::Scanning => true,
+        Step::Seeking { .. } => true,
+        Step::Scanning => true,
         Step::Beginning { .. } | Step::Snapping { .. } => a.snapper.end().is_none(),
         Step::InTxn => a.txn.is_busy(),
         Step::Moving { .. } => a.mover.end().is_none(),

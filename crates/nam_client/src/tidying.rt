@@ -26,6 +26,7 @@ use nam_verbs::Now;
 use si_model::{Event, MoveEnd};
 
 /// How many verbs the move of a version of the table takes at the most.
+#[tactic(auto, using(crate::proofs::TableLemmas::first_position, crate::proofs::TableLemmas::first_width))]
 fn move_most(layout: &Layout, table: u32) -> u64
     requires { IsTableOf layout.now table }
     ensures { result ≡ move_most layout.now table }

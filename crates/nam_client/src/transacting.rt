@@ -3,7 +3,7 @@
 ghost use Rattle.std.specs.Prelude.{◌≡◌, ◌<◌, ◌≤◌, ◌+◌, ◌-◌, ◌^◌, IsSome, true, length};
 ghost use Rattle.nam_protocol.specs.declared.txn.TxnAnswer.{TxnAnswer as Answered};
 ghost use Rattle.nam_protocol.specs.declared.client.Answer.TheVariants as answer;
-ghost use Rattle.nam_protocol.specs.declared.client.Call.TheVariants as call;
+ghost use Rattle.nam_protocol.specs.declared.client.Call.TheVariants.{Txn as TxnOf};
 ghost use Rattle.nam_protocol.specs.Client.{client_ask, client_after};
 ghost use Rattle.nam_protocol.specs.Own.{MayAsk};
 ghost use Rattle.nam_protocol.specs.RoomLaw.{call_room};
@@ -25,13 +25,13 @@ use si_model::{Attempt, Outcome};
 /// Asks a call of the open transaction.
 pub fn ask_txn(a: &mut Registers, layout: &Layout, call: &TxnCall)
     requires of { IsClientOf layout.now a.old }
-    requires may { MayAsk layout.now (client_of a.old) (call.Txn call.now) }
+    requires may { MayAsk layout.now (client_of a.old) (TxnOf call.now) }
     requires holds { Holds a.old }
-    requires spare { (call_room layout.now (call.Txn call.now)).ops ≤ a.old.spare.ops }
-    requires counted { a.old.attempt.ops_so_far + (call_room layout.now (call.Txn call.now)).ops < 2 ^ 32 }
-    ensures client { client_of a.new ≡ client_ask layout.now (client_of a.old) (call.Txn call.now) }
+    requires spare { (call_room layout.now (TxnOf call.now)).ops ≤ a.old.spare.ops }
+    requires counted { a.old.attempt.ops_so_far + (call_room layout.now (TxnOf call.now)).ops < 2 ^ 32 }
+    ensures client { client_of a.new ≡ client_ask layout.now (client_of a.old) (TxnOf call.now) }
     ensures spare { a.new.spare
-        ≡ record a.old.spare { ops = a.old.spare.ops - (call_room layout.now (call.Txn call.now)).ops } }
+        ≡ record a.old.spare { ops = a.old.spare.ops - (call_room layout.now (TxnOf call.now)).ops } }
     ensures txn { a.new.is_open ≡ true → IsTxnOf layout.now a.new.txn }
     ensures hand { HandFits layout.now a.new (call_of a.new.step a.new) }
     ensures room { HasRoom a.new }

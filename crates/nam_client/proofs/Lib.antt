@@ -1,2 +1,1 @@
-pub mod SteppedLemmas
 pub mod TableLemmas

@@ -77,7 +77,8 @@ reads_at_hand a = length (items_of a.txn.state.read)
 pub record CanList (a : Registers) : Type 0 where
   pub is_open : a.is_open ≡ true
   pub in_txn : a.step ≡ step.InTxn
-  pub events : a.spare.attempts + a.spare.tidies + 3 ≤ a.log.room.events
+  pub events : a.spare.attempts + a.spare.tidies + 1 + a.closing ≤ a.log.room.events
+  pub closes : a.closing ≡ 2
   pub reads : a.spare.ops + reads_at_hand a ≤ a.log.room.reads
   pub locks : a.spare.ops + a.attempt.ops_so_far ≤ a.log.room.locks + a.attempt.locks
   pub writes : a.spare.ops + a.attempt.ops_so_far ≤ a.log.room.writes
@@ -102,7 +103,9 @@ abbrev pub owed_keys : Registers → ℕ
 owed_keys a = if a.is_open then a.attempt.ops_so_far else 0
 
 pub record HasRoom (a : Registers) : Type 0 where
-  pub events : a.spare.attempts + a.spare.tidies + owed_event a.is_open (call_of a.step a) + 2 ≤ a.log.room.events
+  pub events : a.spare.attempts + a.spare.tidies + owed_event a.is_open (call_of a.step a) + a.closing
+      ≤ a.log.room.events
+  pub closes : 0 < a.spare.attempts + a.spare.tidies + owed_event a.is_open (call_of a.step a) → a.closing ≡ 2
   pub reads : a.spare.ops + owed_reads a ≤ a.log.room.reads
   pub locks : a.spare.ops + owed_keys a ≤ a.log.room.locks + (if a.is_open then a.attempt.locks else 0)
   pub writes : a.spare.ops + owed_keys a ≤ a.log.room.writes

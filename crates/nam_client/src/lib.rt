@@ -8,7 +8,6 @@ mod ending;
 mod registers;
 mod room;
 mod tidying;
-mod transacting;
 
 pub use answering::{answer_of, is_busy};
 pub use beginning::{begin, list_unbegun, take_begin};
@@ -16,4 +15,3 @@ pub use collecting::{collect, list_collect, take_collect, take_snap};
 pub use registers::{Registers, new_registers};
 pub use room::reserve;
 pub use tidying::{take_move, take_seek, tidy};
-pub use transacting::{ask_txn, list_attempt, list_commit, take_txn};

@@ -1,5 +1,5 @@
 -- The room that a client has in its log: for the calls that it may still be asked, and for what it owes.
-use Rattle.std.specs.Prelude.{◌≡◌, Bool, true, ℕ, ◌+◌, ◌^◌, ◌≤◌, ◌<◌, min, max, if◌then◌else◌, List, length, Option, Some, None, IsNone}
+use Rattle.std.specs.Prelude.{◌≡◌, Bool, true, ℕ, ◌+◌, ◌^◌, ◌≤◌, ◌<◌, min, max, if◌then◌else◌, List, length, Option, Some, None, IsNone, IsSome}
 use Rattle.nam_verbs.specs.declared.now.Now.{Now}
 use Rattle.nam_verbs.specs.declared.now.Now.TheVariants.{At, Over}
 use Rattle.nam_verbs.specs.Now.{end_now}
@@ -15,6 +15,7 @@ use Rattle.nam_protocol.specs.declared.client.CallPoint.TheVariants.{Snapping, C
 use Rattle.nam_protocol.specs.declared.client.Open.{Open}
 use Rattle.nam_protocol.specs.AttemptLaw.{has_passed}
 use Rattle.nam_protocol.specs.Own.{OpenClient}
+use Rattle.nam_protocol.specs.SessionFits.{is_running}
 use Rattle.nam_protocol.specs.Telling.{items_of}
 use Rattle.nam_scan.specs.Scan.{Scanning as ScanValue}
 use Rattle.nam_client.specs.declared.registers.Registers.{Registers}
@@ -124,6 +125,7 @@ pub record Holds (a : Registers) : Type 0 where
   pub room : HasRoom a
   pub opened : OpenClient (client_of a)
   pub scans : a.step ≡ step.Scanning → ScanStands a.scan
+  pub finishes : IsSome a.finish → (a.is_cut ≡ true) × (is_running (call_of a.step a) ≡ true)
 
 -- at least as many calls
 abbrev pub greater_spare : Spare → Spare → Spare

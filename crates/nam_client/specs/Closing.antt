@@ -2,6 +2,7 @@
 use Rattle.std.specs.Prelude.{Bool, ℕ, ◌+◌, ◌&&◌, ◌||◌, false, true, if◌then◌else◌, is_some, Option, Some, None}
 use Rattle.si_model.specs.declared.log.Event.TheVariants as event
 use Rattle.si_model.specs.declared.log.Finish.{Finish}
+use Rattle.si_model.specs.declared.log.Log.{Log}
 use Rattle.si_model.specs.declared.log.Finish.TheVariants.{RolledOn}
 use Rattle.si_model.specs.declared.log.MoveEnd.TheVariants as moved
 use Rattle.si_model.specs.declared.log.Outcome.TheVariants as outcome
@@ -9,6 +10,7 @@ use Rattle.si_model.specs.declared.log.Stamp.{Stamp}
 use Rattle.nam_catalog.specs.declared.shape.Shape.{Shape}
 use Rattle.nam_protocol.specs.declared.client.ClientState.{ClientState}
 use Rattle.nam_protocol.specs.CutClient.{closed_call, finish_of, finished_call, has_rolled_on}
+use Rattle.nam_protocol.specs.Log.{with_event}
 use Rattle.nam_txn.specs.Txn.{has_published, is_committing}
 use Rattle.nam_upkeep.specs.Move.{claimed_now}
 use Rattle.nam_client.specs.declared.registers.Registers.{Registers}
@@ -49,3 +51,8 @@ ended_by shape client (Some how) = finished_call shape client how client.call
 -- the client whose call was listed as it was stopped
 abbrev pub ended : Shape → ClientState → ClientState
 ended shape client = ended_by shape client (finish_of client.medic)
+
+-- how a medic has finished it is listed last
+abbrev pub finish_listed : Option Finish → Log → Log
+finish_listed None log = log
+finish_listed (Some how) log = with_event log (event.Finished how)

@@ -4,6 +4,8 @@ use Rattle.nam_verbs.specs.declared.now.Now.{Now}
 use Rattle.nam_verbs.specs.declared.now.Now.TheVariants.{At, Over}
 use Rattle.nam_verbs.specs.Now.{end_now}
 use Rattle.nam_catalog.specs.declared.bounds.TheConstants.{MOST_CAPACITY}
+use Rattle.nam_vector.specs.declared.snap.SnapEnd.TheVariants.{Done}
+use Rattle.nam_index.specs.Path.{FitsPath}
 use Rattle.nam_protocol.specs.declared.txn.TxnPoint.{TxnPoint}
 use Rattle.nam_protocol.specs.declared.txn.TxnPoint.TheVariants.{Committing}
 use Rattle.nam_protocol.specs.declared.txn.TxnAnswer.{TxnAnswer}
@@ -20,8 +22,9 @@ use Rattle.nam_protocol.specs.Telling.{items_of}
 use Rattle.nam_scan.specs.Scan.{Scanning as ScanValue}
 use Rattle.nam_client.specs.declared.registers.Registers.{Registers}
 use Rattle.nam_client.specs.declared.registers.Spare.{Spare}
+use Rattle.nam_client.specs.declared.registers.Step.{Step}
 use Rattle.nam_client.specs.declared.registers.Step.TheVariants as step
-use Rattle.nam_client.specs.Registers.{call_of, client_of, open_of}
+use Rattle.nam_client.specs.Registers.{call_of, client_of, open_of, seen_in}
 
 -- 1. What is owed by a call that runs
 
@@ -64,6 +67,7 @@ pub record Counts (attempt : Open) (owed : ℕ) (call : Option (Now CallPoint An
   pub reads : attempt.reads + owed ≤ attempt.ops_so_far
   pub locks : attempt.locks ≡ taken_in attempt.state call
   pub held : length attempt.state.held ≡ attempt.locks
+  pub written : length attempt.state.writes ≤ attempt.ops_so_far
 
 -- 3. An answer of the transaction is listed: there is room for it, and for all that may follow
 
@@ -121,10 +125,18 @@ abbrev pub ScanStands : Option ScanValue → Type 0
 ScanStands None = ⊥
 ScanStands (Some scan) = IsNone (end_now scan.state)
 
+-- what the step has at hand: a path with its position, a scan that stands, the snapshot of a collection
+abbrev pub StepHolds : Step → Registers → Type 0
+StepHolds (step.Seeking table key passed) a = FitsPath a.path × (passed < a.path.capacity)
+StepHolds step.Scanning a = ScanStands a.scan
+StepHolds (step.Collecting bucket prefix) a =
+    (a.snapper.state ≡ Over (Done (seen_in a.snapper.state))) × (a.snapper.workers ≡ a.collector.workers)
+StepHolds _ a = Unit {0}
+
 pub record Holds (a : Registers) : Type 0 where
   pub room : HasRoom a
   pub opened : OpenClient (client_of a)
-  pub scans : a.step ≡ step.Scanning → ScanStands a.scan
+  pub at : StepHolds a.step a
   pub finishes : IsSome a.finish → (a.is_cut ≡ true) × (is_running (call_of a.step a) ≡ true)
 
 -- at least as many calls

@@ -7,8 +7,8 @@ ghost use Rattle.nam_protocol.specs.Client.{client_abandon};
 ghost use Rattle.nam_protocol.specs.SessionFits.{is_running};
 ghost use Rattle.nam_client.specs.Registers.{client_of, call_of};
 ghost use Rattle.nam_client.specs.Room.{Holds, HasRoom};
-ghost use Rattle.nam_client.specs.Fits.{IsClientOf, HandFits};
-ghost use Rattle.nam_client.specs.Closing.{open_listed, cut_move_listed, was_rolled_on, cut_txn_listed, ended};
+ghost use Rattle.nam_client.specs.Fits.{HandFits};
+ghost use Rattle.nam_client.specs.Closing.{open_listed, cut_move_listed, was_rolled_on, cut_txn_listed, ended, finish_listed};
 
 use crate::beginning::list_unbegun;
 use crate::collecting::list_collect;
@@ -74,7 +74,8 @@ fn list_cut_txn(a: &mut Registers)
 {
     let rolled_on = a.txn.is_committing() && was_rolled_on(a.finish);
     if a.txn.has_published() || rolled_on {
-        list_commit(a, a.txn.number());
+        let number = a.txn.number();
+        list_commit(a, number);
         if a.finish.is_none() {
             a.log.list_event(Event::TailCut);
         }
@@ -108,16 +109,25 @@ fn list_call(a: &mut Registers)
     }
 }
 
-/// The log at the end.
-pub fn into_log(registers: Registers) -> Log
-    requires { Holds registers }
-    ensures { (shape : Shape) → IsClientOf shape registers → result ≡ into_log shape (client_of registers) }
+/// Lists how a medic has finished the client, if it has.
+fn list_finish(a: &mut Registers)
+    requires { IsSome a.old.finish → 0 < a.old.log.room.events }
+    ensures { a.new.log.log ≡ finish_listed a.old.finish a.old.log.log }
 {
-    let mut a = registers;
-    list_call(&mut a);
     if let Some(how) = a.finish {
         a.log.list_event(Event::Finished { how });
     }
+}
+
+/// The log at the end.
+pub fn into_log(registers: Registers) -> Log
+    requires { Holds registers }
+    ensures { (shape : Shape) → HandFits shape registers (call_of registers.step registers)
+        → result ≡ into_log shape (client_of registers) }
+{
+    let mut a = registers;
+    list_call(&mut a);
+    list_finish(&mut a);
     let Registers { log, .. } = a;
     log.into_log()
 }

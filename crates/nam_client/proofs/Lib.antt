@@ -1,2 +1,4 @@
 pub mod TableLemmas
 pub mod ClosingLemmas
+pub mod VerbLemmas
+pub mod KeptLemmas

@@ -127,7 +127,8 @@ ScanStands (Some scan) = IsNone (end_now scan.state)
 
 -- what the step has at hand: a path with its position, a scan that stands, the snapshot of a collection
 abbrev pub StepHolds : Step → Registers → Type 0
-StepHolds (step.Seeking table key passed) a = FitsPath a.path × (passed < a.path.capacity)
+StepHolds (step.Seeking table key passed) a = FitsPath a.path × (passed < a.path.capacity) × (a.to_follow < 2 ^ 32)
+StepHolds (step.Snapping bucket) a = a.to_follow < 2 ^ 32
 StepHolds step.Scanning a = ScanStands a.scan
 StepHolds (step.Collecting bucket prefix) a =
     (a.snapper.state ≡ Over (Done (seen_in a.snapper.state))) × (a.snapper.workers ≡ a.collector.workers)

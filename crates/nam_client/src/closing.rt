@@ -3,7 +3,8 @@
 ghost use Rattle.std.specs.Prelude.{◌≡◌, ◌<◌, ◌≤◌, IsSome, length, true, false};
 ghost use Rattle.nam_catalog.specs.declared.shape.Shape.{Shape};
 ghost use Rattle.nam_protocol.specs.CutClient.{into_log};
-ghost use Rattle.nam_protocol.specs.Client.{client_abandon};
+ghost use Rattle.si_model.specs.declared.log.Outcome.TheVariants as outcome;
+ghost use Rattle.nam_client.specs.Ending.{attempt_listed};
 ghost use Rattle.nam_protocol.specs.SessionFits.{is_running};
 ghost use Rattle.nam_client.specs.Registers.{client_of, call_of};
 ghost use Rattle.nam_client.specs.Room.{Holds, HasRoom};
@@ -36,7 +37,7 @@ pub fn abandon(a: &mut Registers)
     requires holds { Holds a.old }
     requires opened { IsSome (client_of a.old).txn }
     requires rests { is_running (client_of a.old).call ≡ false }
-    ensures client { client_of a.new ≡ client_abandon (client_of a.old) }
+    ensures value { a.new ≡ attempt_listed a.old outcome.Left 0 }
     ensures room { HasRoom a.new }
 {
     list_attempt(a, Outcome::Left, 0);

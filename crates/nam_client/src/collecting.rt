@@ -13,7 +13,7 @@ ghost use Rattle.nam_protocol.specs.Own.{MayAsk};
 ghost use Rattle.si_model.specs.declared.log.Event.TheVariants.{Collected};
 ghost use Rattle.nam_client.specs.declared.registers.Step.TheVariants as step;
 ghost use Rattle.nam_client.specs.Registers.{client_of, call_of, seen_in, listed, collecting};
-ghost use Rattle.nam_client.specs.Room.{HasRoom};
+ghost use Rattle.nam_client.specs.Room.{HasRoom, StepHolds};
 ghost use Rattle.nam_client.specs.Fits.{IsClientOf, HandFits};
 
 use crate::beginning::{prefix_of, workers_of};
@@ -32,6 +32,7 @@ pub fn collect(a: &mut Registers, layout: &Layout, bucket: u32)
     ensures spare { a.new.spare ≡ record a.old.spare { tidies = a.old.spare.tidies - 1 } }
     ensures hand { HandFits layout.now a.new (call_of a.new.step a.new) }
     ensures room { HasRoom a.new }
+    ensures at { StepHolds a.new.step a.new }
 {
     a.spare.tidies -= 1;
     let workers = workers_of(layout, a.worker);
@@ -54,6 +55,7 @@ pub fn take_snap(a: &mut Registers, layout: &Layout, bucket: u32, found: u64)
     ensures spare { a.new.spare ≡ a.old.spare }
     ensures hand { HandFits layout.now a.new (call_of a.new.step a.new) }
     ensures room { HasRoom a.new }
+    ensures at { StepHolds a.new.step a.new }
 {
     a.snapper.take(found);
     match a.snapper.end() {
@@ -97,8 +99,7 @@ fn begin_collect(a: &mut Registers, layout: &Layout, bucket: u32)
 #[inline]
 pub fn take_collect(a: &mut Registers, bucket: u32, prefix: u64, found: u64)
     requires step { a.old.step ≡ step.Collecting bucket prefix }
-    requires done { a.old.snapper.state ≡ Over (Done (seen_in a.old.snapper.state)) }
-    requires workers { length (seen_in a.old.snapper.state) ≡ a.old.collector.workers }
+    requires at { StepHolds a.old.step a.old }
     requires stands { IsSome (next_verb (running (seen_in a.old.snapper.state) a.old.collector)) }
     requires closed { a.old.is_open ≡ false }
     requires room { HasRoom a.old }
@@ -108,6 +109,7 @@ pub fn take_collect(a: &mut Registers, bucket: u32, prefix: u64, found: u64)
     ensures hand { (shape : Shape) → HandFits shape a.old (call_of a.old.step a.old)
         → HandFits shape a.new (call_of a.new.step a.new) }
     ensures room { HasRoom a.new }
+    ensures at { StepHolds a.new.step a.new }
 {
     a.collector.take(a.snapper.seen(), found);
     if a.collector.is_over() {

@@ -3,6 +3,7 @@
 
 mod answering;
 mod beginning;
+mod client;
 mod closing;
 mod collecting;
 mod ending;
@@ -10,12 +11,9 @@ mod registers;
 mod room;
 mod tidying;
 mod transacting;
+mod verbs;
 
-pub use answering::{answer_of, is_busy};
-pub use closing::{abandon, into_log};
-pub use beginning::{begin, list_unbegun, take_begin};
-pub use collecting::{collect, list_collect, take_collect, take_snap};
-pub use registers::{Registers, new_registers};
-pub use room::reserve;
+pub use client::Client;
+pub use beginning::{begin, take_begin};
+pub use collecting::{collect, take_collect, take_snap};
 pub use tidying::{take_move, take_seek, tidy};
-pub use transacting::{list_attempt, list_commit};

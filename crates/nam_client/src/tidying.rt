@@ -5,7 +5,6 @@ ghost use Rattle.nam_verbs.specs.Running.{next_verb, end_of};
 ghost use Rattle.nam_catalog.specs.declared.shape.Shape.{Shape};
 ghost use Rattle.nam_layout.specs.RowLaw.{IsPosition};
 ghost use Rattle.nam_layout.specs.Place.{place_of, cells_by};
-ghost use Rattle.nam_calls.specs.Words.{capacity_of};
 ghost use Rattle.nam_protocol.specs.declared.client.CallPoint.TheVariants.{Seeking as SeekingAt};
 ghost use Rattle.nam_calls.specs.Fits.{IsTableOf};
 ghost use Rattle.nam_calls.specs.Left.{move_most};
@@ -15,7 +14,7 @@ ghost use Rattle.nam_protocol.specs.Client.{client_ask, client_after};
 ghost use Rattle.nam_protocol.specs.Own.{MayAsk};
 ghost use Rattle.nam_client.specs.declared.registers.Step.TheVariants as step;
 ghost use Rattle.nam_client.specs.Registers.{client_of, call_of, after_move};
-ghost use Rattle.nam_client.specs.Room.{HasRoom};
+ghost use Rattle.nam_client.specs.Room.{HasRoom, StepHolds};
 ghost use Rattle.nam_client.specs.Fits.{IsClientOf, HandFits, HasAtHand};
 
 use crate::registers::{Registers, Step, Told};
@@ -46,6 +45,7 @@ pub fn tidy(a: &mut Registers, layout: &Layout, table: u32, key: u64)
     ensures spare { a.new.spare ≡ record a.old.spare { tidies = a.old.spare.tidies - 1 } }
     ensures hand { HandFits layout.now a.new (call_of a.new.step a.new) }
     ensures room { HasRoom a.new }
+    ensures at { StepHolds a.new.step a.new }
 {
     a.spare.tidies -= 1;
     a.path = path_of(layout, table, key);
@@ -70,13 +70,14 @@ pub fn take_seek(
     requires step { a.old.step ≡ step.Seeking table key passed }
     requires table { IsTableOf layout.now table }
     requires hand { HasAtHand layout.now a.old (SeekingAt table key passed) }
-    requires passed { passed < capacity_of layout.now table }
+    requires at { StepHolds a.old.step a.old }
     requires closed { a.old.is_open ≡ false }
     requires room { HasRoom a.old }
     ensures client { client_of a.new ≡ client_after layout.now (client_of a.old) found }
     ensures spare { a.new.spare ≡ a.old.spare }
     ensures hand { HandFits layout.now a.new (call_of a.new.step a.new) }
     ensures room { HasRoom a.new }
+    ensures at { StepHolds a.new.step a.new }
 {
     match find_after(&a.path, passed, found) {
         Now::At(passed) => a.step = Step::Seeking { table, key, passed },
@@ -115,6 +116,7 @@ pub fn take_move(a: &mut Registers, table: u32, key: u64, position: u32, found: 
     ensures hand { (shape : Shape) → HandFits shape a.old (call_of a.old.step a.old)
         → HandFits shape a.new (call_of a.new.step a.new) }
     ensures room { HasRoom a.new }
+    ensures at { StepHolds a.new.step a.new }
 {
     a.mover.take(found);
     if let Some(end) = a.mover.end() {

@@ -1,7 +1,10 @@
 -- What an answer does with the open transaction, and what is listed then.
-use Rattle.std.specs.Prelude.{ℕ, ◌+◌, ◌-◌, false, length, None}
+use Rattle.std.specs.Prelude.{ℕ, ◌+◌, ◌-◌, false, length, Option, Some, None}
 use Rattle.si_model.specs.declared.log.Outcome.{Outcome}
 use Rattle.si_model.specs.declared.log.Outcome.TheVariants as outcome
+use Rattle.nam_verbs.specs.declared.now.Now.{Now}
+use Rattle.nam_verbs.specs.declared.now.Now.TheVariants.{At, Over}
+use Rattle.nam_protocol.specs.declared.txn.TxnPoint.{TxnPoint}
 use Rattle.nam_protocol.specs.declared.txn.TxnAnswer.{TxnAnswer}
 use Rattle.nam_protocol.specs.declared.txn.TxnAnswer.TheVariants as txn_answer
 use Rattle.nam_protocol.specs.Log.{attempt_of, with_event, with_reads, with_writes}
@@ -10,6 +13,7 @@ use Rattle.nam_client.specs.declared.ending.Ending.{Ending}
 use Rattle.nam_client.specs.declared.ending.Ending.TheVariants as ending
 use Rattle.nam_client.specs.declared.registers.Registers.{Registers}
 use Rattle.nam_client.specs.Registers.{listed, open_of}
+use Rattle.nam_client.specs.Room.{CanList, HasRoom}
 
 -- after so many operations
 abbrev pub ending_of : TxnAnswer → ℕ → Ending
@@ -56,3 +60,9 @@ read_listed a =
       attempt = record a.attempt { reads = a.attempt.reads + length items };
       txn = record a.txn { state = record a.txn.state { read = None } };
     }
+
+-- there is room for the transaction's call to go on, and for its answer to be listed
+abbrev pub CanGoOn : Registers → Option (Now TxnPoint TxnAnswer) → Type 0
+CanGoOn a None = ⊥
+CanGoOn a (Some (At at)) = HasRoom a
+CanGoOn a (Some (Over end)) = CanList a

@@ -9,12 +9,12 @@ ghost use Rattle.nam_protocol.specs.Own.{MayAsk};
 ghost use Rattle.nam_protocol.specs.RoomLaw.{call_room};
 ghost use Rattle.nam_protocol.specs.Telling.{on_answer, with_answer};
 ghost use Rattle.nam_catalog.specs.declared.shape.Shape.{Shape};
-ghost use Rattle.nam_txn.specs.Txn.{IsTxnOf, Rests, Runs, answer_in};
+ghost use Rattle.nam_txn.specs.Txn.{IsAt, IsTxnOf, Rests, Runs, after_of, answer_in};
 ghost use Rattle.nam_client.specs.declared.registers.Step.TheVariants as step;
 ghost use Rattle.nam_client.specs.Registers.{client_of, call_of, open_of, with_new_locks};
 ghost use Rattle.nam_client.specs.Room.{CanList, HasAnswered, HasRoom, Holds, reads_at_hand};
 ghost use Rattle.nam_client.specs.Fits.{IsClientOf, HandFits};
-ghost use Rattle.nam_client.specs.Ending.{attempt_listed, commit_listed, read_listed};
+ghost use Rattle.nam_client.specs.Ending.{CanGoOn, attempt_listed, commit_listed, read_listed};
 
 use crate::ending::{Ending, ending_of};
 use crate::registers::{Registers, Step};
@@ -61,12 +61,39 @@ pub fn take_txn(a: &mut Registers, layout: &Layout, found: u64)
     ensures hand { HandFits layout.now a.new (call_of a.new.step a.new) }
     ensures room { HasRoom a.new }
 {
-    a.txn.take(layout, found);
-    if a.txn.held_len() != a.attempt.locks {
-        list_lock(a);
-    }
+    step_txn(a, layout, found);
     if !a.txn.is_busy() {
         list_answer(a);
+    }
+}
+
+/// Hands the word to the transaction, and lists a lock that it has taken.
+#[inline]
+fn step_txn(a: &mut Registers, layout: &Layout, found: u64)
+    requires of { IsClientOf layout.now a.old }
+    requires holds { Holds a.old }
+    requires step { a.old.step ≡ step.InTxn }
+    requires runs { Runs a.old.txn.call }
+    ensures at { IsAt a.new.txn (after_of layout.now a.old.txn.state a.old.txn.call found) }
+    ensures of { IsTxnOf layout.now a.new.txn }
+    ensures value { a.new ≡ with_new_locks (record a.old { txn = a.new.txn }) }
+    ensures ready { CanGoOn a.new a.new.txn.call }
+{
+    a.txn.take(layout, found);
+    list_new_locks(a);
+}
+
+/// Lists the lock that the commit has taken, if it has.
+#[inline]
+fn list_new_locks(a: &mut Registers)
+    requires least { a.old.attempt.locks ≤ length a.old.txn.state.held }
+    requires most { length a.old.txn.state.held ≤ a.old.attempt.locks + 1 }
+    requires word { length a.old.txn.state.held < 2 ^ 32 }
+    requires room { length a.old.txn.state.held ≤ a.old.log.room.locks + a.old.attempt.locks }
+    ensures { a.new ≡ with_new_locks a.old }
+{
+    if a.txn.held_len() != a.attempt.locks {
+        list_lock(a);
     }
 }
 

@@ -1,2 +1,4 @@
+pub mod StepRoom
 pub mod SteppedLemmas
 pub mod TableLemmas
+pub mod TxnSteps

@@ -51,7 +51,7 @@ one_new state n e = ap (λ headers. locks_from state n headers) (last_of state.h
 
 from_length : (state : TxnState) (n : ℕ) (headers : List ℕ) → length (locks_from state n headers) ≡ length headers
 from_length state n [] = refl
-from_length state n (header ∷ headers) = ap (λ m. m + 1) (from_length state (n + 1) headers)
+from_length state n (header ∷ headers) = ap (λ m. suc m) (from_length state (n + 1) headers)
 
 pub new_length : (state : TxnState) (n : ℕ)
     → length (locks_from state n (drop n state.held)) ≡ length state.held - n
@@ -92,7 +92,7 @@ held_in : (shape : Shape) (t : Transacting) (call : Now TxnPoint TxnAnswer) → 
 held_in shape t (At at) fits = fits.2
 held_in shape t (Over end) fits = fits.1
 
-taken_held : (state : TxnState) (call : Now TxnPoint TxnAnswer) → HeldFits state call
+pub taken_held : (state : TxnState) (call : Now TxnPoint TxnAnswer) → HeldFits state call
     → taken_now state call ≡ state.held
 taken_held state (At (Finding op passed)) held = sym held
 taken_held state (At (Reading op position at)) held = sym held

@@ -69,6 +69,7 @@ pub fn take_txn(a: &mut Registers, layout: &Layout, found: u64)
 
 /// Hands the word to the transaction, and lists a lock that it has taken.
 #[inline]
+#[tactic(auto, using(crate::proofs::StepRoom::ready))]
 fn step_txn(a: &mut Registers, layout: &Layout, found: u64)
     requires of { IsClientOf layout.now a.old }
     requires holds { Holds a.old }

@@ -1,3 +1,4 @@
+pub mod EndingLemmas
 pub mod StepRoom
 pub mod SteppedLemmas
 pub mod TableLemmas

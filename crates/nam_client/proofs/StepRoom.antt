@@ -2,7 +2,6 @@
 use Rattle.std.specs.Prelude.{IsSome, IsTrue, Option, Some, None, drop, if◌then◌else◌, min}
 use Rattle.std.proofs.Common.{Bool, List, [], ◌∷◌, ap, length, refl, sym, subst, true, false, ℕ, ◌+◌, ◌-◌, ◌≤◌, ◌<◌, ◌^◌}
 use Rattle.std.proofs.Common.{◌≡◌, ◌∙◌, arith}
-use Rattle.std.proofs.Math.Option.{some-injective}
 use Rattle.std.proofs.lemmas.Bool.{false≢true}
 use Rattle.nam_verbs.specs.declared.now.Now.{Now}
 use Rattle.nam_verbs.specs.declared.now.Now.TheVariants.{At, Over}
@@ -12,6 +11,7 @@ use Rattle.nam_protocol.specs.declared.client.Answer.{Answer}
 use Rattle.nam_protocol.specs.declared.client.Answer.TheVariants as answer
 use Rattle.nam_protocol.specs.declared.client.CallPoint.{CallPoint}
 use Rattle.nam_protocol.specs.declared.client.CallPoint.TheVariants.{InTxn}
+use Rattle.nam_protocol.specs.declared.client.ClientState.{ClientState}
 use Rattle.nam_protocol.specs.declared.client.Open.{Open}
 use Rattle.nam_protocol.specs.declared.txn.TxnAnswer.{TxnAnswer}
 use Rattle.nam_protocol.specs.declared.txn.TxnAnswer.TheVariants as txn_answer
@@ -19,18 +19,18 @@ use Rattle.nam_protocol.specs.declared.txn.TxnPoint.{TxnPoint}
 use Rattle.nam_protocol.specs.declared.txn.TxnPoint.TheVariants.{Finding, Reading, Claiming, Committing}
 use Rattle.nam_protocol.specs.declared.txn.TxnState.{TxnState}
 use Rattle.nam_protocol.specs.AttemptLaw.{has_passed}
-use Rattle.nam_protocol.specs.Telling.{locks_from}
+use Rattle.nam_protocol.specs.Telling.{on_answer, with_answer}
 use Rattle.nam_protocol.specs.Txn.{Stepped}
 use Rattle.nam_protocol.specs.Client.{after_call, client_after, take_txn}
 use Rattle.nam_protocol.specs.Own.{IsOpenNow}
 use Rattle.nam_protocol.specs.TxnCalls.{taken_at, txn_after}
 use Rattle.nam_protocol.proofs.FewLemmas.{few_keys}
-use Rattle.nam_txn.specs.Txn.{CallFits as TxnCallFits, HeldFits, IsAt, IsTxnOf, Runs, Transacting, after_of}
+use Rattle.nam_txn.specs.Txn.{CallFits as TxnCallFits, HeldFits, IsAt, IsTxnOf, Runs, Transacting, after_of, answer_in}
 use Rattle.nam_client.specs.declared.registers.Registers.{Registers}
 use Rattle.nam_client.specs.declared.registers.Step.{Step}
 use Rattle.nam_client.specs.declared.registers.Step.TheVariants as step
 use Rattle.nam_client.specs.Ending.{CanGoOn}
-use Rattle.nam_client.specs.Fits.{IsClientOf}
+use Rattle.nam_client.specs.Fits.{HandFits, IsClientOf}
 use Rattle.nam_client.specs.Registers.{call_of, client_of, in_txn, open_of, with_new_locks}
 use Rattle.nam_client.specs.Room.{CanList, CanRead, Counts, HasAnswered, HasRoom, Holds, by_point, lists_read, owed_event, owed_keys}
 use Rattle.nam_client.specs.Room.{owed_reads, positions, reads_at_hand, reads_of_point, snap_of_point, taken_in}
@@ -54,7 +54,7 @@ RoomBy a is_open call =
 room_by : (a : Registers) → HasRoom a → RoomBy a a.is_open (call_of a.step a)
 room_by a room = (room.events, room.reads, room.locks, room.writes, room.snaps, room.scanned, room.counts)
 
-has_room : (a : Registers) → RoomBy a a.is_open (call_of a.step a) → HasRoom a
+pub has_room : (a : Registers) → RoomBy a a.is_open (call_of a.step a) → HasRoom a
 has_room a room = record {
   events = room.0;
   reads = room.1;
@@ -278,6 +278,10 @@ module _ (shape : Shape) (a : Registers) (t : Transacting) (owed : ℕ) (opened 
 
 -- 4. A word
 
+abbrev call_or : Now TxnPoint TxnAnswer → Option (Now TxnPoint TxnAnswer) → Now TxnPoint TxnAnswer
+call_or other None = other
+call_or other (Some now) = now
+
 open_is : (attempt : Open) (is_open : Bool) → IsSome (if is_open then Some attempt else None) → is_open ≡ true
 open_is attempt true some = refl
 open_is attempt false some = absurd (false≢true some)
@@ -350,4 +354,87 @@ module _ (shape : Shape) (a : Registers) (found : ℕ) (of : IsClientOf shape a)
   stepped_as t end runs at txn is =
       stepped_by t a.txn.call refl runs at txn
       ∙ ap (λ (now : Now TxnPoint TxnAnswer). finished (client_of (with_txn a t)) (open_of (with_txn a t)) now)
-      (some-injective _ _ (sym at.call ∙ is))
+      (ap (call_or end) (sym at.call ∙ is))
+
+-- 5. What follows the word
+
+going_room : (a : Registers) (call : Option (Now TxnPoint TxnAnswer)) → CanGoOn a call → Runs call → HasRoom a
+going_room a None ready runs = absurd runs
+going_room a (Some (At at)) ready runs = ready
+going_room a (Some (Over end)) ready runs = absurd runs
+
+answered_list : (a : Registers) (call : Option (Now TxnPoint TxnAnswer)) → CanGoOn a call → (Runs call → ⊥) → CanList a
+answered_list a None ready rests = absurd ready
+answered_list a (Some (At at)) ready rests = absurd (rests tt)
+answered_list a (Some (Over end)) ready rests = ready
+
+answered_some : (a : Registers) (call : Option (Now TxnPoint TxnAnswer)) → CanGoOn a call → (Runs call → ⊥)
+    → IsSome (answer_in call)
+answered_some a None ready rests = absurd ready
+answered_some a (Some (At at)) ready rests = absurd (rests tt)
+answered_some a (Some (Over end)) ready rests = refl
+
+-- it stands, so there is room
+pub room_going : (a : Registers) → CanGoOn a a.txn.call → Runs a.txn.call → HasRoom a
+room_going a ready runs = going_room a a.txn.call ready runs
+
+-- it was answered, so the answer can be listed
+pub can_list : (a : Registers) → CanGoOn a a.txn.call → (Runs a.txn.call → ⊥) → CanList a
+can_list a ready rests = answered_list a a.txn.call ready rests
+
+pub is_answered : (a : Registers) → CanGoOn a a.txn.call → (Runs a.txn.call → ⊥) → IsSome (answer_in a.txn.call)
+is_answered a ready rests = answered_some a a.txn.call ready rests
+
+-- a call of the transaction has nothing else at hand
+hand_txn : (shape : Shape) (a : Registers) (call : Option (Now TxnPoint TxnAnswer)) → HandFits shape a (in_txn call)
+hand_txn shape a None = tt
+hand_txn shape a (Some (At at)) = tt
+hand_txn shape a (Some (Over end)) = tt
+
+pub hand_fits : (shape : Shape) (a : Registers) → a.step ≡ step.InTxn → HandFits shape a (call_of a.step a)
+hand_fits shape a stands =
+    subst (λ (s : Step). HandFits shape a (call_of s a)) (sym stands) (hand_txn shape a a.txn.call)
+
+-- how a call that was answered ends the client
+abbrev pub EndsAs : Registers → ClientState → Type 0
+EndsAs b client =
+    (end : TxnAnswer) → HasAnswered b end
+    → client ≡ with_answer (on_answer (client_of b) (open_of b) end) (answer.Txn end)
+
+module _ (b : Registers) where
+  runs_as : (call : Option (Now TxnPoint TxnAnswer)) → b.txn.call ≡ call → Runs call
+      → (client : ClientState)
+      → ((now : Now TxnPoint TxnAnswer) → b.txn.call ≡ Some now → client ≡ finished (client_of b) (open_of b) now)
+      → client_of b ≡ client
+  runs_as None is runs client steps = absurd runs
+  runs_as (Some (At at)) is runs client steps = sym (steps (At at) is)
+  runs_as (Some (Over end)) is runs client steps = absurd runs
+
+  ends_as : (call : Option (Now TxnPoint TxnAnswer)) → b.txn.call ≡ call → (Runs call → ⊥) → IsSome call
+      → (client after : ClientState)
+      → ((now : Now TxnPoint TxnAnswer) → b.txn.call ≡ Some now → client ≡ finished (client_of b) (open_of b) now)
+      → EndsAs b after → after ≡ client
+  ends_as None is rests some client after steps ends = absurd (false≢true some)
+  ends_as (Some (At at)) is rests some client after steps ends = absurd (rests tt)
+  ends_as (Some (Over end)) is rests some client after steps ends = ends end is ∙ sym (steps (Over end) is)
+
+module _ (shape : Shape) (a b : Registers) (found : ℕ) (of : IsClientOf shape a) (holds : Holds a)
+    (stands : a.step ≡ step.InTxn) (runs : Runs a.txn.call) (is : b ≡ with_txn a b.txn)
+    (at : IsAt b.txn (after_of shape a.txn.state a.txn.call found)) (txn : IsTxnOf shape b.txn) where
+  steps_as : (now : Now TxnPoint TxnAnswer) → b.txn.call ≡ Some now
+      → client_after shape (client_of a) found ≡ finished (client_of b) (open_of b) now
+  steps_as now called =
+      stepped_as shape a found of holds stands b.txn now runs at txn called
+      ∙ ap (λ (r : Registers). finished (client_of r) (open_of r) now) (sym is)
+
+  pub client_runs : Runs b.txn.call → client_of b ≡ client_after shape (client_of a) found
+  client_runs goes = runs_as b b.txn.call refl goes (client_after shape (client_of a) found) steps_as
+
+  pub client_ends : (Runs b.txn.call → ⊥) → (after : ClientState) → EndsAs b after
+      → after ≡ client_after shape (client_of a) found
+  client_ends rests after ends =
+      ends_as b b.txn.call refl rests (subst (λ (c : Option (Now TxnPoint TxnAnswer)). IsSome c) (sym at.call) refl)
+      (client_after shape (client_of a) found) after steps_as ends
+
+  pub stays_in : b.step ≡ step.InTxn
+  stays_in = ap (λ (r : Registers). r.step) is ∙ stands

@@ -50,6 +50,14 @@ pub fn ask_txn(a: &mut Registers, layout: &Layout, call: &TxnCall)
 
 /// Goes on with a word of the transaction's call. A lock that it takes is listed at once.
 #[inline]
+#[tactic(auto, using(
+    crate::proofs::StepRoom::can_list,
+    crate::proofs::StepRoom::is_answered,
+    crate::proofs::StepRoom::room_going,
+    crate::proofs::StepRoom::client_runs,
+    crate::proofs::StepRoom::client_ends,
+    crate::proofs::StepRoom::hand_fits,
+))]
 pub fn take_txn(a: &mut Registers, layout: &Layout, found: u64)
     requires of { IsClientOf layout.now a.old }
     requires holds { Holds a.old }

@@ -1,3 +1,4 @@
+pub mod AskRoom
 pub mod EndingLemmas
 pub mod StepRoom
 pub mod SteppedLemmas

@@ -51,7 +51,7 @@ RoomBy a is_open call =
     × (min (a.spare.ops + positions a.scan) MOST_CAPACITY ≤ length a.scanned.items + a.scanned.room)
     × (is_open ≡ true → Counts (open_of a) (by_point (reads_of_point a.scan) call) call)
 
-room_by : (a : Registers) → HasRoom a → RoomBy a a.is_open (call_of a.step a)
+pub room_by : (a : Registers) → HasRoom a → RoomBy a a.is_open (call_of a.step a)
 room_by a room = (room.events, room.reads, room.locks, room.writes, room.snaps, room.scanned, room.counts)
 
 pub has_room : (a : Registers) → RoomBy a a.is_open (call_of a.step a) → HasRoom a
@@ -278,11 +278,11 @@ module _ (shape : Shape) (a : Registers) (t : Transacting) (owed : ℕ) (opened 
 
 -- 4. A word
 
-abbrev call_or : Now TxnPoint TxnAnswer → Option (Now TxnPoint TxnAnswer) → Now TxnPoint TxnAnswer
+abbrev pub call_or : Now TxnPoint TxnAnswer → Option (Now TxnPoint TxnAnswer) → Now TxnPoint TxnAnswer
 call_or other None = other
 call_or other (Some now) = now
 
-open_is : (attempt : Open) (is_open : Bool) → IsSome (if is_open then Some attempt else None) → is_open ≡ true
+pub open_is : (attempt : Open) (is_open : Bool) → IsSome (if is_open then Some attempt else None) → is_open ≡ true
 open_is attempt true some = refl
 open_is attempt false some = absurd (false≢true some)
 
@@ -402,7 +402,7 @@ EndsAs b client =
     → client ≡ with_answer (on_answer (client_of b) (open_of b) end) (answer.Txn end)
 
 module _ (b : Registers) where
-  runs_as : (call : Option (Now TxnPoint TxnAnswer)) → b.txn.call ≡ call → Runs call
+  pub runs_as : (call : Option (Now TxnPoint TxnAnswer)) → b.txn.call ≡ call → Runs call
       → (client : ClientState)
       → ((now : Now TxnPoint TxnAnswer) → b.txn.call ≡ Some now → client ≡ finished (client_of b) (open_of b) now)
       → client_of b ≡ client
@@ -410,7 +410,7 @@ module _ (b : Registers) where
   runs_as (Some (At at)) is runs client steps = sym (steps (At at) is)
   runs_as (Some (Over end)) is runs client steps = absurd runs
 
-  ends_as : (call : Option (Now TxnPoint TxnAnswer)) → b.txn.call ≡ call → (Runs call → ⊥) → IsSome call
+  pub ends_as : (call : Option (Now TxnPoint TxnAnswer)) → b.txn.call ≡ call → (Runs call → ⊥) → IsSome call
       → (client after : ClientState)
       → ((now : Now TxnPoint TxnAnswer) → b.txn.call ≡ Some now → client ≡ finished (client_of b) (open_of b) now)
       → EndsAs b after → after ≡ client

@@ -69,7 +69,7 @@ owed_once (Reading op position at) = omega arith
 owed_once (Claiming op at) = omega arith
 owed_once (Committing at) = omega arith
 
-owed_now_once : (now : Now TxnPoint TxnAnswer) → owed_now now ≤ 1
+pub owed_now_once : (now : Now TxnPoint TxnAnswer) → owed_now now ≤ 1
 owed_now_once (At at) = owed_once at
 owed_now_once (Over end) = omega arith
 
@@ -77,7 +77,7 @@ items_once : (read : Option Item) → length (items_of read) ≤ 1
 items_once None = omega arith
 items_once (Some item) = omega arith
 
-reads_once : (next : Stepped) (now : Now TxnPoint TxnAnswer) → ReadsWithin 1 next now
+pub reads_once : (next : Stepped) (now : Now TxnPoint TxnAnswer) → ReadsWithin 1 next now
 reads_once next (At at) = tt
 reads_once next (Over end) = λ lists. items_once next.state.read
 
@@ -124,7 +124,7 @@ op_steps shape state at found none keeps =
 
 -- 3. A commit
 
-abbrev Quiet : TxnState → Stepped → Now TxnPoint TxnAnswer → Type 0
+abbrev pub Quiet : TxnState → Stepped → Now TxnPoint TxnAnswer → Type 0
 Quiet state next (At at) = owed_at at ≡ 0
 Quiet state next (Over end) = lists_read end ≡ false
 
@@ -165,12 +165,12 @@ commits_on shape state place found =
     (λ at count next is goes. (refl, refl, inl refl))
     (λ end ends. (refl, quiet_end state place end ends, inl refl))
 
-quiet_owes : (state : TxnState) (next : Stepped) (now : Now TxnPoint TxnAnswer) → Quiet state next now
+pub quiet_owes : (state : TxnState) (next : Stepped) (now : Now TxnPoint TxnAnswer) → Quiet state next now
     → owed_now now ≡ 0
 quiet_owes state next (At at) quiet = quiet
 quiet_owes state next (Over end) quiet = refl
 
-quiet_reads : (state : TxnState) (next : Stepped) (now : Now TxnPoint TxnAnswer) → Quiet state next now
+pub quiet_reads : (state : TxnState) (next : Stepped) (now : Now TxnPoint TxnAnswer) → Quiet state next now
     → ReadsWithin 0 next now
 quiet_reads state next (At at) quiet = tt
 quiet_reads state next (Over end) quiet = λ lists. absurd (false≢true (sym quiet ∙ lists))

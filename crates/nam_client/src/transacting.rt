@@ -8,13 +8,14 @@ ghost use Rattle.nam_protocol.specs.Client.{client_ask, client_after};
 ghost use Rattle.nam_protocol.specs.Own.{MayAsk};
 ghost use Rattle.nam_protocol.specs.RoomLaw.{call_room};
 ghost use Rattle.nam_protocol.specs.Telling.{on_answer, with_answer};
+ghost use Rattle.nam_protocol.specs.TxnCalls.{txn_ask};
 ghost use Rattle.nam_catalog.specs.declared.shape.Shape.{Shape};
 ghost use Rattle.nam_txn.specs.Txn.{IsAt, IsTxnOf, Rests, Runs, after_of, answer_in};
 ghost use Rattle.nam_client.specs.declared.registers.Step.TheVariants as step;
 ghost use Rattle.nam_client.specs.Registers.{client_of, call_of, open_of, with_new_locks};
 ghost use Rattle.nam_client.specs.Room.{CanList, HasAnswered, HasRoom, Holds, reads_at_hand};
 ghost use Rattle.nam_client.specs.Fits.{IsClientOf, HandFits};
-ghost use Rattle.nam_client.specs.Ending.{CanGoOn, attempt_listed, commit_listed, read_listed};
+ghost use Rattle.nam_client.specs.Ending.{CanGoOn, attempt_listed, call_counted, commit_listed, op_count, read_listed};
 
 use crate::ending::{Ending, ending_of};
 use crate::registers::{Registers, Step};
@@ -23,18 +24,63 @@ use nam_protocol::TxnCall;
 use si_model::{Attempt, Outcome};
 
 /// Asks a call of the open transaction.
+#[tactic(auto, using(
+    crate::proofs::StepRoom::can_list,
+    crate::proofs::StepRoom::is_answered,
+    crate::proofs::StepRoom::room_going,
+    crate::proofs::StepRoom::hand_fits,
+))]
 pub fn ask_txn(a: &mut Registers, layout: &Layout, call: &TxnCall)
     requires of { IsClientOf layout.now a.old }
     requires may { MayAsk layout.now (client_of a.old) (TxnOf call.now) }
     requires holds { Holds a.old }
+    requires rests { Rests a.old.txn.call }
     requires spare { (call_room layout.now (TxnOf call.now)).ops ≤ a.old.spare.ops }
     requires counted { a.old.attempt.ops_so_far + (call_room layout.now (TxnOf call.now)).ops < 2 ^ 32 }
     ensures client { client_of a.new ≡ client_ask layout.now (client_of a.old) (TxnOf call.now) }
     ensures spare { a.new.spare
         ≡ record a.old.spare { ops = a.old.spare.ops - (call_room layout.now (TxnOf call.now)).ops } }
     ensures txn { a.new.is_open ≡ true → IsTxnOf layout.now a.new.txn }
+    ensures step { a.new.step ≡ step.InTxn }
     ensures hand { HandFits layout.now a.new (call_of a.new.step a.new) }
     ensures room { HasRoom a.new }
+{
+    start_txn(a, layout, call);
+    if !a.txn.is_busy() {
+        list_answer(a);
+    }
+}
+
+/// Counts a call of the transaction, and asks it.
+#[tactic(auto, using(
+    crate::proofs::AskRoom::call_fits,
+    crate::proofs::AskRoom::none_held,
+    crate::proofs::AskRoom::is_open,
+    crate::proofs::AskRoom::few_ops,
+    crate::proofs::AskRoom::ready_asked,
+))]
+fn start_txn(a: &mut Registers, layout: &Layout, call: &TxnCall)
+    requires of { IsClientOf layout.now a.old }
+    requires may { MayAsk layout.now (client_of a.old) (TxnOf call.now) }
+    requires holds { Holds a.old }
+    requires rests { Rests a.old.txn.call }
+    requires spare { op_count call.now ≤ a.old.spare.ops }
+    requires counted { a.old.attempt.ops_so_far + op_count call.now < 2 ^ 32 }
+    ensures at { IsAt a.new.txn (txn_ask layout.now a.old.txn.state call.now) }
+    ensures of { IsTxnOf layout.now a.new.txn }
+    ensures value { a.new ≡ record (call_counted a.old call.now) { txn = a.new.txn } }
+    ensures ready { CanGoOn a.new a.new.txn.call }
+{
+    count_call(a, call);
+    a.txn.ask(layout, call);
+}
+
+/// Counts a call of the transaction, which is to run.
+fn count_call(a: &mut Registers, call: &TxnCall)
+    requires spare { op_count call.now ≤ a.old.spare.ops }
+    requires ops { a.old.attempt.ops + op_count call.now < 2 ^ 32 }
+    requires counted { a.old.attempt.ops_so_far + op_count call.now < 2 ^ 32 }
+    ensures { a.new ≡ call_counted a.old call.now }
 {
     if !matches!(call, TxnCall::Commit) {
         a.spare.ops -= 1;
@@ -42,10 +88,6 @@ pub fn ask_txn(a: &mut Registers, layout: &Layout, call: &TxnCall)
         a.attempt.ops_so_far += 1;
     }
     a.step = Step::InTxn;
-    a.txn.ask(layout, call);
-    if !a.txn.is_busy() {
-        list_answer(a);
-    }
 }
 
 /// Goes on with a word of the transaction's call. A lock that it takes is listed at once.
@@ -66,6 +108,7 @@ pub fn take_txn(a: &mut Registers, layout: &Layout, found: u64)
     ensures client { client_of a.new ≡ client_after layout.now (client_of a.old) found }
     ensures spare { a.new.spare ≡ a.old.spare }
     ensures txn { a.new.is_open ≡ true → IsTxnOf layout.now a.new.txn }
+    ensures step { a.new.step ≡ step.InTxn }
     ensures hand { HandFits layout.now a.new (call_of a.new.step a.new) }
     ensures room { HasRoom a.new }
 {

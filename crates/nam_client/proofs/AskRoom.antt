@@ -289,3 +289,19 @@ module _ (shape : Shape) (a : Registers) (call : TxnCall) (may : MayAsk shape (c
         ∙ ap (λ (n : Now TxnPoint TxnAnswer). let b = record (call_counted a call) { txn = t } in
         finished (client_of b) (open_of b) n)
         (ap (call_or now) (sym at.call ∙ called))
+
+  module _ (b : Registers) (is : b ≡ record (call_counted a call) { txn = b.txn })
+      (at : IsAt b.txn (txn_ask shape a.txn.state call)) (of : IsTxnOf shape b.txn) where
+    asks_as : (now : Now TxnPoint TxnAnswer) → b.txn.call ≡ Some now
+        → client_ask shape (client_of a) (Txn call) ≡ finished (client_of b) (open_of b) now
+    asks_as now called =
+        asked_is b.txn at of now called ∙ ap (λ (r : Registers). finished (client_of r) (open_of r) now) (sym is)
+
+    pub ask_runs : Runs b.txn.call → client_of b ≡ client_ask shape (client_of a) (Txn call)
+    ask_runs goes = runs_as b b.txn.call refl goes (client_ask shape (client_of a) (Txn call)) asks_as
+
+    pub ask_ends : (Runs b.txn.call → ⊥) → (after : ClientState) → EndsAs b after
+        → after ≡ client_ask shape (client_of a) (Txn call)
+    ask_ends rests after ends =
+        ends_as b b.txn.call refl rests (subst (λ (c : Option (Now TxnPoint TxnAnswer)). IsSome c) (sym at.call) refl)
+        (client_ask shape (client_of a) (Txn call)) after asks_as ends

@@ -25,6 +25,9 @@ use si_model::{Attempt, Outcome};
 
 /// Asks a call of the open transaction.
 #[tactic(auto, using(
+    crate::proofs::AskRoom::room_of_call,
+    crate::proofs::AskRoom::ask_runs,
+    crate::proofs::AskRoom::ask_ends,
     crate::proofs::StepRoom::can_list,
     crate::proofs::StepRoom::is_answered,
     crate::proofs::StepRoom::room_going,

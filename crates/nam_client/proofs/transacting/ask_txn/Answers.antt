@@ -1,4 +1,4 @@
-use Rattle.std.proofs.Common.{◌≡◌, refl}
+use Rattle.std.proofs.Common.{refl}
 use Rattle.std.proofs.lemmas.Bool.{false≢true}
 use Rattle.nam_txn.specs.Txn.{Runs}
 use Rattle.nam_client.specs.Registers.{client_of}

@@ -1,4 +1,4 @@
-use Rattle.std.proofs.Common.{ap, sym, subst, ◌∙◌, ◌≡◌, arith}
+use Rattle.std.proofs.Common.{ap, sym, subst, ◌∙◌, arith}
 use Rattle.nam_client.specs.declared.registers.Registers.{Registers}
 use Rattle.nam_client.specs.Room.{HasRoom}
 use Rattle.nam_client.specs.Ending.{attempt_listed}

@@ -1,4 +1,3 @@
-use Rattle.std.proofs.Common.{◌≡◌}
 use Rattle.std.proofs.lemmas.Bool.{false≢true}
 use Rattle.nam_txn.specs.Txn.{Runs}
 use Rattle.nam_client.specs.Registers.{client_of}

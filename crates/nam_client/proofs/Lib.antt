@@ -1,4 +1,9 @@
-pub mod TableLemmas
+pub mod AskRoom
 pub mod ClosingLemmas
-pub mod VerbLemmas
+pub mod EndingLemmas
 pub mod KeptLemmas
+pub mod StepRoom
+pub mod SteppedLemmas
+pub mod TableLemmas
+pub mod TxnSteps
+pub mod VerbLemmas

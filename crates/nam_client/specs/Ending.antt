@@ -1,15 +1,22 @@
 -- What an answer does with the open transaction, and what is listed then.
-use Rattle.std.specs.Prelude.{ℕ, ◌+◌, ◌-◌, false, length, None}
+use Rattle.std.specs.Prelude.{ℕ, ◌+◌, ◌-◌, false, length, Option, Some, None}
 use Rattle.si_model.specs.declared.log.Outcome.{Outcome}
 use Rattle.si_model.specs.declared.log.Outcome.TheVariants as outcome
+use Rattle.nam_verbs.specs.declared.now.Now.{Now}
+use Rattle.nam_verbs.specs.declared.now.Now.TheVariants.{At, Over}
+use Rattle.nam_protocol.specs.declared.txn.TxnPoint.{TxnPoint}
 use Rattle.nam_protocol.specs.declared.txn.TxnAnswer.{TxnAnswer}
 use Rattle.nam_protocol.specs.declared.txn.TxnAnswer.TheVariants as txn_answer
+use Rattle.nam_protocol.specs.declared.txn.TxnCall.{TxnCall}
+use Rattle.nam_protocol.specs.declared.txn.TxnCall.TheVariants.{Commit}
 use Rattle.nam_protocol.specs.Log.{attempt_of, with_event, with_reads, with_writes}
 use Rattle.nam_protocol.specs.Telling.{items_of}
 use Rattle.nam_client.specs.declared.ending.Ending.{Ending}
 use Rattle.nam_client.specs.declared.ending.Ending.TheVariants as ending
 use Rattle.nam_client.specs.declared.registers.Registers.{Registers}
+use Rattle.nam_client.specs.declared.registers.Step.TheVariants as step
 use Rattle.nam_client.specs.Registers.{listed, open_of}
+use Rattle.nam_client.specs.Room.{CanList, HasRoom}
 
 -- after so many operations
 abbrev pub ending_of : TxnAnswer → ℕ → Ending
@@ -56,3 +63,25 @@ read_listed a =
       attempt = record a.attempt { reads = a.attempt.reads + length items };
       txn = record a.txn { state = record a.txn.state { read = None } };
     }
+
+-- there is room for the transaction's call to go on, and for its answer to be listed
+abbrev pub CanGoOn : Registers → Option (Now TxnPoint TxnAnswer) → Type 0
+CanGoOn a None = ⊥
+CanGoOn a (Some (At at)) = HasRoom a
+CanGoOn a (Some (Over end)) = CanList a
+
+-- how many operations a call is
+abbrev pub op_count : TxnCall → ℕ
+op_count Commit = 0
+op_count call = 1
+
+-- a call of the transaction is counted, and is to run
+abbrev pub call_counted : Registers → TxnCall → Registers
+call_counted a call = record a {
+  spare = record a.spare { ops = a.spare.ops - op_count call };
+  attempt = record a.attempt {
+    ops = a.attempt.ops + op_count call;
+    ops_so_far = a.attempt.ops_so_far + op_count call;
+  };
+  step = step.InTxn;
+}

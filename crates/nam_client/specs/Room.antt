@@ -9,6 +9,7 @@ use Rattle.nam_index.specs.Path.{FitsPath}
 use Rattle.nam_protocol.specs.declared.txn.TxnPoint.{TxnPoint}
 use Rattle.nam_protocol.specs.declared.txn.TxnPoint.TheVariants.{Committing}
 use Rattle.nam_protocol.specs.declared.txn.TxnAnswer.{TxnAnswer}
+use Rattle.nam_protocol.specs.declared.txn.TxnAnswer.TheVariants.{Declined, NoSpace}
 use Rattle.nam_protocol.specs.declared.txn.TxnState.{TxnState}
 use Rattle.nam_protocol.specs.declared.client.Answer.{Answer}
 use Rattle.nam_protocol.specs.declared.client.CallPoint.{CallPoint}
@@ -75,16 +76,27 @@ pub record Counts (attempt : Open) (owed : ℕ) (call : Option (Now CallPoint An
 abbrev pub HasAnswered : Registers → TxnAnswer → Type 0
 HasAnswered a end = a.txn.call ≡ Some (Over end)
 
+-- is what the call has read listed with this answer
+abbrev pub lists_read : TxnAnswer → Bool
+lists_read (NoSpace table) = true
+lists_read Declined = true
+lists_read end = has_passed end
+
 -- what its call has read
 abbrev pub reads_at_hand : Registers → ℕ
 reads_at_hand a = length (items_of a.txn.state.read)
+
+-- where it is listed
+pub record CanRead (a : Registers) : Type 0 where
+  pub room : a.spare.ops + reads_at_hand a ≤ a.log.room.reads
+  pub so_far : a.attempt.reads + reads_at_hand a ≤ a.attempt.ops_so_far
 
 pub record CanList (a : Registers) : Type 0 where
   pub is_open : a.is_open ≡ true
   pub in_txn : a.step ≡ step.InTxn
   pub events : a.spare.attempts + a.spare.tidies + 1 + a.closing ≤ a.log.room.events
   pub closes : a.closing ≡ 2
-  pub reads : a.spare.ops + reads_at_hand a ≤ a.log.room.reads
+  pub reads : a.spare.ops ≤ a.log.room.reads
   pub locks : a.spare.ops + a.attempt.ops_so_far ≤ a.log.room.locks + a.attempt.locks
   pub writes : a.spare.ops + a.attempt.ops_so_far ≤ a.log.room.writes
   pub snaps : a.spare.attempts + a.spare.tidies ≤ a.log.room.snaps
@@ -93,7 +105,7 @@ pub record CanList (a : Registers) : Type 0 where
   pub word : a.attempt.ops_so_far < 2 ^ 32
   pub claims : length a.txn.state.claims ≤ a.attempt.ops_so_far
   pub written : length a.txn.state.writes ≤ a.attempt.ops_so_far
-  pub so_far : a.attempt.reads + reads_at_hand a ≤ a.attempt.ops_so_far
+  pub reading : (end : TxnAnswer) → HasAnswered a end → lists_read end ≡ true → CanRead a
   pub held : length a.txn.state.held ≡ a.attempt.locks
   pub few : a.attempt.locks ≤ a.attempt.ops_so_far
   pub passes : (end : TxnAnswer) → HasAnswered a end → has_passed end ≡ true → a.attempt.locks ≡ 0

@@ -17,3 +17,4 @@ pub use client::Client;
 pub use beginning::{begin, take_begin};
 pub use collecting::{collect, take_collect, take_snap};
 pub use tidying::{take_move, take_seek, tidy};
+pub use transacting::{ask_txn, take_txn};

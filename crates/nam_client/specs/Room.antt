@@ -21,6 +21,7 @@ use Rattle.nam_client.specs.declared.registers.Registers.{Registers}
 use Rattle.nam_client.specs.declared.registers.Spare.{Spare}
 use Rattle.nam_client.specs.declared.registers.Step.TheVariants as step
 use Rattle.nam_client.specs.Registers.{call_of, client_of, open_of}
+use Rattle.nam_client.specs.Scanning.{Gathers}
 
 -- 1. What is owed by a call that runs
 
@@ -121,6 +122,7 @@ pub record Holds (a : Registers) : Type 0 where
   pub room : HasRoom a
   pub opened : OpenClient (client_of a)
   pub scans : a.step ≡ step.Scanning → ScanStands a.scan
+  pub rows : a.step ≡ step.Scanning → Gathers a.scanned.items a.scan
 
 -- at least as many calls
 abbrev pub greater_spare : Spare → Spare → Spare

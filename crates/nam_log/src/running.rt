@@ -1,6 +1,6 @@
 //! A log while its worker runs.
 
-ghost use Rattle.std.specs.Prelude.{◌≡◌, ◌-◌, ◌<◌, ◌≤◌, [], ◌∷◌, ◌++◌, length, OnOk, OnErr};
+ghost use Rattle.std.specs.Prelude.{◌≡◌, ◌-◌, ◌<◌, ◌≤◌, [], ◌∷◌, ◌++◌, length, Some, OnOk, OnErr};
 ghost use Rattle.si_model.specs.declared.log.Event.TheVariants.{Tried};
 ghost use Rattle.nam_protocol.specs.Log.{no_log, with_event, with_reads, with_locks, with_writes, with_snap};
 ghost use Rattle.nam_log.specs.Running.{no_room, greater_room};
@@ -127,6 +127,21 @@ impl RunningLog {
             table,
             key,
             value: copy_value(value),
+        });
+    }
+
+    /// Lists a row that was read.
+    pub fn list_row(&mut self, table: u32, key: u64, value: &Value)
+        requires { 0 < self.old.room.reads }
+        ensures log { self.new.log
+            ≡ with_reads self.old.log (record { table = table; key = key; value = Some value.now } ∷ []) }
+        ensures room { self.new.room ≡ record self.old.room { reads = self.old.room.reads - 1 } }
+    {
+        self.room.reads -= 1;
+        self.reads.push(Item {
+            table,
+            key,
+            value: Some(value.copy()),
         });
     }
 

@@ -1,2 +1,3 @@
-pub mod SteppedLemmas
 pub mod TableLemmas
+pub mod SortLemmas
+pub mod ScanLemmas

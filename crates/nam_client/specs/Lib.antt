@@ -4,3 +4,4 @@ pub mod Room
 pub mod Fits
 pub mod Ending
 pub mod Client
+pub mod Closing

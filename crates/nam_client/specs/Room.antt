@@ -1,5 +1,5 @@
 -- The room that a client has in its log: for the calls that it may still be asked, and for what it owes.
-use Rattle.std.specs.Prelude.{◌≡◌, Bool, true, ℕ, ◌+◌, ◌^◌, ◌≤◌, ◌<◌, min, max, if◌then◌else◌, List, length, Option, Some, None, IsNone}
+use Rattle.std.specs.Prelude.{◌≡◌, Bool, true, ℕ, ◌+◌, ◌^◌, ◌≤◌, ◌<◌, min, max, if◌then◌else◌, List, length, Option, Some, None, IsNone, IsSome}
 use Rattle.nam_verbs.specs.declared.now.Now.{Now}
 use Rattle.nam_verbs.specs.declared.now.Now.TheVariants.{At, Over}
 use Rattle.nam_verbs.specs.Now.{end_now}
@@ -15,6 +15,7 @@ use Rattle.nam_protocol.specs.declared.client.CallPoint.TheVariants.{Snapping, C
 use Rattle.nam_protocol.specs.declared.client.Open.{Open}
 use Rattle.nam_protocol.specs.AttemptLaw.{has_passed}
 use Rattle.nam_protocol.specs.Own.{OpenClient}
+use Rattle.nam_protocol.specs.SessionFits.{is_running}
 use Rattle.nam_protocol.specs.Telling.{items_of}
 use Rattle.nam_scan.specs.Scan.{Scanning as ScanValue}
 use Rattle.nam_client.specs.declared.registers.Registers.{Registers}
@@ -78,7 +79,8 @@ reads_at_hand a = length (items_of a.txn.state.read)
 pub record CanList (a : Registers) : Type 0 where
   pub is_open : a.is_open ≡ true
   pub in_txn : a.step ≡ step.InTxn
-  pub events : a.spare.attempts + a.spare.tidies + 3 ≤ a.log.room.events
+  pub events : a.spare.attempts + a.spare.tidies + 1 + a.closing ≤ a.log.room.events
+  pub closes : a.closing ≡ 2
   pub reads : a.spare.ops + reads_at_hand a ≤ a.log.room.reads
   pub locks : a.spare.ops + a.attempt.ops_so_far ≤ a.log.room.locks + a.attempt.locks
   pub writes : a.spare.ops + a.attempt.ops_so_far ≤ a.log.room.writes
@@ -103,7 +105,9 @@ abbrev pub owed_keys : Registers → ℕ
 owed_keys a = if a.is_open then a.attempt.ops_so_far else 0
 
 pub record HasRoom (a : Registers) : Type 0 where
-  pub events : a.spare.attempts + a.spare.tidies + owed_event a.is_open (call_of a.step a) + 2 ≤ a.log.room.events
+  pub events : a.spare.attempts + a.spare.tidies + owed_event a.is_open (call_of a.step a) + a.closing
+      ≤ a.log.room.events
+  pub closes : 0 < a.spare.attempts + a.spare.tidies + owed_event a.is_open (call_of a.step a) → a.closing ≡ 2
   pub reads : a.spare.ops + owed_reads a ≤ a.log.room.reads
   pub locks : a.spare.ops + owed_keys a ≤ a.log.room.locks + (if a.is_open then a.attempt.locks else 0)
   pub writes : a.spare.ops + owed_keys a ≤ a.log.room.writes
@@ -123,6 +127,7 @@ pub record Holds (a : Registers) : Type 0 where
   pub opened : OpenClient (client_of a)
   pub scans : a.step ≡ step.Scanning → ScanStands a.scan
   pub rows : a.step ≡ step.Scanning → Gathers a.scanned.items a.scan
+  pub finishes : IsSome a.finish → (a.is_cut ≡ true) × (is_running (call_of a.step a) ≡ true)
 
 -- at least as many calls
 abbrev pub greater_spare : Spare → Spare → Spare

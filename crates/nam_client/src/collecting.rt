@@ -45,6 +45,7 @@ pub fn collect(a: &mut Registers, layout: &Layout, bucket: u32)
 pub fn take_snap(a: &mut Registers, layout: &Layout, bucket: u32, found: u64)
     requires step { a.old.step ≡ step.Snapping bucket }
     requires stands { IsSome (next_verb (snap_running a.old.snapper)) }
+    requires hand { HandFits layout.now a.old (call_of a.old.step a.old) }
     requires workers { a.old.snapper.workers ≡ layout.now.workers }
     requires bucket { bucket < layout.now.buckets }
     requires closed { a.old.is_open ≡ false }

@@ -3,7 +3,8 @@
 ghost use Rattle.std.specs.Prelude.{◌≡◌, false};
 ghost use Rattle.nam_protocol.specs.Telling.{new_client};
 ghost use Rattle.nam_client.specs.Registers.{client_of};
-ghost use Rattle.nam_client.specs.Room.{Holds};
+ghost use Rattle.nam_client.specs.declared.registers.Step.TheVariants as step;
+ghost use Rattle.nam_client.specs.Room.{HasRoom};
 
 use nam_calls::Path;
 use nam_log::{RoomyList, RunningLog};
@@ -83,6 +84,8 @@ pub struct Registers {
     pub last: u64,
     pub log: RunningLog,
     pub spare: Spare,
+    /// How many events are kept for its closing: two, once it has room for a call.
+    pub closing: u32,
     pub is_open: bool,
     pub attempt: Attempting,
     pub txn: Txn,
@@ -106,8 +109,9 @@ pub struct Registers {
 pub fn new_registers(alloc: Global, worker: u32, start: u64) -> Registers
     ensures client { client_of result ≡ new_client worker start }
     ensures spare { result.spare ≡ record { attempts = 0; ops = 0; tidies = 0 } }
-    ensures holds { Holds result }
-    ensures rests { result.is_open ≡ false }
+    ensures room { HasRoom result }
+    ensures rests { result.step ≡ step.Resting }
+    ensures closed { result.is_open ≡ false }
 {
     Registers {
         worker,
@@ -119,6 +123,7 @@ pub fn new_registers(alloc: Global, worker: u32, start: u64) -> Registers
             ops: 0,
             tidies: 0,
         },
+        closing: 0,
         is_open: false,
         attempt: Attempting {
             txn: 0,

@@ -3,7 +3,10 @@
 ghost use Rattle.std.specs.Prelude.{◌≡◌, ◌≤◌, ◌+◌, min, Some, IfSome, OnOk, OnErr};
 ghost use Rattle.nam_catalog.specs.declared.bounds.TheConstants.{MOST_CAPACITY};
 ghost use Rattle.nam_client.specs.Registers.{client_of};
-ghost use Rattle.nam_client.specs.Room.{Holds, greater_spare, owed_keys};
+ghost use Rattle.nam_protocol.specs.Own.{OpenClient};
+ghost use Rattle.nam_client.specs.declared.registers.Step.TheVariants as step;
+ghost use Rattle.nam_client.specs.Scanning.{Gathers};
+ghost use Rattle.nam_client.specs.Room.{HasRoom, Holds, ScanStands, greater_spare, owed_keys};
 
 use crate::registers::{Registers, Spare};
 use nam_catalog::bounds::MOST_CAPACITY;
@@ -56,15 +59,19 @@ pub fn reserve(a: &mut Registers, asked: &Spare) -> Result<(), AllocError>
     ensures rest { a.new ≡ record a.old {
       log = record a.new.log { log = a.old.log.log };
       spare = a.new.spare;
+      closing = a.new.closing;
       scanned = record a.new.scanned { items = a.old.scanned.items };
     } }
-    ensures holds { Holds a.new }
+    ensures room { HasRoom a.new }
+    ensures opened { OpenClient (client_of a.new) }
+    ensures scans { a.new.step ≡ step.Scanning → ScanStands a.new.scan }
+    ensures rows { a.new.step ≡ step.Scanning → Gathers a.new.scanned.items a.new.scan }
 {
     let spare = a.spare.max_each(asked);
     let room = room_for(a, &spare).ok_or(AllocError)?;
     a.log.reserve(&room)?;
-    a.scanned
-        .reserve(spare.ops.min(MOST_CAPACITY) as usize)?;
+    a.scanned.reserve(MOST_CAPACITY as usize)?;
     a.spare = spare;
+    a.closing = 2;
     Ok(())
 }

@@ -5,8 +5,8 @@ ghost use Rattle.nam_verbs.specs.Running.{next_verb, end_of};
 ghost use Rattle.nam_catalog.specs.declared.shape.Shape.{Shape};
 ghost use Rattle.nam_layout.specs.RowLaw.{IsPosition};
 ghost use Rattle.nam_layout.specs.Place.{place_of, cells_by};
-ghost use Rattle.nam_index.specs.Path.{FitsPath};
-ghost use Rattle.nam_calls.specs.Words.{path_of, capacity_of};
+ghost use Rattle.nam_calls.specs.Words.{capacity_of};
+ghost use Rattle.nam_protocol.specs.declared.client.CallPoint.TheVariants.{Seeking as SeekingAt};
 ghost use Rattle.nam_calls.specs.Fits.{IsTableOf};
 ghost use Rattle.nam_calls.specs.Left.{move_most};
 ghost use Rattle.nam_upkeep.specs.Move.{running, moving};
@@ -16,7 +16,7 @@ ghost use Rattle.nam_protocol.specs.Own.{MayAsk};
 ghost use Rattle.nam_client.specs.declared.registers.Step.TheVariants as step;
 ghost use Rattle.nam_client.specs.Registers.{client_of, call_of, after_move};
 ghost use Rattle.nam_client.specs.Room.{HasRoom};
-ghost use Rattle.nam_client.specs.Fits.{IsClientOf, HandFits};
+ghost use Rattle.nam_client.specs.Fits.{IsClientOf, HandFits, HasAtHand};
 
 use crate::registers::{Registers, Step, Told};
 use nam_index::{FindEnd, find_after, path_of};
@@ -69,8 +69,7 @@ pub fn take_seek(
 )
     requires step { a.old.step ≡ step.Seeking table key passed }
     requires table { IsTableOf layout.now table }
-    requires path { a.old.path ≡ path_of layout.now table key }
-    requires fits { FitsPath a.old.path }
+    requires hand { HasAtHand layout.now a.old (SeekingAt table key passed) }
     requires passed { passed < capacity_of layout.now table }
     requires closed { a.old.is_open ≡ false }
     requires room { HasRoom a.old }

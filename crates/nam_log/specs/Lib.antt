@@ -1,2 +1,4 @@
+pub mod Flat
+pub mod Notes
 pub mod Roomy
 pub mod Running

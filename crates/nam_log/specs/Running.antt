@@ -1,5 +1,5 @@
 -- A log that grows, and the room that it has.
-use Rattle.std.specs.Prelude.{max, ◌+◌, ◌-◌, ◌≤◌, List, length}
+use Rattle.std.specs.Prelude.{max}
 use Rattle.si_model.specs.declared.log.Log.{Log}
 use Rattle.nam_log.specs.declared.room.LogRoom.{LogRoom}
 

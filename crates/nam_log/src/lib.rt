@@ -6,6 +6,13 @@
 //! this kind.
 #![tactic(auto)]
 
+mod compact_events;
+mod compact_items;
+mod compact_snaps;
+mod flat_items;
+mod flat_snaps;
+mod item_head;
+mod note;
 mod room;
 mod roomy;
 mod running;

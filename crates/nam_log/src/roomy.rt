@@ -109,3 +109,15 @@ impl<T: Drop> RoomyList<T> {
         self.buffer.clear();
     }
 }
+
+impl<T: Copy> RoomyList<T> {
+    /// Appends elements, for which there is room.
+    pub fn append(&mut self, items: &[T])
+        requires { length items.now ≤ self.old.room }
+        ensures items { self.new.items ≡ self.old.items ++ items.now }
+        ensures room { self.new.room ≡ self.old.room - length items.now }
+    {
+        self.room -= items.len();
+        let _appended = self.buffer.extend_from_slice(items);
+    }
+}

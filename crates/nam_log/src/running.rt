@@ -1,13 +1,17 @@
 //! A log while its worker runs.
 
-ghost use Rattle.std.specs.Prelude.{◌≡◌, ◌-◌, ◌<◌, ◌≤◌, [], ◌∷◌, ◌++◌, length, Some, OnOk, OnErr};
-ghost use Rattle.si_model.specs.declared.log.Event.TheVariants.{Tried};
+ghost use Rattle.std.specs.Prelude.{◌≡◌, ◌-◌, ◌<◌, ◌≤◌, [], ◌∷◌, ◌++◌, length, OnOk, OnErr};
+ghost use Rattle.si_model.specs.declared.log.Event.TheVariants.{Tried, Moved};
 ghost use Rattle.nam_protocol.specs.Log.{no_log, with_event, with_reads, with_locks, with_writes, with_snap};
 ghost use Rattle.nam_log.specs.Running.{no_room, greater_room};
 
+use crate::compact_events::CompactEvents;
+use crate::compact_items::CompactItems;
+use crate::compact_snaps::CompactSnaps;
+use crate::note::{Note, note_of};
 use crate::{LogRoom, RoomyList};
 use lists::List;
-use si_model::{Attempt, Event, Item, Lock, Log, Snapshot, Value, copy_value};
+use si_model::{Attempt, Event, Item, Lock, Log, MoveEnd, Snapshot, Stamp, Value};
 use std::alloc::{AllocError, Global};
 use std::marker::Model;
 
@@ -17,11 +21,11 @@ use std::marker::Model;
 #[derive(Debug, Drop)]
 pub struct RunningLog {
     room: LogRoom,
-    events: RoomyList<Event>,
-    reads: RoomyList<Item>,
+    events: CompactEvents,
+    reads: CompactItems,
     locks: RoomyList<Lock>,
-    writes: RoomyList<Item>,
-    snaps: RoomyList<Snapshot>,
+    writes: CompactItems,
+    snaps: CompactSnaps,
 }
 
 impl Model for RunningLog {
@@ -31,28 +35,28 @@ impl Model for RunningLog {
     ghost Value = { Running };
 
     ghost view = { λ a. record {
-        log = record {
-            events = a.events.items;
-            reads = a.reads.items;
-            locks = a.locks.items;
-            writes = a.writes.items;
-            snaps = a.snaps.items;
-        };
-        room = a.room;
+      log = record {
+        events = a.events.items;
+        reads = a.reads.items;
+        locks = a.locks.items;
+        writes = a.writes.items;
+        snaps = a.snaps.items;
+      };
+      room = a.room;
     } };
 
-    ghost invariant = { λ a. (a.room.events ≤ a.events.room) × (a.room.reads ≤ a.reads.room) × (a.room.locks ≤ a.locks.room)
-        × (a.room.writes ≤ a.writes.room) × (a.room.snaps ≤ a.snaps.room) };
+    ghost invariant = { λ a. (a.room.events ≤ a.events.room) × (a.room.reads ≤ a.reads.room)
+        × (a.room.locks ≤ a.locks.room) × (a.room.writes ≤ a.writes.room) × (a.room.snaps ≤ a.snaps.room) };
 }
 
 /// Lists copies of items, for which there is room.
-fn push_items(list: &mut RoomyList<Item>, items: &[Item])
+fn push_items(list: &mut CompactItems, items: &[Item])
     requires { length items.now ≤ list.old.room }
     ensures items { list.new.items ≡ list.old.items ++ items.now }
     ensures room { list.new.room ≡ list.old.room - length items.now }
 {
     for item in items {
-        list.push(item.copy());
+        list.push(item.table, item.key, &item.value);
     }
 }
 
@@ -64,11 +68,11 @@ impl RunningLog {
     {
         RunningLog {
             room: LogRoom::default(),
-            events: RoomyList::new(alloc),
-            reads: RoomyList::new(alloc),
+            events: CompactEvents::new(alloc),
+            reads: CompactItems::new(alloc),
             locks: RoomyList::new(alloc),
-            writes: RoomyList::new(alloc),
-            snaps: RoomyList::new(alloc),
+            writes: CompactItems::new(alloc),
+            snaps: CompactSnaps::new(alloc),
         }
     }
 
@@ -80,11 +84,11 @@ impl RunningLog {
         ensures err { OnErr result (self.new.room ≡ self.old.room) }
     {
         let wanted = self.room.max_each(room);
-        self.events.reserve(wanted.events as usize)?;
-        self.reads.reserve(wanted.reads as usize)?;
+        self.events.reserve(wanted.events)?;
+        self.reads.reserve(wanted.reads)?;
         self.locks.reserve(wanted.locks as usize)?;
-        self.writes.reserve(wanted.writes as usize)?;
-        self.snaps.reserve(wanted.snaps as usize)?;
+        self.writes.reserve(wanted.writes)?;
+        self.snaps.reserve(wanted.snaps)?;
         self.room = wanted;
         Ok(())
     }
@@ -103,7 +107,25 @@ impl RunningLog {
         ensures log { self.new.log ≡ with_event self.old.log (Tried attempt) }
         ensures room { self.new.room ≡ record self.old.room { events = self.old.room.events - 1 } }
     {
-        self.list_event(Event::Tried(attempt));
+        self.room.events -= 1;
+        self.events.push_note(note_of(&attempt));
+    }
+
+    /// Lists a move that had claimed a cell as the next event.
+    #[inline]
+    pub fn list_moved(&mut self, bucket: u32, table: u32, key: u64, stamp: Stamp, how: MoveEnd)
+        requires { 0 < self.old.room.events }
+        ensures log { self.new.log ≡ with_event self.old.log (Moved bucket table key stamp how) }
+        ensures room { self.new.room ≡ record self.old.room { events = self.old.room.events - 1 } }
+    {
+        self.room.events -= 1;
+        self.events.push_note(Note::Moved {
+            bucket,
+            table,
+            key,
+            stamp,
+            how,
+        });
     }
 
     /// Lists the next event.
@@ -123,26 +145,7 @@ impl RunningLog {
         ensures room { self.new.room ≡ record self.old.room { reads = self.old.room.reads - 1 } }
     {
         self.room.reads -= 1;
-        self.reads.push(Item {
-            table,
-            key,
-            value: copy_value(value),
-        });
-    }
-
-    /// Lists a row that was read.
-    pub fn list_row(&mut self, table: u32, key: u64, value: &Value)
-        requires { 0 < self.old.room.reads }
-        ensures log { self.new.log
-            ≡ with_reads self.old.log (record { table = table; key = key; value = Some value.now } ∷ []) }
-        ensures room { self.new.room ≡ record self.old.room { reads = self.old.room.reads - 1 } }
-    {
-        self.room.reads -= 1;
-        self.reads.push(Item {
-            table,
-            key,
-            value: Some(value.copy()),
-        });
+        self.reads.push(table, key, value);
     }
 
     /// Lists a lock that was taken.
@@ -174,7 +177,7 @@ impl RunningLog {
         ensures room { self.new.room ≡ record self.old.room { snaps = self.old.room.snaps - 1 } }
     {
         self.room.snaps -= 1;
-        self.snaps.push(seen.copy());
+        self.snaps.push(seen);
     }
 
     /// What was listed, handed out without memory.

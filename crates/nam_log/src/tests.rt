@@ -1,8 +1,11 @@
 ghost use Rattle.std.specs.Prelude.{◌≡◌};
 
+use crate::item_head::ItemHead;
+use crate::note::Note;
 use crate::{LogRoom, RoomyList, RunningLog};
 use si_model::{Attempt, Event, Item, Lock, MoveEnd, Outcome, Snapshot, Stamp, Value};
 use std::alloc::AllocError;
+use std::mem::size_of;
 
 fn value(width: u64) -> Value {
     let mut value = Value::new();
@@ -55,18 +58,21 @@ fn attempt(number: u64) -> Attempt {
     }
 }
 
-fn moved(key: u64) -> Event {
-    Event::Moved {
+fn collected() -> Event {
+    Event::Collected {
         bucket: 1,
-        table: 3,
-        key,
-        stamp: lock(key).stamp,
-        how: MoveEnd::Back,
+        prefix: 12,
+        entries: snapshot(2),
+        cut: false,
     }
 }
 
 fn room(count: u32) -> LogRoom
-    ensures { (result.events ≡ count) × (result.reads ≡ count) × (result.locks ≡ count) × (result.writes ≡ count) × (result.snaps ≡ count) }
+    ensures events { result.events ≡ count }
+    ensures reads { result.reads ≡ count }
+    ensures locks { result.locks ≡ count }
+    ensures writes { result.writes ≡ count }
+    ensures snaps { result.snaps ≡ count }
 {
     LogRoom {
         events: count,
@@ -77,30 +83,68 @@ fn room(count: u32) -> LogRoom
     }
 }
 
+// Of three reads and snapshots the first and the last stand in few bytes, and the second is too long for that.
 #[test]
 fn a_log_is_what_was_listed(rt: HostRuntime) -> Result<(), AllocError> {
     let mut log = RunningLog::new(rt.alloc());
     log.reserve(&room(3))?;
+    log.list_snap(&snapshot(2));
     log.list_snap(&snapshot(16));
     log.list_read(3, 8, &None);
     log.list_read(3, 9, &Some(value(8)));
+    log.list_read(3, 7, &Some(value(1)));
     log.list_lock(lock(8));
     log.list_lock(lock(9));
     log.list_tried(attempt(5));
     log.list_writes(&[item(8, Some(value(1))), item(9, None)]);
-    log.list_event(moved(8));
+    log.list_event(collected());
+    log.list_moved(1, 3, 8, lock(8).stamp, MoveEnd::Back);
     log.list_snap(&snapshot(1));
     assert_eq!(rt; log.room().writes, 1);
     let log = log.into_log();
     let events = log.events.as_slice();
-    assert_eq!(rt; events.len(), 2);
+    assert_eq!(rt; events.len(), 3);
     assert!(rt; events[0].attempt() == Some(attempt(5)));
-    assert!(rt; matches!(events[1], Event::Moved { bucket: 1, table: 3, key: 8, stamp: _, how: MoveEnd::Back }));
-    assert!(rt; log.reads.as_slice() == [item(8, None), item(9, Some(value(8)))].as_slice());
+    assert!(rt;
+        matches!(
+            events[1],
+            Event::Collected {
+                bucket: 1,
+                prefix: 12,
+                entries: _,
+                cut: false
+            }
+        )
+    );
+    assert!(rt;
+        matches!(
+            events[2],
+            Event::Moved {
+                bucket: 1,
+                table: 3,
+                key: 8,
+                stamp: _,
+                how: MoveEnd::Back
+            }
+        )
+    );
+    let reads = [
+        item(8, None),
+        item(9, Some(value(8))),
+        item(7, Some(value(1))),
+    ];
+    assert!(rt; log.reads.as_slice() == reads.as_slice());
     assert!(rt; log.locks.as_slice() == [lock(8), lock(9)].as_slice());
     assert!(rt; log.writes.as_slice() == [item(8, Some(value(1))), item(9, None)].as_slice());
-    assert!(rt; log.snaps.as_slice() == [snapshot(16), snapshot(1)].as_slice());
+    assert!(rt; log.snaps.as_slice() == [snapshot(2), snapshot(16), snapshot(1)].as_slice());
     Ok(())
+}
+
+#[test]
+fn entries_are_small(rt: HostRuntime) {
+    assert_eq!(rt; (size_of::<Note>(), size_of::<ItemHead>()), (72, 16));
+    assert_eq!(rt; (size_of::<Event>(), size_of::<Item>()), (160, 96));
+    assert_eq!(rt; (size_of::<Lock>(), size_of::<Snapshot>()), (32, 136));
 }
 
 #[test]
@@ -113,8 +157,7 @@ fn a_list_keeps_its_room(rt: HostRuntime) -> Result<(), AllocError> {
     list.clear();
     assert_eq!(rt; (list.len(), list.room()), (0, 2));
     list.reserve(1)?;
-    list.push(9);
-    list.push(10);
+    list.append(&[9, 10]);
     assert!(rt; list.as_slice() == [9, 10].as_slice());
     assert!(rt; list.into_vec().as_slice() == [9, 10].as_slice());
     Ok(())

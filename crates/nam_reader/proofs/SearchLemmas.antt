@@ -1,6 +1,5 @@
 -- The search of the ring under a locked record and without one.
 use Rattle.std.proofs.Common.{◌≡◌, ℕ, ◌+◌, List, refl, Option}
-use Rattle.nam_verbs.specs.declared.now.Now.{Now}
 use Rattle.nam_verbs.specs.declared.now.Now.TheVariants.{At, Over}
 use Rattle.nam_calls.specs.declared.ring.RingPoint.{RingPoint}
 use Rattle.nam_calls.specs.declared.ring.SearchEnd.TheVariants.{Found}

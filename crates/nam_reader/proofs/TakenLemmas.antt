@@ -16,8 +16,8 @@ use Rattle.nam_reader.specs.Reading.{StandsIn}
 
 module _ (sight : Sight) where
   -- where one point fits, each point does that fits its place
-  stands_too : (there : ReadPoint) (now : Now ReadPoint ReadingEnd) → StandsIn sight there → FitsNow (ReadFits sight) now
-      → FitsNow (StandsIn sight) now
+  stands_too : (there : ReadPoint) (now : Now ReadPoint ReadingEnd) → StandsIn sight there
+      → FitsNow (ReadFits sight) now → FitsNow (StandsIn sight) now
   stands_too there (At at) stands fits =
       record { sight_fits = stands.sight_fits; workers = stands.workers; at_fits = fits }
   stands_too there (Over end) stands fits = tt

@@ -105,7 +105,8 @@ impl Registers {
     #[tactic(auto, using(crate::proofs::SearchLemmas::left_searching))]
     pub(crate) fn left(&self, sight: &Sight) -> u64
         requires { StepFits sight.now self.now.step self.now }
-        ensures { result ≡ left_now (read_left sight.now) (state_of self.now) }
+        ensures value { result ≡ left_now (read_left sight.now) (state_of self.now) }
+        ensures few { result < 2 ^ 37 }
     {
         let width = sight.place.width as u64;
         match self.step {

@@ -1,6 +1,6 @@
 //! The read as a machine.
 
-ghost use Rattle.std.specs.Prelude.{◌≡◌, ℕ, ◌<◌, ◌≤◌, List, length, Some, IsSome, IfSome};
+ghost use Rattle.std.specs.Prelude.{◌≡◌, ℕ, ◌<◌, ◌≤◌, ◌^◌, List, length, Some, IsSome, IfSome};
 ghost use Rattle.nam_verbs.specs.declared.now.Now.TheVariants.{Over};
 ghost use Rattle.nam_verbs.specs.Verb.{address_of};
 ghost use Rattle.nam_verbs.specs.Running.{next_verb, after_found, verbs_left};
@@ -94,7 +94,8 @@ impl Reader {
 
     /// A number of verbs that are to come at the most. After the end there are none.
     pub fn left(&self) -> u64
-        ensures { (seen : List ℕ) → result ≡ verbs_left (running seen self.now) }
+        ensures value { (seen : List ℕ) → result ≡ verbs_left (running seen self.now) }
+        ensures few { result < 2 ^ 37 }
     {
         self.registers.left(&self.sight)
     }

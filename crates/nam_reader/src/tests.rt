@@ -47,7 +47,8 @@ fn reads(
     ensures { reader.new.sight ≡ reader.old.sight }
 {
     for address in expected {
-        if reader.verb() != Some(read(*address)) {
+        let verb = reader.verb()?;
+        if verb != read(*address) {
             return None;
         }
         let found = store.word(*address);
@@ -85,7 +86,12 @@ fn a_locked_version_is_found_in_the_ring(rt: HostRuntime) -> Result<(), AllocErr
     store.set(7, 8);
     store.set(8, 9);
     let mut reader = begun(&store).expect(&rt, "a read");
-    let end = reads(&mut store, &mut reader, &pair(1, 0), &[5, 7, 8, 5, 9, 13, 5]);
+    let end = reads(
+        &mut store,
+        &mut reader,
+        &pair(1, 0),
+        &[5, 7, 8, 5, 9, 13, 5],
+    );
     assert_eq!(rt; end, Some(ReaderEnd::Present));
     assert!(rt; value_of(&reader) == Some(pair(8, 9)));
     store.set(9, FIRST);
@@ -93,7 +99,12 @@ fn a_locked_version_is_found_in_the_ring(rt: HostRuntime) -> Result<(), AllocErr
     store.set(11, 3);
     store.set(12, 4);
     let mut reader = begun(&store).expect(&rt, "a read");
-    let end = reads(&mut store, &mut reader, &pair(1, 0), &[5, 7, 8, 5, 9, 10, 11, 12, 9]);
+    let end = reads(
+        &mut store,
+        &mut reader,
+        &pair(1, 0),
+        &[5, 7, 8, 5, 9, 10, 11, 12, 9],
+    );
     assert_eq!(rt; end, Some(ReaderEnd::Present));
     assert!(rt; value_of(&reader) == Some(pair(3, 4)));
     Ok(())

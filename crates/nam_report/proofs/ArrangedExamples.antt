@@ -1,5 +1,6 @@
 -- The counts of the worked examples' logs fit.
-use Rattle.std.proofs.Common.{◌≡◌, ℕ, ◌+◌, ◌<◌, ◌*◌, ◌^◌, zero, suc, List, [], ◌∷◌, ◌++◌, length, refl, ap, sym, ◌∙◌, subst, arith}
+use Rattle.std.proofs.Common.{◌≡◌, ℕ, ◌+◌, ◌<◌, ◌*◌, ◌^◌, zero, suc, List, [], ◌∷◌, ◌++◌, length, refl, ap, sym}
+use Rattle.std.proofs.Common.{◌∙◌, arith}
 use Rattle.std.specs.Prelude.{replicate}
 use Rattle.std.specs.List.{AllByRecursion}
 use Rattle.std.proofs.lemmas.List.{length-replicate}
@@ -11,25 +12,67 @@ use Rattle.nam_report.specs.ArrangedExamples.{write_skew_logs, again_logs, cause
 use Rattle.nam_report.specs.ArrangedExamples.{tied_logs}
 
 pub first_committer_ready : AreReady first_committer_logs
-first_committer_ready = record { few = omega arith; counts = (record { reads = refl; locks = refl; writes = refl; snaps = refl }, (record { reads = refl; locks = refl; writes = refl; snaps = refl }, tt)) }
+first_committer_ready = record {
+  few = omega arith;
+  counts = (
+    record { reads = refl; locks = refl; writes = refl; snaps = refl },
+    (record { reads = refl; locks = refl; writes = refl; snaps = refl }, tt),
+  );
+}
 
 pub write_skew_ready : AreReady write_skew_logs
-write_skew_ready = record { few = omega arith; counts = (record { reads = refl; locks = refl; writes = refl; snaps = refl }, (record { reads = refl; locks = refl; writes = refl; snaps = refl }, tt)) }
+write_skew_ready = record {
+  few = omega arith;
+  counts = (
+    record { reads = refl; locks = refl; writes = refl; snaps = refl },
+    (record { reads = refl; locks = refl; writes = refl; snaps = refl }, tt),
+  );
+}
 
 pub again_ready : AreReady again_logs
-again_ready = record { few = omega arith; counts = (record { reads = refl; locks = refl; writes = refl; snaps = refl }, (record { reads = refl; locks = refl; writes = refl; snaps = refl }, tt)) }
+again_ready = record {
+  few = omega arith;
+  counts = (
+    record { reads = refl; locks = refl; writes = refl; snaps = refl },
+    (record { reads = refl; locks = refl; writes = refl; snaps = refl }, tt),
+  );
+}
 
 pub cause_ready : AreReady cause_logs
-cause_ready = record { few = omega arith; counts = (record { reads = refl; locks = refl; writes = refl; snaps = refl }, (record { reads = refl; locks = refl; writes = refl; snaps = refl }, (record { reads = refl; locks = refl; writes = refl; snaps = refl }, tt))) }
+cause_ready = record {
+  few = omega arith;
+  counts = (
+    record { reads = refl; locks = refl; writes = refl; snaps = refl },
+    (
+      record { reads = refl; locks = refl; writes = refl; snaps = refl },
+      (record { reads = refl; locks = refl; writes = refl; snaps = refl }, tt),
+    ),
+  );
+}
 
 pub guard_ready : AreReady guard_logs
-guard_ready = record { few = omega arith; counts = (record { reads = refl; locks = refl; writes = refl; snaps = refl }, (record { reads = refl; locks = refl; writes = refl; snaps = refl }, tt)) }
+guard_ready = record {
+  few = omega arith;
+  counts = (
+    record { reads = refl; locks = refl; writes = refl; snaps = refl },
+    (record { reads = refl; locks = refl; writes = refl; snaps = refl }, tt),
+  );
+}
 
 pub unordered_ready : AreReady unordered_logs
-unordered_ready = record { few = omega arith; counts = (record { reads = refl; locks = refl; writes = refl; snaps = refl }, (record { reads = refl; locks = refl; writes = refl; snaps = refl }, tt)) }
+unordered_ready = record {
+  few = omega arith;
+  counts = (
+    record { reads = refl; locks = refl; writes = refl; snaps = refl },
+    (record { reads = refl; locks = refl; writes = refl; snaps = refl }, tt),
+  );
+}
 
 pub tied_ready : AreReady tied_logs
-tied_ready = record { few = omega arith; counts = (record { reads = refl; locks = refl; writes = refl; snaps = refl }, tt) }
+tied_ready = record {
+  few = omega arith;
+  counts = (record { reads = refl; locks = refl; writes = refl; snaps = refl }, tt);
+}
 
 -- ---- logs of any size
 

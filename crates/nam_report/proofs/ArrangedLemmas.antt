@@ -1,5 +1,5 @@
 -- The history of any logs, and that it is an arranged one where they can be arranged.
-use Rattle.std.proofs.Common.{◌≡◌, ℕ, suc, ◌+◌, ◌-◌, ◌<◌, ◌≤◌, max, Bool, true, false, cond, inl, inr, List}
+use Rattle.std.proofs.Common.{◌≡◌, ℕ, suc, ◌-◌, ◌<◌, ◌≤◌, max, Bool, true, false, cond, inl, inr, List}
 use Rattle.std.proofs.Common.{[], ◌∷◌, length, map, refl, ap, sym, ◌∙◌, subst, arith}
 use Rattle.std.specs.Prelude.{IsPermutation, filter}
 use Rattle.std.specs.List.{AllByRecursion, IsDistinct}

@@ -1,10 +1,9 @@
 -- The order of placed commits.
-use Rattle.std.proofs.Common.{◌≡◌, ℕ, ◌+◌, ◌<◌, Bool, true, false, not, ◌&&◌, inl, inr, List, [], ◌∷◌, length, get_or}
+use Rattle.std.proofs.Common.{◌≡◌, ◌+◌, Bool, true, false, not, ◌&&◌, inl, inr, List, [], ◌∷◌, get_or}
 use Rattle.std.proofs.Common.{cond, refl, ap, sym, ◌∙◌, subst, arith}
 use Rattle.std.specs.Prelude.{IsPermutation, filter}
-use Rattle.std.specs.List.{AllByRecursion}
 use Rattle.std.specs.List.Sorted.{IsSortedBy, IsStableBy, ties}
-use Rattle.std.proofs.lemmas.Bool.{cases_Bool, false≢true, true≢false}
+use Rattle.std.proofs.lemmas.Bool.{cases_Bool, false≢true}
 use Rattle.std.proofs.lemmas.Bool.Decides.{nat_tests}
 use Rattle.std.proofs.lemmas.List.Sorted.{IsPermutation-refl, IsPermutation-cons, IsPermutation-swap, IsPermutation-trans}
 use Rattle.si_model.specs.Lists.{Listed, Pairwise}
@@ -73,8 +72,14 @@ ordered_put p (q ∷ qs) h = elim (cases_Bool (is_before q p)) [
   )
   | inr e ↦
       let here = not_after_is p q e in
-      rw e ((here, All-from_listed (NotAfter p) qs (λ x l.
-      not_after_trans p q x here (All-listed (NotAfter q) qs x h.0 l))), h)
+      rw e (
+        (
+          here,
+          All-from_listed (NotAfter p) qs (λ x l.
+              not_after_trans p q x here (All-listed (NotAfter q) qs x h.0 l)),
+        ),
+        h,
+      )
 ]
 
 pub are_ordered : (ps : List Placed) → Pairwise NotAfter (in_order ps)
@@ -85,8 +90,8 @@ permuted_put : (p : Placed) (qs : List Placed) → IsPermutation (p ∷ qs) (put
 permuted_put p [] = IsPermutation-refl (p ∷ [])
 permuted_put p (q ∷ qs) = elim (cases_Bool (is_before q p)) [
   | inl e ↦ rw e (IsPermutation-trans (p ∷ q ∷ qs) (q ∷ p ∷ qs) (q ∷ put_in p qs)
-    (IsPermutation-swap (p ∷ q ∷ qs) (q ∷ p ∷ qs) 0 1 (omega arith) (omega arith) refl)
-    (IsPermutation-cons q (p ∷ qs) (put_in p qs) (permuted_put p qs)))
+      (IsPermutation-swap (p ∷ q ∷ qs) (q ∷ p ∷ qs) 0 1 (omega arith) (omega arith) refl)
+      (IsPermutation-cons q (p ∷ qs) (put_in p qs) (permuted_put p qs)))
   | inr e ↦ rw e (IsPermutation-refl (p ∷ q ∷ qs))
 ]
 
@@ -124,7 +129,7 @@ first_least : (p : Placed) (ps : List Placed) (x : Placed) → Pairwise NotAfter
     → NotAfter p x
 first_least p ps x h l = elim l [
   | inl e ↦ subst (NotAfter p) e (not_after_is p p (not_true (is_before p p)
-    (both (not (is_before p p)) (not (is_before p p)) (tie_self p)).0))
+      (both (not (is_before p p)) (not (is_before p p)) (tie_self p)).0))
   | inr r ↦ All-listed (NotAfter p) ps x h.0 r
 ]
 

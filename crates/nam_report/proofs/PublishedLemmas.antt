@@ -1,10 +1,8 @@
 -- Published commits: their workers, numbers and operations, and how many a snapshot has.
-use Rattle.std.proofs.Common.{◌≡◌, ℕ, suc, ◌+◌, ◌-◌, ◌<◌, ◌≤◌, Bool, false, inl, inr, List, [], ◌∷◌, ◌++◌, length}
-use Rattle.std.proofs.Common.{get_or, take, drop, map, refl, ap, arith, Option, Some, None}
-use Rattle.std.specs.Prelude.{is_some, unwrap_or, IsTrue, slice_index_or}
+use Rattle.std.proofs.Common.{◌≡◌, ℕ, suc, ◌+◌, ◌-◌, ◌<◌, ◌≤◌, Bool, false, inl, inr, List, [], ◌∷◌, ◌++◌}
+use Rattle.std.proofs.Common.{get_or, take, drop, map, refl, arith, Option, Some}
+use Rattle.std.specs.Prelude.{slice_index_or}
 use Rattle.std.specs.List.{AllByRecursion, IsDistinct}
-use Rattle.std.proofs.lemmas.List.{length-append}
-use Rattle.std.proofs.lemmas.Bool.{false≢true}
 use Rattle.std.proofs.lemmas.Bool.Decides.{nat_tests}
 use Rattle.si_model.specs.declared.row.Item.{Item}
 use Rattle.si_model.specs.declared.op.Op.{Op}
@@ -17,11 +15,9 @@ use Rattle.si_model.specs.declared.log.Event.TheVariants.{Tried}
 use Rattle.si_model.specs.declared.log.Log.{Log}
 use Rattle.si_model.specs.Lists.{Listed, Pairwise}
 use Rattle.si_model.specs.History.{stamp_of, same_stamp}
-use Rattle.si_model.specs.Tells.{Tell, tells_from, tells_of, ops_in, reads_in, locks_in, writes_in, snaps_in, prefix_in}
-use Rattle.si_model.specs.Tells.{number_in, commit_in, last_number}
+use Rattle.si_model.specs.Tells.{Tell, tells_from, tells_of, ops_in, reads_in, locks_in, writes_in, snaps_in}
 use Rattle.si_model.specs.Commits.{Published, published_in, published_at, published_of, published_from}
-use Rattle.si_model.specs.Snapshots.{sum_above}
-use Rattle.si_model.specs.Consistency.{OwnsSnapshot, NumbersFollow, AreOwned, IsWithin}
+use Rattle.si_model.specs.Consistency.{NumbersFollow, AreOwned}
 use Rattle.si_model.proofs.ListLemmas.{All-listed, All-from_listed, All-append}
 
 -- ---- the worker

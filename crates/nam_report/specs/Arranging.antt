@@ -59,4 +59,5 @@ ArrangedLaw = (start : ℕ) (jobs : List (List Op)) (tss : List (List Tell)) →
 
 -- the history of any logs has exactly the commits that they publish
 abbrev pub PublishedLaw : Type 0
-PublishedLaw = (start : ℕ) (tss : List (List Tell)) → IsPermutation (map entry_of (published_by tss)) (arranged start tss)
+PublishedLaw = (start : ℕ) (tss : List (List Tell))
+    → IsPermutation (map entry_of (published_by tss)) (arranged start tss)

@@ -1,6 +1,6 @@
 -- The depths of placed commits, and how they settle.
 use Rattle.std.specs.Prelude.{ℕ, suc, ◌-◌, ◌<◌, ◌≤◌, ◌≡◌, ◌==◌, ◌&&◌, ◌⊎◌, max, Bool, IsTrue, if◌then◌else◌, List, []}
-use Rattle.std.specs.Prelude.{◌∷◌, map, slice_index_or, unwrap_or, IsPermutation}
+use Rattle.std.specs.Prelude.{◌∷◌, map, slice_index_or, unwrap_or}
 use Rattle.std.specs.List.{list_any, AllByRecursion}
 use Rattle.std.specs.declared.cmp.Ordering.{Ordering}
 use Rattle.std.specs.Ordering.{nat_cmp, ordering_then}
@@ -10,7 +10,7 @@ use Rattle.si_model.specs.declared.row.Item.{Item}
 use Rattle.si_model.specs.declared.op.Op.{Op}
 use Rattle.si_model.specs.declared.log.Stamp.{Stamp}
 use Rattle.si_model.specs.declared.report.CommitLine.{CommitLine}
-use Rattle.si_model.specs.Lists.{Listed, Pairwise}
+use Rattle.si_model.specs.Lists.{Listed}
 use Rattle.si_model.specs.Rows.{same_key, item_key, writes_key}
 use Rattle.si_model.specs.Evaluation.{guard_keys}
 use Rattle.si_model.specs.History.{stamp_of, same_stamp}

@@ -1,6 +1,6 @@
 -- The entries of a history, read off the flat lists of logs.
-use Rattle.std.specs.Prelude.{ℕ, suc, ◌-◌, ◌^◌, ◌<◌, ◌≤◌, ◌≡◌, min, true, false, List, [], ◌∷◌, ◌++◌, length, take, drop}
-use Rattle.std.specs.Prelude.{map, slice_index, slice_index_or, Option, Some}
+use Rattle.std.specs.Prelude.{ℕ, suc, ◌-◌, ◌^◌, ◌<◌, ◌≤◌, ◌≡◌, min, true, false, List, [], ◌∷◌, ◌++◌, length, take}
+use Rattle.std.specs.Prelude.{drop, map, slice_index, slice_index_or, Option, Some}
 use Rattle.std.specs.Borrow.{Bor}
 use Rattle.std.specs.List.Sorted.{IsNonDecreasingBy}
 use Rattle.si_model.specs.declared.row.Item.{Item}

@@ -73,13 +73,11 @@ fn log(alloc: Global, events: Vec<Event>, writes: Vec<Item>, snaps: Vec<Snapshot
     }
 }
 
-fn get(key: u64) -> Op
-{
+fn get(key: u64) -> Op {
     Op::Get { table: 0, key }
 }
 
-fn put(key: u64, word: u64) -> Op
-{
+fn put(key: u64, word: u64) -> Op {
     Op::Put {
         table: 0,
         key,
@@ -87,8 +85,7 @@ fn put(key: u64, word: u64) -> Op
     }
 }
 
-fn add(key: u64, up: bool, by: u64) -> Op
-{
+fn add(key: u64, up: bool, by: u64) -> Op {
     Op::Add {
         table: 0,
         key,
@@ -98,8 +95,7 @@ fn add(key: u64, up: bool, by: u64) -> Op
     }
 }
 
-fn need(key: u64, least: u64) -> Op
-{
+fn need(key: u64, least: u64) -> Op {
     Op::Need {
         table: 0,
         key,
@@ -148,8 +144,7 @@ fn read_again(
     Ok(log(alloc, events, Vec::new(alloc), snaps))
 }
 
-fn first_committer_jobs(alloc: Global) -> Result<Vec<Vec<Op>>, AllocError>
-{
+fn first_committer_jobs(alloc: Global) -> Result<Vec<Vec<Op>>, AllocError> {
     let first = vec![in alloc; add(0, true, 5)]?;
     let second = vec![in alloc; add(0, true, 7)]?;
     Ok(vec![in alloc; first, second]?)
@@ -175,8 +170,7 @@ fn first_committer_logs(alloc: Global) -> Result<Vec<Log>, AllocError>
     Ok(vec![in alloc; first, second]?)
 }
 
-fn write_skew_jobs(alloc: Global) -> Result<Vec<Vec<Op>>, AllocError>
-{
+fn write_skew_jobs(alloc: Global) -> Result<Vec<Vec<Op>>, AllocError> {
     let first = vec![in alloc; need(0, 60), need(1, 60), add(0, false, 60)]?;
     let second = vec![in alloc; need(0, 60), need(1, 60), add(1, false, 60)]?;
     Ok(vec![in alloc; first, second]?)
@@ -190,8 +184,7 @@ fn write_skew_logs(alloc: Global) -> Result<Vec<Log>, AllocError>
     Ok(vec![in alloc; first, second]?)
 }
 
-fn again_jobs(alloc: Global) -> Result<Vec<Vec<Op>>, AllocError>
-{
+fn again_jobs(alloc: Global) -> Result<Vec<Vec<Op>>, AllocError> {
     let first = vec![in alloc; get(0)]?;
     let second = vec![in alloc; add(0, true, 1)]?;
     Ok(vec![in alloc; first, second]?)
@@ -205,8 +198,7 @@ fn again_logs(alloc: Global) -> Result<Vec<Log>, AllocError>
     Ok(vec![in alloc; first, second]?)
 }
 
-fn cause_jobs(alloc: Global) -> Result<Vec<Vec<Op>>, AllocError>
-{
+fn cause_jobs(alloc: Global) -> Result<Vec<Vec<Op>>, AllocError> {
     let first = vec![in alloc; add(0, true, 1)]?;
     let second = vec![in alloc; get(0), put(1, 9)]?;
     let third = vec![in alloc; get(0), get(1)]?;
@@ -222,8 +214,7 @@ fn cause_logs(alloc: Global) -> Result<Vec<Log>, AllocError>
     Ok(vec![in alloc; first, second, third]?)
 }
 
-fn guard_jobs(alloc: Global) -> Result<Vec<Vec<Op>>, AllocError>
-{
+fn guard_jobs(alloc: Global) -> Result<Vec<Vec<Op>>, AllocError> {
     let first = vec![in alloc; Op::Guard { table: 0, key: 0 }, put(1, 1)]?;
     let second = vec![in alloc; put(0, 9)]?;
     Ok(vec![in alloc; first, second]?)
@@ -380,8 +371,7 @@ fn ends_of(alloc: Global, jobs: &[Vec<Op>], logs: &[Log]) -> Result<String, Allo
     Ok(text)
 }
 
-fn sized_jobs(alloc: Global) -> Result<Vec<Vec<Op>>, AllocError>
-{
+fn sized_jobs(alloc: Global) -> Result<Vec<Vec<Op>>, AllocError> {
     let job = vec![in alloc; put(0, 0)]?;
     Ok(vec![in alloc; job]?)
 }

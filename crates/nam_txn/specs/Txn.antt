@@ -1,5 +1,5 @@
 -- A transaction and where its call stands: as a value, and by its registers.
-use Rattle.std.specs.Prelude.{◌≡◌, ℕ, ◌<◌, ◌≤◌, List, [], length, true, Option, Some, None, IsNone, if◌then◌else◌}
+use Rattle.std.specs.Prelude.{◌≡◌, ℕ, ◌<◌, ◌≤◌, List, [], length, true, Option, Some, None, IsNone, if◌then◌else◌, Bool, false}
 use Rattle.si_model.specs.declared.op.Op.{Op}
 use Rattle.si_model.specs.declared.op.Op.TheVariants as op
 use Rattle.si_model.specs.Evaluation.{passes, op_key}
@@ -34,7 +34,7 @@ use Rattle.nam_protocol.specs.Txn.{Stepped, at, over, with_own}
 use Rattle.nam_protocol.specs.TxnCalls.{txn_verb, txn_after}
 use Rattle.nam_protocol.specs.Bound.{txn_left}
 use Rattle.nam_protocol.specs.TxnFits.{StateFits, OpStands, TxnPointFits, AnswerFits}
-use Rattle.nam_commit.specs.Commits.{Commits, CommitsFit, CommitsStand, call_of}
+use Rattle.nam_commit.specs.Commits.{has_published as published, Commits, CommitsFit, CommitsStand, call_of}
 use Rattle.nam_txn.specs.Walk.{IsWalk}
 use Rattle.nam_txn.specs.declared.registers.Registers.{Registers}
 use Rattle.nam_txn.specs.declared.step.Step.{Step}
@@ -131,6 +131,15 @@ Runs _ = ⊥
 abbrev pub Rests : Option (Now TxnPoint TxnAnswer) → Type 0
 Rests (Some (At at)) = ⊥
 Rests _ = Unit {0}
+
+-- a commit runs, and one that has published
+abbrev pub is_committing : Option (Now TxnPoint TxnAnswer) → Bool
+is_committing (Some (At (Committing at))) = true
+is_committing _ = false
+
+abbrev pub has_published : Option (Now TxnPoint TxnAnswer) → Bool
+has_published (Some (At (Committing at))) = published (At at)
+has_published _ = false
 
 -- its answer, where it was answered
 abbrev pub answer_in : Option (Now TxnPoint TxnAnswer) → Option TxnAnswer

@@ -1,6 +1,6 @@
 //! Transactions.
 
-ghost use Rattle.std.specs.Prelude.{◌≡◌, ◌<◌, ◌≤◌, ◌↔◌, [], length, slice_index, Some, None, IsTrue, IfSome};
+ghost use Rattle.std.specs.Prelude.{◌≡◌, ◌<◌, ◌≤◌, ◌+◌, ◌↔◌, [], length, slice_index, Some, None, IsTrue, IfSome, true};
 ghost use Rattle.std.specs.Prelude.{if◌then◌else◌};
 ghost use Rattle.si_model.specs.Rows.{key_at, writes_key};
 ghost use Rattle.si_model.specs.Evaluation.{unwritten};
@@ -12,6 +12,7 @@ ghost use Rattle.nam_protocol.specs.Operations.{own_value};
 ghost use Rattle.nam_protocol.specs.Txn.{new_txn};
 ghost use Rattle.nam_protocol.specs.TxnCalls.{txn_ask};
 ghost use Rattle.nam_protocol.specs.TxnFits.{TxnCallFits, txn_call_bound};
+ghost use Rattle.nam_txn.specs.Txn.{has_published, is_committing};
 ghost use Rattle.nam_txn.specs.Txn.{IsAt, IsTxnOf, CanBegin, Runs, Rests, next_verb, verbs_left, after_of, answer_in};
 
 use crate::keys::place_written;
@@ -113,6 +114,30 @@ impl Txn {
             Step::Resting | Step::Answered => false,
             _ => true,
         }
+    }
+
+    /// Whether a commit runs.
+    #[inline]
+    pub fn is_committing(&self) -> bool
+        ensures { result ≡ is_committing self.now.call }
+    {
+        matches!(self.registers.step, Step::Committing)
+    }
+
+    /// Whether a commit runs that has published: only guards' headers, or the intent's end, are to be written.
+    #[inline]
+    pub fn has_published(&self) -> bool
+        ensures { result ≡ has_published self.now.call }
+    {
+        self.is_committing() && self.registers.committer.has_published()
+    }
+
+    /// The number of the commit that runs.
+    pub fn number(&self) -> u64
+        requires { is_committing self.now.call ≡ true }
+        ensures { result ≡ self.now.state.last + 1 }
+    {
+        self.registers.state.last + 1
     }
 
     /// The answer to the last call, and none exactly where a call runs or none was asked since the begin.

@@ -23,7 +23,7 @@ returns-clause-falls c =
     let a = c.self.inside in
     let seen = c.args.seen.now in
     let stands = subst (λ (reads : Reads). IsSome (next_verb (running seen reads))) (sym c.self.view_is)
-        c.requires.stands in
+    c.requires.stands in
     rw (← c.self.view_is)
     (fewer_left a.sight seen c.args.found
     (verb_from (running seen (record { sight = a.sight; state = state_of a.registers })))

@@ -1,9 +1,8 @@
-use Rattle.std.proofs.Common.{◌≡◌, ◌≤◌, ◌<◌, ◌+◌, ◌-◌, ◌^◌, ℕ, List, suc, length, ap, sym, ◌∙◌, subst, arith}
+use Rattle.std.proofs.Common.{◌≡◌, ◌≤◌, ◌<◌, ◌+◌, ◌-◌, ◌^◌, List, suc, length, ap, sym, ◌∙◌, subst, arith}
 use Rattle.std.specs.List.{AllByRecursion}
 use Rattle.std.proofs.lemmas.List.Elements.{All-from_recursion}
 use Rattle.si_model.proofs.ListLemmas.{All-listed, All-from_listed}
 use Rattle.nam_report.specs.declared.arranging.placed.Placed.{Placed}
-use Rattle.nam_report.specs.Depths.{with_next_depths}
 use Rattle.nam_report.specs.Arranging.{after_rounds}
 use Rattle.nam_report.proofs.DepthLemmas.{low_round, rounds_fixed}
 use Rattle.nam_report.proofs.arranging.depths.settle.Goals as goal

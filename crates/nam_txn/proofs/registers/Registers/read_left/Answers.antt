@@ -8,7 +8,7 @@ pub returns-clause-value : goal.returns-clause-value
 returns-clause-value c =
     let reader = c.args.self.now.reader in
     let left : c.left.result ≡ read_left reader.sight (point_of reader.state) =
-    c.left.ensures [] ∙ ap (left_now (read_left reader.sight)) c.requires.0 in
+    c.left.ensures.value [] ∙ ap (left_now (read_left reader.sight)) c.requires.0 in
     let within = c.requires.1 in
     let least = c.min.ensures in
     grind (arith, left, within, least)

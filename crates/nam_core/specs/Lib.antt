@@ -1,0 +1,4 @@
+pub mod Opening
+pub mod Turn
+pub mod Audit
+pub mod World

@@ -1,0 +1,10 @@
+pub mod LogGrows
+pub mod ItemsFit
+pub mod ClientSo
+pub mod AnswersKept
+pub mod ScanKept
+pub mod WordKept
+pub mod ClosedKept
+pub mod AuditLemmas
+pub mod WorldKept
+pub mod ReportLemmas

@@ -1,0 +1,4 @@
+pub mod LogLaw
+pub mod AuditLaw
+pub mod RunLaw
+pub mod ReportLaw

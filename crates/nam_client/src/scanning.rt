@@ -1,6 +1,6 @@
 //! Scans: the rows of a range are gathered position by position, and listed in order of keys.
 
-ghost use Rattle.std.specs.Prelude.{◌≡◌, ◌<◌, ◌≤◌, ◌+◌, ◌-◌, ◌^◌, IsSome, Some, true, [], map, length};
+ghost use Rattle.std.specs.Prelude.{◌≡◌, ◌<◌, ◌≤◌, ◌+◌, ◌-◌, ◌^◌, IsSome, Some, true, [], ◌∷◌, map, length};
 ghost use Rattle.nam_verbs.specs.Running.{next_verb};
 ghost use Rattle.nam_calls.specs.Words.{capacity_of};
 ghost use Rattle.nam_scan.specs.Scan.{Scanning as ScanValue, running};
@@ -154,6 +154,16 @@ fn sort_rows(rows: &mut RoomyList<Scanned>)
     rows.sort_unstable_by_key(|row| (row.key, row.position));
 }
 
+/// Lists a row that was read. Its value is copied here, since a local costs its function at each call.
+#[inline(never)]
+fn list_row(log: &mut RunningLog, table: u32, row: &Scanned)
+    requires { 0 < log.old.room.reads }
+    ensures log { log.new.log ≡ with_reads log.old.log (item_of table row.now ∷ []) }
+    ensures room { log.new.room ≡ record log.old.room { reads = log.old.room.reads - 1 } }
+{
+    log.list_read(table, row.key, &Some(row.value.copy()));
+}
+
 /// Lists rows that were read.
 fn list_items(log: &mut RunningLog, table: u32, rows: &[Scanned])
     requires { length rows.now ≤ log.old.room.reads }
@@ -161,7 +171,7 @@ fn list_items(log: &mut RunningLog, table: u32, rows: &[Scanned])
     ensures room { log.new.room ≡ record log.old.room { reads = log.old.room.reads - length rows.now } }
 {
     for row in rows {
-        log.list_row(table, row.key, &row.value);
+        list_row(log, table, row);
     }
 }
 

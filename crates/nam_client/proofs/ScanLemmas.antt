@@ -22,7 +22,7 @@ use Rattle.nam_client.specs.Scanning.{RiseWithin, OfScan, CanListRows, HasCome, 
 
 open_if : {A : Type 0} (opens : Bool) (a : A) → IsSome (if opens then Some a else None) → opens ≡ true
 open_if true a some = refl
-open_if false a some = absurd some
+open_if false a some = absurd (cc)
 
 pub opened_by : (a : Registers) → IsSome (client_of a).txn → a.is_open ≡ true
 opened_by a some = open_if a.is_open _ some

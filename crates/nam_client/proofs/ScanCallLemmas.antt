@@ -1,5 +1,5 @@
 -- What an answer of a scan does is what the client does.
-use Rattle.std.proofs.Common.{◌≡◌, ℕ, ◌+◌, Bool, true, false, List, Option, Some, None, if◌then◌else◌, refl, sym, ap, ◌∙◌}
+use Rattle.std.proofs.Common.{◌≡◌, ℕ, ◌+◌, Bool, true, false, List, Option, Some, None, if◌then◌else◌, refl}
 use Rattle.nam_verbs.specs.declared.now.Now.{Now}
 use Rattle.nam_verbs.specs.declared.now.Now.TheVariants.{At, Over}
 use Rattle.nam_catalog.specs.declared.shape.Shape.{Shape}
@@ -15,7 +15,7 @@ use Rattle.nam_protocol.specs.declared.client.ClientState.{ClientState}
 use Rattle.nam_protocol.specs.declared.client.Open.{Open}
 use Rattle.nam_protocol.specs.Client.{client_after}
 use Rattle.nam_protocol.specs.Operations.{own_value}
-use Rattle.nam_protocol.specs.Scan.{position_of, scan_after as point_after, scan_read, scan_skip}
+use Rattle.nam_protocol.specs.Scan.{position_of, scan_after as point_after, scan_skip}
 use Rattle.nam_protocol.specs.ScanCall.{on_scan, on_skip, scan_listed, with_gathered}
 use Rattle.nam_protocol.specs.Telling.{go}
 use Rattle.nam_scan.specs.Scan.{Scanning as ScanValue}

@@ -1,5 +1,5 @@
 -- The rows that a scan gathers, and the room for them.
-use Rattle.std.proofs.Common.{◌≡◌, ℕ, zero, suc, ◌+◌, ◌-◌, ◌^◌, ◌<◌, ◌≤◌, min, Bool, true, false, List, [], ◌∷◌, ◌++◌, length}
+use Rattle.std.proofs.Common.{◌≡◌, ℕ, zero, suc, ◌+◌, ◌^◌, ◌<◌, ◌≤◌, Bool, true, false, List, [], ◌∷◌, ◌++◌, length}
 use Rattle.std.proofs.Common.{Option, Some, None, if◌then◌else◌, refl, arith}
 use Rattle.std.specs.Prelude.{IsSome, slice_index}
 use Rattle.std.specs.List.{AllByRecursion}
@@ -16,7 +16,7 @@ use Rattle.nam_protocol.specs.declared.client.Scanned.{Scanned}
 use Rattle.nam_scan.specs.Scan.{Scanning as ScanValue}
 use Rattle.nam_client.specs.declared.registers.Registers.{Registers}
 use Rattle.nam_client.specs.Registers.{client_of}
-use Rattle.nam_client.specs.Scanning.{RiseWithin, OfScan, CanListRows, HasCome, HasLeft, HasAnswered}
+use Rattle.nam_client.specs.Scanning.{RiseWithin, OfScan, HasCome, HasLeft, HasAnswered}
 
 -- 1. A transaction is open, and its table has positions
 

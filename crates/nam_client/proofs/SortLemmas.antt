@@ -266,11 +266,10 @@ same_cmp : (m n : ℕ) → m ≡ n → nat_cmp m n ≡ Equal
 same_cmp m n e = grind (arith, nat_tests)
 
 at_most_from : (x y : Scanned) → is_lt (by_place (place_of y) (place_of x)) ≡ false → AtMost x y
-at_most_from x y h =
-    (
-      not_less y.key x.key (first_not_less _ _ h),
-      λ e. not_less y.position x.position (second_not_less _ _ (same_cmp y.key x.key (sym e)) h),
-    )
+at_most_from x y h = (
+  not_less y.key x.key (first_not_less _ _ h),
+  λ e. not_less y.position x.position (second_not_less _ _ (same_cmp y.key x.key (sym e)) h),
+)
 
 keeps_from_sort : (rs : List Scanned) → IsSortedByKey place_of by_place rs → Keeps rs
 keeps_from_sort [] h = tt
@@ -304,8 +303,7 @@ above_from x (r ∷ rs) h none =
     let sum = sum_by-cons (one_at x.position) r rs in
     let first : one_at x.position r ≡ 0 = omega arith in
     let other : x.position ≢ r.position =
-    λ e. let one : one_at x.position r ≡ 1 = if_same x.position r.position 1 0 e in omega arith in
-    (
+    λ e. let one : one_at x.position r ≡ 1 = if_same x.position r.position 1 0 e in omega arith in (
       (h.0.0, λ e. let least = h.0.1 e in omega (arith, other)),
       above_from x rs h.1 (omega arith),
     )

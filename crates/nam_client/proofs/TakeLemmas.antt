@@ -1,11 +1,9 @@
 -- What an answer of a scan does keeps the room, and is what the client does.
-use Rattle.std.proofs.Common.{◌≡◌, ℕ, zero, suc, ◌+◌, ◌-◌, ◌^◌, ◌<◌, ◌≤◌, min, Bool, true, false, List, [], ◌∷◌, ◌++◌, length, map}
-use Rattle.std.proofs.Common.{Option, Some, None, if◌then◌else◌, refl, sym, ap, ◌∙◌, subst, arith, inl, inr}
-use Rattle.std.specs.Prelude.{IsSome, IsNone}
+use Rattle.std.proofs.Common.{◌≡◌, ℕ, ◌+◌, ◌^◌, ◌<◌, ◌≤◌, min, Bool, true, false, List, [], ◌∷◌, ◌++◌, length, map}
+use Rattle.std.proofs.Common.{Option, Some, None, if◌then◌else◌, refl, ap, ◌∙◌, arith, inl, inr}
 use Rattle.std.proofs.lemmas.Bool.{cases_lt, false≢true}
 use Rattle.nam_verbs.specs.declared.now.Now.{Now}
 use Rattle.nam_verbs.specs.declared.now.Now.TheVariants.{At, Over}
-use Rattle.nam_verbs.specs.Now.{end_now}
 use Rattle.nam_catalog.specs.declared.bounds.TheConstants.{MOST_CAPACITY}
 use Rattle.nam_catalog.specs.declared.shape.Shape.{Shape}
 use Rattle.nam_layout.proofs.TestLemmas.{if_less, if_not_less}
@@ -18,9 +16,9 @@ use Rattle.nam_protocol.specs.declared.scan.ScanAnswer.{ScanAnswer}
 use Rattle.nam_protocol.specs.declared.scan.ScanAnswer.TheVariants as scan_answer
 use Rattle.nam_protocol.specs.declared.client.Scanned.{Scanned}
 use Rattle.nam_protocol.specs.Operations.{own_value}
-use Rattle.nam_protocol.specs.Scan.{position_of, scan_read, scan_skip}
+use Rattle.nam_protocol.specs.Scan.{position_of}
 use Rattle.nam_protocol.specs.ScanCall.{inserted, sorted_onto, item_of, scanned_items}
-use Rattle.nam_scan.specs.Scan.{Scanning as ScanValue, IsScanOf, goes_on, position_after}
+use Rattle.nam_scan.specs.Scan.{Scanning as ScanValue, IsScanOf, goes_on}
 use Rattle.nam_txn.specs.Txn.{Transacting}
 use Rattle.nam_client.specs.declared.registers.Registers.{Registers}
 use Rattle.nam_client.specs.declared.registers.Spare.{Spare}
@@ -30,7 +28,7 @@ use Rattle.nam_client.specs.Registers.{call_of}
 use Rattle.nam_client.specs.Room.{HasRoom, ScanStands}
 use Rattle.nam_client.specs.Fits.{HandFits}
 use Rattle.nam_client.specs.Scanning.{RiseWithin, Gathers, gathered, rows_listed, scan_failed, with_scan, after_skip, left_at}
-use Rattle.nam_client.specs.Scanning.{after_key, after_scan, IsOver}
+use Rattle.nam_client.specs.Scanning.{after_scan, IsOver}
 use Rattle.nam_client.proofs.ScanLemmas.{rise_grows, rise_push, rise_few}
 
 -- 1. As many items as rows

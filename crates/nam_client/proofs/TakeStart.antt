@@ -1,6 +1,6 @@
 -- The scan that runs takes a word.
-use Rattle.std.proofs.Common.{◌≡◌, ℕ, ◌+◌, ◌-◌, ◌==◌, ◌<◌, ◌≤◌, Bool, true, false, List, length, ◌^◌, min, Option, Some, None, if◌then◌else◌, refl, sym, ap, ◌∙◌, subst, arith}
-use Rattle.std.specs.Prelude.{IsSome, IsNone, is_some}
+use Rattle.std.proofs.Common.{◌≡◌, ℕ, ◌+◌, ◌-◌, ◌==◌, ◌<◌, ◌≤◌, Bool, true, false, List, Option, Some, if◌then◌else◌, refl, sym, ap, ◌∙◌, subst, arith}
+use Rattle.std.specs.Prelude.{IsNone, is_some}
 use Rattle.nam_verbs.specs.declared.now.Now.{Now}
 use Rattle.nam_verbs.specs.declared.now.Now.TheVariants.{At, Over}
 use Rattle.nam_verbs.specs.Now.{end_now}
@@ -18,19 +18,17 @@ use Rattle.nam_protocol.specs.declared.scan.ScanAnswer.TheVariants as scan_answe
 use Rattle.nam_protocol.specs.declared.client.Answer.{Answer}
 use Rattle.nam_protocol.specs.declared.client.CallPoint.{CallPoint}
 use Rattle.nam_protocol.specs.declared.client.CallPoint.TheVariants.{Scanning}
-use Rattle.nam_protocol.specs.declared.client.ClientState.{ClientState}
 use Rattle.nam_protocol.specs.Client.{client_after}
 use Rattle.nam_protocol.specs.Own.{IsOpenNow}
 use Rattle.nam_protocol.specs.Scan.{position_of, in_range, scan_after as point_after, on_scan_read}
-use Rattle.nam_protocol.specs.ScanCall.{on_scan}
-use Rattle.nam_scan.specs.Scan.{Scanning as ScanValue, ScanningFits, StandsAt, IsScanOf, goes_on, position_after, running}
+use Rattle.nam_scan.specs.Scan.{Scanning as ScanValue, ScanningFits, IsScanOf, goes_on, position_after, running}
 use Rattle.nam_client.specs.declared.registers.Registers.{Registers}
 use Rattle.nam_client.specs.declared.registers.Step.TheVariants as step
 use Rattle.nam_client.specs.Registers.{call_of, client_of, open_of}
-use Rattle.nam_client.specs.Room.{Holds, ScanStands, Counts, owed_reads}
+use Rattle.nam_client.specs.Room.{Holds, Counts, owed_reads}
 use Rattle.nam_client.specs.Fits.{IsClientOf, IsScanIn, HandFits}
-use Rattle.nam_client.specs.Scanning.{RiseWithin, Gathers, after_scan, CanListRows, HasCome, HasAnswered, IsOver}
-use Rattle.nam_client.proofs.ScanLemmas.{opened_by, few_positions, rise_few, rise_grows}
+use Rattle.nam_client.specs.Scanning.{RiseWithin, Gathers, after_scan, HasAnswered, IsOver}
+use Rattle.nam_client.proofs.ScanLemmas.{opened_by, few_positions, rise_grows}
 use Rattle.nam_client.proofs.TakeLemmas.{Goes, IsGood, good_after}
 use Rattle.nam_client.proofs.ScanCallLemmas.{after_is, client_goes}
 
@@ -162,8 +160,7 @@ module _ (shape : Shape) (a : Registers) (scan : ScanValue) (of : IsClientOf sha
 
       pub comes : HasAnswered shape (record a { scan = Some next }) position next
       comes =
-          let g = next_goes in
-          (
+          let g = next_goes in (
             record {
               of = next_of;
               position_is = there ∙ sym stays;

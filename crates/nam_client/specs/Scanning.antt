@@ -1,5 +1,5 @@
 -- What a scan gathers, and what its answers do with the registers.
-use Rattle.std.specs.Prelude.{◌≡◌, ℕ, ◌+◌, ◌-◌, ◌<◌, ◌≤◌, ◌^◌, min, true, if◌then◌else◌, List, [], ◌∷◌, ◌++◌, length}
+use Rattle.std.specs.Prelude.{◌≡◌, ℕ, ◌+◌, ◌-◌, ◌<◌, ◌≤◌, ◌^◌, min, if◌then◌else◌, List, [], ◌∷◌, ◌++◌, length}
 use Rattle.std.specs.Prelude.{Option, Some, None}
 use Rattle.si_model.specs.Rows.{key_at, writes_key}
 use Rattle.si_model.specs.declared.log.Outcome.{Outcome}
@@ -17,7 +17,7 @@ use Rattle.nam_protocol.specs.Log.{with_reads}
 use Rattle.nam_protocol.specs.Operations.{own_value}
 use Rattle.nam_protocol.specs.Scan.{scan_read, scan_skip}
 use Rattle.nam_protocol.specs.ScanCall.{scanned_items}
-use Rattle.nam_scan.specs.Scan.{Scanning as ScanValue, IsScanOf, goes_on, HasKey, HasKeyOrRow}
+use Rattle.nam_scan.specs.Scan.{Scanning as ScanValue, IsScanOf, goes_on, HasKeyOrRow}
 use Rattle.nam_client.specs.declared.registers.Registers.{Registers}
 use Rattle.nam_client.specs.declared.registers.Step.TheVariants as step
 use Rattle.nam_client.specs.declared.registers.Told.{Told}

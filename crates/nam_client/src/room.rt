@@ -38,10 +38,7 @@ fn room_for(a: &Registers, spare: &Spare) -> Option<LogRoom>
 {
     let asked = if a.is_open { a.attempt.ops_so_far } else { 0 };
     let keys = spare.ops.checked_add(asked)?;
-    let snaps = spare
-        .attempts
-        .checked_add(spare.tidies)?
-        .checked_add(1)?;
+    let snaps = spare.attempts.checked_add(spare.tidies)?.checked_add(1)?;
     Some(LogRoom {
         events: snaps.checked_add(2)?,
         reads: keys,

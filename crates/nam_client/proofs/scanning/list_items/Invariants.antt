@@ -1,4 +1,4 @@
-use Rattle.std.proofs.Common.{◌≡◌, ◌+◌, ◌-◌, ◌++◌, map, take}
+use Rattle.std.proofs.Common.{◌≡◌, ◌-◌, map, take}
 use Rattle.nam_protocol.specs.Log.{with_reads}
 use Rattle.nam_protocol.specs.ScanCall.{item_of}
 use Rattle.nam_client.proofs.scanning.list_items.Given as goal

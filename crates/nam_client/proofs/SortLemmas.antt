@@ -1,6 +1,8 @@
 -- Rows of rising positions that are sorted by key and position are those inserted one after another.
-use Rattle.std.proofs.Common.{◌≡◌, ◌≢◌, ℕ, zero, suc, ◌+◌, ◌<◌, ◌≤◌, ◌==◌, false, if◌then◌else◌, List, [], ◌∷◌, length, get_or}
-use Rattle.std.proofs.Common.{Contains, sum_by, nat_cmp, is_lt, refl, sym, ap, ◌∙◌, arith, ◌⊎◌, inl, inr, subst, suc-le-suc, zero-le}
+use Rattle.std.proofs.Common.{◌≡◌, ◌≢◌, ℕ, zero, suc, ◌+◌, ◌<◌, ◌≤◌, ◌==◌, false, if◌then◌else◌, List, [], ◌∷◌}
+use Rattle.std.proofs.Common.{length, get_or}
+use Rattle.std.proofs.Common.{Contains, sum_by, nat_cmp, is_lt, refl, sym, ap, ◌∙◌, arith, ◌⊎◌, inl, inr, subst}
+use Rattle.std.proofs.Common.{suc-le-suc, zero-le}
 use Rattle.std.specs.declared.cmp.Ordering.TheVariants.{Less, Equal, Greater}
 use Rattle.std.specs.declared.cmp.Ordering.{Ordering}
 use Rattle.std.specs.Ordering.{ordering_then}
@@ -318,7 +320,8 @@ pub sorted_is : (last : ℕ) (rows sorted : List Scanned) → RiseWithin 0 last 
     → IsSortedByKey place_of by_place sorted → sorted ≡ sorted_onto [] rows
 sorted_is last rows sorted rise permuted up =
     let once : Once sorted =
-    λ p. subst (λ n. n ≤ 1) (sym (sum_by-IsPermutation (one_at p) rows sorted permuted)) (at_most_one p 0 last rows rise) in
+    λ p. subst (λ n. n ≤ 1) (sym (sum_by-IsPermutation (one_at p) rows sorted permuted))
+    (at_most_one p 0 last rows rise) in
     same_rows sorted (sorted_onto [] rows) (rises_once sorted (keeps_from_sort sorted up) once)
     (rises_sorted 0 last [] rows tt tt rise)
     (λ x i. in_sorted x [] rows (inr (in_permuted sorted rows x (IsPermutation-sym rows sorted permuted) i)))

@@ -1,5 +1,6 @@
 -- The scan that runs takes a word.
-use Rattle.std.proofs.Common.{◌≡◌, ℕ, ◌+◌, ◌-◌, ◌==◌, ◌<◌, ◌≤◌, Bool, true, false, List, Option, Some, if◌then◌else◌, refl, sym, ap, ◌∙◌, subst, arith}
+use Rattle.std.proofs.Common.{◌≡◌, ℕ, ◌+◌, ◌-◌, ◌==◌, ◌<◌, ◌≤◌, Bool, true, false, List, Option, Some, if◌then◌else◌}
+use Rattle.std.proofs.Common.{refl, sym, ap, ◌∙◌, subst, arith}
 use Rattle.std.specs.Prelude.{IsNone, is_some}
 use Rattle.nam_verbs.specs.declared.now.Now.{Now}
 use Rattle.nam_verbs.specs.declared.now.Now.TheVariants.{At, Over}
@@ -84,7 +85,8 @@ module _ (shape : Shape) (a : Registers) (scan : ScanValue) (of : IsClientOf sha
   position_is : position_of place ≡ scan.position
   position_is = let there = rw point_is at fits.at in there.0
 
-  counts : Counts (open_of a) scan.range.capacity (Some (At (Scanning scan.range.table scan.range.low scan.range.high place)))
+  counts : Counts (open_of a) scan.range.capacity
+      (Some (At (Scanning scan.range.table scan.range.low scan.range.high place)))
   counts = let owed : owed_reads a ≡ scan.range.capacity = rw (call_is, is) refl in
       rw (owed, call_is) at (holds.room.counts is_open)
 
@@ -140,7 +142,8 @@ module _ (shape : Shape) (a : Registers) (scan : ScanValue) (of : IsClientOf sha
     rises =
         let up = point_rises shape scan.range.table scan.range.low scan.range.high a.txn.state.seen place found in
         rw (next_position, state_is) (subst (λ p. p ≤ position_after p
-        (point_after shape scan.range.table scan.range.low scan.range.high a.txn.state.seen place found)) position_is up)
+        (point_after shape scan.range.table scan.range.low scan.range.high a.txn.state.seen place found))
+        position_is up)
 
     pub still_rows : RiseWithin 0 next.position a.scanned.items
     still_rows = rise_grows 0 scan.position next.position a.scanned.items rises rows
@@ -177,7 +180,8 @@ module _ (shape : Shape) (a : Registers) (scan : ScanValue) (of : IsClientOf sha
             over_in next.state over,
           )
 
-      module _ (new : Registers) (is_new : new ≡ after_scan shape (record a { scan = Some next }) next position next.state) where
+      module _ (new : Registers)
+          (is_new : new ≡ after_scan shape (record a { scan = Some next }) next position next.state) where
         pub good : IsGood shape a.spare a.txn new
         good =
             subst (IsGood shape a.spare a.txn) (sym is_new)

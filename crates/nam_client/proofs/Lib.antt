@@ -2,8 +2,13 @@ pub mod AskRoom
 pub mod ClosingLemmas
 pub mod EndingLemmas
 pub mod KeptLemmas
+pub mod ScanCallLemmas
+pub mod ScanLemmas
+pub mod SortLemmas
 pub mod StepRoom
 pub mod SteppedLemmas
 pub mod TableLemmas
+pub mod TakeLemmas
+pub mod TakeStart
 pub mod TxnSteps
 pub mod VerbLemmas

@@ -21,11 +21,14 @@ use Rattle.nam_protocol.specs.Own.{OpenClient}
 use Rattle.nam_protocol.specs.SessionFits.{is_running}
 use Rattle.nam_protocol.specs.Telling.{items_of}
 use Rattle.nam_scan.specs.Scan.{Scanning as ScanValue}
+use Rattle.nam_txn.specs.Txn.{Rests}
+use Rattle.nam_protocol.specs.declared.txn.TxnPoint.{TxnPoint}
 use Rattle.nam_client.specs.declared.registers.Registers.{Registers}
 use Rattle.nam_client.specs.declared.registers.Spare.{Spare}
 use Rattle.nam_client.specs.declared.registers.Step.{Step}
 use Rattle.nam_client.specs.declared.registers.Step.TheVariants as step
 use Rattle.nam_client.specs.Registers.{call_of, client_of, open_of, seen_in}
+use Rattle.nam_client.specs.Scanning.{Gathers}
 
 -- 1. What is owed by a call that runs
 
@@ -141,15 +144,22 @@ ScanStands (Some scan) = IsNone (end_now scan.state)
 abbrev pub StepHolds : Step → Registers → Type 0
 StepHolds (step.Seeking table key passed) a = FitsPath a.path × (passed < a.path.capacity) × (a.to_follow < 2 ^ 32)
 StepHolds (step.Snapping bucket) a = a.to_follow < 2 ^ 32
-StepHolds step.Scanning a = ScanStands a.scan
 StepHolds (step.Collecting bucket prefix) a =
     (a.snapper.state ≡ Over (Done (seen_in a.snapper.state))) × (a.snapper.workers ≡ a.collector.workers)
 StepHolds _ a = Unit {0}
+
+-- a call of the transaction runs only in its step
+abbrev pub TxnRests : Step → Option (Now TxnPoint TxnAnswer) → Type 0
+TxnRests step.InTxn call = Unit {0}
+TxnRests _ call = Rests call
 
 pub record Holds (a : Registers) : Type 0 where
   pub room : HasRoom a
   pub opened : OpenClient (client_of a)
   pub at : StepHolds a.step a
+  pub scans : a.step ≡ step.Scanning → ScanStands a.scan
+  pub rows : a.step ≡ step.Scanning → Gathers a.scanned.items a.scan
+  pub calm : a.is_open ≡ true → TxnRests a.step a.txn.call
   pub finishes : IsSome a.finish → (a.is_cut ≡ true) × (is_running (call_of a.step a) ≡ true)
 
 -- at least as many calls

@@ -4,8 +4,9 @@ ghost use Rattle.std.specs.Prelude.{◌≡◌};
 ghost use Rattle.nam_protocol.specs.Session.{answer_now};
 ghost use Rattle.nam_protocol.specs.SessionFits.{is_running};
 ghost use Rattle.nam_protocol.specs.declared.client.CallPoint.TheVariants.{Beginning};
+ghost use Rattle.nam_client.specs.declared.registers.Step.TheVariants as step;
 ghost use Rattle.nam_client.specs.Registers.{runs, call_of, moved, begun, answer_told};
-ghost use Rattle.nam_client.specs.Room.{StepHolds};
+ghost use Rattle.nam_client.specs.Room.{ScanStands};
 
 use crate::registers::{Registers, Step, Told};
 use nam_calls::MoveAnswer;
@@ -67,7 +68,7 @@ fn begun_now(snapper: &Snapper, prefix: u64) -> Option<Answer>
 
 /// The answer to the last call, and none where no call was asked or one runs.
 pub fn answer_of(a: &Registers) -> Option<Answer>
-    requires { StepHolds a.now.step a.now }
+    requires { a.now.step ≡ step.Scanning → ScanStands a.now.scan }
     ensures { result ≡ answer_now (call_of a.now.step a.now) }
 {
     match a.step {
@@ -95,7 +96,7 @@ pub fn answer_of(a: &Registers) -> Option<Answer>
 
 /// Whether a call runs.
 pub fn is_busy(a: &Registers) -> bool
-    requires { StepHolds a.now.step a.now }
+    requires { a.now.step ≡ step.Scanning → ScanStands a.now.scan }
     ensures { result ≡ is_running (call_of a.now.step a.now) }
 {
     match a.step {

@@ -15,7 +15,7 @@ ghost use Rattle.nam_client.specs.Registers.{client_of, call_of, seen_in, opened
 ghost use Rattle.nam_txn.specs.Txn.{CanBegin, IsTxnOf};
 ghost use Rattle.nam_protocol.specs.Txn.{new_txn};
 ghost use Rattle.nam_client.specs.declared.registers.Step.TheVariants as step;
-ghost use Rattle.nam_client.specs.Room.{HasRoom, StepHolds};
+ghost use Rattle.nam_client.specs.Room.{HasRoom, StepHolds, TxnRests};
 ghost use Rattle.nam_client.specs.Fits.{IsClientOf, HandFits};
 
 use crate::registers::{Attempting, Registers, Step};
@@ -56,6 +56,7 @@ pub fn begin(a: &mut Registers, layout: &Layout, txn: u32, nth: u32)
     ensures hand { HandFits layout.now a.new (call_of a.new.step a.new) }
     ensures room { HasRoom a.new }
     ensures at { StepHolds a.new.step a.new }
+    ensures calm { a.new.is_open ≡ true → TxnRests a.new.step a.new.txn.call }
 {
     a.spare.attempts -= 1;
     a.snapper.begin(workers_of(layout, a.worker));
@@ -97,6 +98,7 @@ pub fn take_begin(a: &mut Registers, txn: u32, nth: u32, found: u64)
         → HandFits shape a.new (call_of a.new.step a.new) }
     ensures room { HasRoom a.new }
     ensures at { StepHolds a.new.step a.new }
+    ensures calm { a.new.is_open ≡ true → TxnRests a.new.step a.new.txn.call }
 {
     a.snapper.take(found);
     match a.snapper.end() {

@@ -4,7 +4,9 @@ ghost use Rattle.std.specs.Prelude.{◌≡◌, ◌≤◌, ◌+◌, min, Some, If
 ghost use Rattle.nam_catalog.specs.declared.bounds.TheConstants.{MOST_CAPACITY};
 ghost use Rattle.nam_client.specs.Registers.{client_of};
 ghost use Rattle.nam_protocol.specs.Own.{OpenClient};
-ghost use Rattle.nam_client.specs.Room.{HasRoom, Holds, greater_spare, owed_keys};
+ghost use Rattle.nam_client.specs.declared.registers.Step.TheVariants as step;
+ghost use Rattle.nam_client.specs.Scanning.{Gathers};
+ghost use Rattle.nam_client.specs.Room.{HasRoom, Holds, ScanStands, StepHolds, greater_spare, owed_keys};
 
 use crate::registers::{Registers, Spare};
 use nam_catalog::bounds::MOST_CAPACITY;
@@ -36,10 +38,7 @@ fn room_for(a: &Registers, spare: &Spare) -> Option<LogRoom>
 {
     let asked = if a.is_open { a.attempt.ops_so_far } else { 0 };
     let keys = spare.ops.checked_add(asked)?;
-    let snaps = spare
-        .attempts
-        .checked_add(spare.tidies)?
-        .checked_add(1)?;
+    let snaps = spare.attempts.checked_add(spare.tidies)?.checked_add(1)?;
     Some(LogRoom {
         events: snaps.checked_add(2)?,
         reads: keys,
@@ -62,6 +61,9 @@ pub fn reserve(a: &mut Registers, asked: &Spare) -> Result<(), AllocError>
     } }
     ensures room { HasRoom a.new }
     ensures opened { OpenClient (client_of a.new) }
+    ensures at { StepHolds a.new.step a.new }
+    ensures scans { a.new.step ≡ step.Scanning → ScanStands a.new.scan }
+    ensures rows { a.new.step ≡ step.Scanning → Gathers a.new.scanned.items a.new.scan }
 {
     let spare = a.spare.max_each(asked);
     let room = room_for(a, &spare).ok_or(AllocError)?;

@@ -14,7 +14,7 @@ ghost use Rattle.nam_protocol.specs.Client.{client_ask, client_after};
 ghost use Rattle.nam_protocol.specs.Own.{MayAsk};
 ghost use Rattle.nam_client.specs.declared.registers.Step.TheVariants as step;
 ghost use Rattle.nam_client.specs.Registers.{client_of, call_of, after_move};
-ghost use Rattle.nam_client.specs.Room.{HasRoom, StepHolds};
+ghost use Rattle.nam_client.specs.Room.{HasRoom, StepHolds, TxnRests};
 ghost use Rattle.nam_client.specs.Fits.{IsClientOf, HandFits, HasAtHand};
 
 use crate::registers::{Registers, Step, Told};
@@ -46,6 +46,7 @@ pub fn tidy(a: &mut Registers, layout: &Layout, table: u32, key: u64)
     ensures hand { HandFits layout.now a.new (call_of a.new.step a.new) }
     ensures room { HasRoom a.new }
     ensures at { StepHolds a.new.step a.new }
+    ensures calm { a.new.is_open ≡ true → TxnRests a.new.step a.new.txn.call }
 {
     a.spare.tidies -= 1;
     a.path = path_of(layout, table, key);
@@ -78,6 +79,7 @@ pub fn take_seek(
     ensures hand { HandFits layout.now a.new (call_of a.new.step a.new) }
     ensures room { HasRoom a.new }
     ensures at { StepHolds a.new.step a.new }
+    ensures calm { a.new.is_open ≡ true → TxnRests a.new.step a.new.txn.call }
 {
     match find_after(&a.path, passed, found) {
         Now::At(passed) => a.step = Step::Seeking { table, key, passed },
@@ -117,6 +119,7 @@ pub fn take_move(a: &mut Registers, table: u32, key: u64, position: u32, found: 
         → HandFits shape a.new (call_of a.new.step a.new) }
     ensures room { HasRoom a.new }
     ensures at { StepHolds a.new.step a.new }
+    ensures calm { a.new.is_open ≡ true → TxnRests a.new.step a.new.txn.call }
 {
     a.mover.take(found);
     if let Some(end) = a.mover.end() {

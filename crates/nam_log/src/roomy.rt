@@ -1,6 +1,7 @@
 //! Lists with room that was reserved.
 
 ghost use Rattle.std.specs.Prelude.{◌≡◌, ◌+◌, ◌-◌, ◌<◌, ◌≤◌, [], ◌∷◌, ◌++◌, length, max, OnOk, OnErr};
+ghost use Rattle.std.specs.List.Sorted.{IsPermutation, IsSortedByKeyClosure};
 
 use std::alloc::{AllocError, Global};
 use std::marker::Model;
@@ -77,6 +78,16 @@ impl<T> RoomyList<T> {
     {
         self.room -= 1;
         self.buffer.push_reserved(item);
+    }
+
+    /// Sorts the elements by their keys in place, those of one key in any order.
+    pub fn sort_unstable_by_key<K: Ord + Drop, F: FnMut(&T) -> K>(&mut self, key: F)
+        requires { F.IsAlwaysCallable key }
+        ensures permutation { IsPermutation self.old.items self.new.items }
+        ensures sorted { IsSortedByKeyClosure F.FnMut K.cmp key self.new.items }
+        ensures room { self.new.room ≡ self.old.room }
+    {
+        self.buffer.sort_unstable_by_key(key);
     }
 
     /// The vector of the elements, made without memory.

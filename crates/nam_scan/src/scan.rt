@@ -1,6 +1,6 @@
 //! Scans.
 
-ghost use Rattle.std.specs.Prelude.{◌≡◌, ◌<◌, length, IsSome, IfSome};
+ghost use Rattle.std.specs.Prelude.{◌≡◌, ◌<◌, length, is_some, IsSome, IfSome};
 ghost use Rattle.nam_verbs.specs.Verb.{address_of};
 ghost use Rattle.nam_verbs.specs.Now.{FitsNow, end_now};
 ghost use Rattle.nam_verbs.specs.Running.{next_verb, after_found, verbs_left};
@@ -10,7 +10,7 @@ ghost use Rattle.nam_calls.specs.Words.{capacity_of};
 ghost use Rattle.nam_protocol.specs.Scan.{scan_skip, scan_read, positions_left};
 ghost use Rattle.nam_protocol.specs.TxnFits.{ScanFits};
 ghost use Rattle.nam_scan.specs.Scan.{scanning, IsScanOf, running, position_after, goes_on};
-ghost use Rattle.nam_scan.specs.Scan.{HasKey, HasKeyOrRow, key_in};
+ghost use Rattle.nam_scan.specs.Scan.{HasKey, HasKeyOrRow, ScanningFits, key_in};
 
 use crate::points::{scan_after, scan_begin, scan_left, scan_read, scan_skip, scan_verb};
 use crate::range::ScanRange;
@@ -141,6 +141,34 @@ impl Scan {
         match &self.state {
             Now::At(at) => scan_left(self.range.capacity, &self.sight, at),
             Now::Over(_) => 0,
+        }
+    }
+
+    /// The position at hand: that of the verb that stands, or of the key or row that was answered.
+    #[inline]
+    pub fn position(&self) -> u32
+        ensures value { result ≡ self.now.position }
+        ensures fits { ScanningFits self.now }
+    {
+        self.position
+    }
+
+    /// The table that is scanned.
+    #[inline]
+    pub fn table(&self) -> u32
+        ensures { result ≡ self.now.range.table }
+    {
+        self.range.table
+    }
+
+    /// Whether the scan has answered: no verb stands.
+    #[inline]
+    pub fn is_over(&self) -> bool
+        ensures { result ≡ is_some (end_now self.now.state) }
+    {
+        match &self.state {
+            Now::At(_) => false,
+            Now::Over(_) => true,
         }
     }
 

@@ -22,6 +22,8 @@ use Rattle.nam_txn.specs.Txn.{IsTxnOf}
 use Rattle.nam_client.specs.declared.registers.Registers.{Registers}
 use Rattle.nam_client.specs.Registers.{call_of, client_of, medic_of}
 use Rattle.nam_client.specs.Fits.{HandFits, IsClientOf}
+use Rattle.nam_client.specs.Room.{Holds}
+use Rattle.nam_protocol.specs.SessionFits.{is_running}
 
 -- no medic has finished it
 unfinished : (finish : Option Finish) → medic_of finish ≡ None → finish ≡ None
@@ -91,3 +93,16 @@ module _ (shape : Shape) (a b : Registers) (of : IsClientOf shape a) where
     asked_unfinished none =
         unfinished b.finish
         (ap (λ client. client.medic) goes ∙ (asked_stays shape (client_of a) asked).1 ∙ ap medic_of none)
+
+-- a client that isn't cut is not finished
+pub unfinished_uncut : (a : Registers) → Holds a → a.is_cut ≡ false → a.finish ≡ None
+unfinished_uncut a holds uncut = by_finish a.finish refl
+  where
+    by_finish : (finish : Option Finish) → a.finish ≡ finish → finish ≡ None
+    by_finish None e = refl
+    by_finish (Some how) e = absurd (false≢true (sym uncut ∙ (holds.finishes (rw e refl)).0))
+
+-- and what isn't finished need not be cut
+pub still_finishes : (a : Registers) → a.finish ≡ None
+    → IsSome a.finish → (a.is_cut ≡ true) × (is_running (call_of a.step a) ≡ true)
+still_finishes a none some = absurd (cc)

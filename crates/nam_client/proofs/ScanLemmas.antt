@@ -16,7 +16,8 @@ use Rattle.nam_protocol.specs.declared.client.Scanned.{Scanned}
 use Rattle.nam_scan.specs.Scan.{Scanning as ScanValue}
 use Rattle.nam_client.specs.declared.registers.Registers.{Registers}
 use Rattle.nam_client.specs.Registers.{client_of}
-use Rattle.nam_client.specs.Scanning.{RiseWithin, OfScan, HasCome, HasLeft, HasAnswered}
+use Rattle.nam_client.specs.Gathered.{RiseWithin, OfScan}
+use Rattle.nam_client.specs.Scanning.{HasCome, HasLeft, HasAnswered}
 
 -- 1. A transaction is open, and its table has positions
 

@@ -14,7 +14,7 @@ use Rattle.std.specs.List.Sorted.{IsPermutation, IsSortedByKey}
 use Rattle.nam_layout.proofs.TestLemmas.{if_less, if_not_less, if_same, if_other}
 use Rattle.nam_protocol.specs.declared.client.Scanned.{Scanned}
 use Rattle.nam_protocol.specs.ScanCall.{inserted, sorted_onto}
-use Rattle.nam_client.specs.Scanning.{RiseWithin}
+use Rattle.nam_client.specs.Gathered.{RiseWithin}
 
 -- 1. Rows in order: by key, and those of one key by position
 

@@ -27,7 +27,8 @@ use Rattle.nam_client.specs.declared.registers.Told.{Told}
 use Rattle.nam_client.specs.Registers.{call_of}
 use Rattle.nam_client.specs.Room.{HasRoom, ScanStands}
 use Rattle.nam_client.specs.Fits.{HandFits}
-use Rattle.nam_client.specs.Scanning.{RiseWithin, Gathers, gathered, rows_listed, scan_failed, with_scan, after_skip}
+use Rattle.nam_client.specs.Gathered.{RiseWithin, Gathers}
+use Rattle.nam_client.specs.Scanning.{gathered, rows_listed, scan_failed, with_scan, after_skip}
 use Rattle.nam_client.specs.Scanning.{left_at}
 use Rattle.nam_client.specs.Scanning.{after_scan, IsOver}
 use Rattle.nam_client.proofs.ScanLemmas.{rise_grows, rise_push, rise_few}

@@ -28,7 +28,8 @@ use Rattle.nam_client.specs.declared.registers.Step.TheVariants as step
 use Rattle.nam_client.specs.Registers.{call_of, client_of, open_of}
 use Rattle.nam_client.specs.Room.{Holds, Counts, owed_reads}
 use Rattle.nam_client.specs.Fits.{IsClientOf, IsScanIn, HandFits}
-use Rattle.nam_client.specs.Scanning.{RiseWithin, Gathers, after_scan, HasAnswered, IsOver}
+use Rattle.nam_client.specs.Gathered.{RiseWithin, Gathers}
+use Rattle.nam_client.specs.Scanning.{after_scan, HasAnswered, IsOver}
 use Rattle.nam_client.proofs.ScanLemmas.{opened_by, few_positions, rise_grows}
 use Rattle.nam_client.proofs.TakeLemmas.{Goes, IsGood, good_after}
 use Rattle.nam_client.proofs.ScanCallLemmas.{after_is, client_goes}

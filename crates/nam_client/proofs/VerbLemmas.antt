@@ -1,6 +1,6 @@
 -- The verb of each call is the client's.
 use Rattle.std.specs.Prelude.{IfSome, IsSome, None, Option, Some, option_map}
-use Rattle.std.proofs.Common.{Bool, ap, false, refl, sym, true, ℕ, ◌<◌, ◌∙◌, ◌≡◌}
+use Rattle.std.proofs.Common.{Bool, List, [], ap, false, refl, sym, true, ℕ, ◌<◌, ◌∙◌, ◌≡◌}
 use Rattle.std.proofs.lemmas.Bool.{false≢true}
 use Rattle.nam_verbs.specs.declared.now.Now.{Now}
 use Rattle.nam_verbs.specs.declared.now.Now.TheVariants.{At, Over}
@@ -31,9 +31,14 @@ use Rattle.nam_scan.specs.Scan.{Scanning as ScanValue, running}
 use Rattle.nam_txn.specs.Txn.{Transacting, next_verb}
 use Rattle.nam_client.specs.declared.registers.Registers.{Registers}
 use Rattle.nam_client.specs.declared.registers.Step.TheVariants as step
-use Rattle.nam_client.specs.Registers.{client_of, call_of, in_scan, in_txn as txn_call, open_of}
+use Rattle.nam_upkeep.specs.Collector as collection
+use Rattle.nam_protocol.specs.declared.client.Answer.TheVariants.{Collected}
+use Rattle.nam_protocol.specs.declared.client.CallPoint.TheVariants.{Collecting}
+use Rattle.nam_calls.specs.declared.horizon.CollectPoint.{CollectPoint}
+use Rattle.nam_protocol.specs.Left.{client_left, left_of}
+use Rattle.nam_client.specs.Registers.{client_of, call_of, in_scan, in_txn as txn_call, open_of, runs, seen_in}
 use Rattle.nam_client.specs.Client.{verb_of}
-use Rattle.nam_client.specs.Fits.{IsClientOf, IsScanIn}
+use Rattle.nam_client.specs.Fits.{HandFits, IsClientOf}
 
 module _ (shape : Shape) (a : Registers) (of : IsClientOf shape a) (uncut : a.is_cut ≡ false) where
   -- the verb is that of the call
@@ -76,7 +81,25 @@ module _ (shape : Shape) (a : Registers) (of : IsClientOf shape a) (uncut : a.is
       → running_call.next_verb (running shape scan) ≡ verb_of shape a
   scanning scan at is = of_scan (client_of a) scan scan.state refl ∙ sym (by_call ∙ (rw (at, is) refl))
 
--- 4. The verb is at a word of the store
+  -- 4. How many verbs are to come of a collection
+
+  left_is : client_left shape (client_of a) ≡ left_of shape (client_of a) (call_of a.step a)
+  left_is = rw uncut refl
+
+  of_collection : (bucket prefix : ℕ) (state : Now CollectPoint (List ℕ)) → a.collector.state ≡ state
+      → HandFits shape a (runs (Collecting bucket prefix (seen_in a.snapper.state)) Collected state)
+      → running_call.verbs_left (collection.running [] a.collector)
+      ≡ left_of shape (client_of a) (runs (Collecting bucket prefix (seen_in a.snapper.state)) Collected state)
+  of_collection bucket prefix (At at) same hand = rw (same, hand.0, hand.1) refl
+  of_collection bucket prefix (Over known) same hand = rw same refl
+
+  pub collecting : (bucket prefix n : ℕ) → a.step ≡ step.Collecting bucket prefix
+      → ((seen : List ℕ) → n ≡ running_call.verbs_left (collection.running seen a.collector))
+      → n ≡ client_left shape (client_of a)
+  collecting bucket prefix n at each =
+      each [] ∙ of_collection bucket prefix a.collector.state refl (rw at at of.hand) ∙ sym (left_is ∙ (rw at refl))
+
+-- 5. The verb is at a word of the store
 
 pub within : (shape : Shape) (a : Registers) → IsClientOf shape a → (verb : Verb) → verb_of shape a ≡ Some verb
     → address_of verb < words_of shape

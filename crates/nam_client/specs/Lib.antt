@@ -1,4 +1,5 @@
 pub mod Registers
+pub mod Gathered
 pub mod Scanning
 pub mod Room
 pub mod Fits

@@ -28,7 +28,7 @@ use Rattle.nam_client.specs.declared.registers.Spare.{Spare}
 use Rattle.nam_client.specs.declared.registers.Step.{Step}
 use Rattle.nam_client.specs.declared.registers.Step.TheVariants as step
 use Rattle.nam_client.specs.Registers.{call_of, client_of, open_of, seen_in}
-use Rattle.nam_client.specs.Scanning.{Gathers}
+use Rattle.nam_client.specs.Gathered.{Gathers}
 
 -- 1. What is owed by a call that runs
 

@@ -22,25 +22,10 @@ use Rattle.nam_client.specs.declared.registers.Registers.{Registers}
 use Rattle.nam_client.specs.declared.registers.Step.TheVariants as step
 use Rattle.nam_client.specs.declared.registers.Told.{Told}
 use Rattle.nam_client.specs.declared.registers.Told.TheVariants as told
+use Rattle.nam_client.specs.Gathered.{RiseWithin}
 use Rattle.nam_client.specs.Ending.{attempt_listed}
 
--- 1. The rows that were gathered
-
--- they stand at rising positions, from the first on and below the last
-abbrev pub RiseWithin : ℕ → ℕ → List Scanned → Type 0
-RiseWithin first last [] = first ≤ last
-RiseWithin first last (row ∷ rows) = (first ≤ row.position) × RiseWithin (row.position + 1) last rows
-
--- of the scan at hand it holds
-abbrev pub OfScan : (ScanValue → Type 0) → Option ScanValue → Type 0
-OfScan Is None = ⊥
-OfScan Is (Some scan) = Is scan
-
--- a scan has gathered rows of positions that it has passed
-abbrev pub Gathers : List Scanned → Option ScanValue → Type 0
-Gathers rows scan = OfScan (λ scan. RiseWithin 0 scan.position rows) scan
-
--- 2. What an answer does
+-- 1. What an answer does
 
 abbrev pub emptied : Roomy Scanned → Roomy Scanned
 emptied rows = record { items = []; room = rows.room + length rows.items }
@@ -107,7 +92,7 @@ module _ (shape : Shape) where
       scan_failed a (outcome.TooOld worker entry horizon) (told.TooOld worker entry horizon)
   after_scan a scan position (Over scan_answer.Astray) = scan_failed a outcome.Left told.Astray
 
--- 3. When there is room for it
+-- 2. When there is room for it
 
 -- the rows that the scan has gathered are listed, and one more
 pub record CanListRows (a : Registers) (capacity : ℕ) : Type 0 where

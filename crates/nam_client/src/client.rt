@@ -20,11 +20,17 @@ ghost use Rattle.nam_client.specs.Client.{CanServe, spare_of, less_room, verb_of
 ghost use Rattle.nam_client.specs.Fits.{IsClientOf};
 
 use crate::answering::{answer_of, is_busy};
+use crate::beginning::{begin, take_begin};
 use crate::closing::{abandon, into_log};
-use crate::registers::{Registers, Spare, new_registers};
+use crate::collecting::{collect, take_collect, take_snap};
+use crate::registers::{Registers, Spare, Step, new_registers};
 use crate::room::reserve;
+use crate::scanning::{ask_scan, take_scan};
+use crate::tidying::{take_move, take_seek, tidy};
+use crate::transacting::{ask_txn, take_txn};
 use crate::verbs::{verb_of, verbs_left};
-use nam_protocol::Answer;
+use nam_layout::Layout;
+use nam_protocol::{Answer, Call};
 use nam_verbs::Verb;
 use si_model::{Finish, Log};
 use std::alloc::{AllocError, Global};
@@ -86,6 +92,35 @@ impl Client {
         (spare.attempts, spare.ops, spare.tidies)
     }
 
+    #[tactic(auto, using(
+        crate::proofs::KeptLemmas::asked_kept,
+        crate::proofs::KeptLemmas::asked_left,
+        crate::proofs::KeptLemmas::asked_opened,
+        crate::proofs::KeptLemmas::asked_unfinished,
+        crate::proofs::KeptLemmas::unfinished_uncut,
+        crate::proofs::KeptLemmas::still_finishes,
+    ))]
+    /// Asks a call, for which there is room. It may be answered at once.
+    pub fn ask(&mut self, layout: &Layout, call: &Call)
+        requires of { IsClientOf layout.now self.old }
+        requires may { MayAsk layout.now (client_of self.old) call.now }
+        requires room { IsWithin (call_room layout.now call.now) (spare_of self.old) }
+        requires counted { ops_so_far (client_of self.old).txn + (call_room layout.now call.now).ops < 2 ^ 32 }
+        ensures client { client_of self.new ≡ client_ask layout.now (client_of self.old) call.now }
+        ensures spare { spare_of self.new ≡ less_room (spare_of self.old) (call_room layout.now call.now) }
+        ensures of { IsClientOf layout.now self.new }
+        ensures left { client_left layout.now (client_of self.new) ≤ call_bound layout.now (client_of self.old) call.now }
+    {
+        let registers = &mut self.registers;
+        match call {
+            Call::Begin { txn, nth } => begin(registers, layout, *txn, *nth),
+            Call::Txn(call) => ask_txn(registers, layout, call),
+            Call::Scan { table, low, high } => ask_scan(registers, layout, *table, *low, *high),
+            Call::Tidy { table, key } => tidy(registers, layout, *table, *key),
+            Call::Collect { bucket } => collect(registers, layout, *bucket),
+        }
+    }
+
     #[tactic(auto, using(crate::proofs::VerbLemmas::within))]
     /// The verb that stands, at a word of the store, and none exactly where no call runs or the client is cut.
     #[inline]
@@ -95,6 +130,37 @@ impl Client {
             → IfSome result (λ verb. address_of verb < words_of shape) }
     {
         verb_of(&self.registers)
+    }
+
+    #[tactic(auto, using(
+        crate::proofs::KeptLemmas::word_kept,
+        crate::proofs::KeptLemmas::word_falls,
+        crate::proofs::KeptLemmas::word_opened,
+        crate::proofs::KeptLemmas::word_unfinished,
+        crate::proofs::KeptLemmas::unfinished_uncut,
+        crate::proofs::KeptLemmas::still_finishes,
+    ))]
+    /// Goes on with the word that the verb found.
+    #[inline]
+    pub fn take(&mut self, layout: &Layout, found: u64)
+        requires of { IsClientOf layout.now self.old }
+        requires stands { IsSome (verb_of layout.now self.old) }
+        ensures client { client_of self.new ≡ client_after layout.now (client_of self.old) found }
+        ensures spare { spare_of self.new ≡ spare_of self.old }
+        ensures of { IsClientOf layout.now self.new }
+        ensures falls { client_left layout.now (client_of self.new) < client_left layout.now (client_of self.old) }
+    {
+        let registers = &mut self.registers;
+        match registers.step {
+            Step::Moving { table, key, position } => take_move(registers, table, key, position, found),
+            Step::InTxn => take_txn(registers, layout, found),
+            Step::Beginning { txn, nth } => take_begin(registers, txn, nth, found),
+            Step::Seeking { table, key, passed } => take_seek(registers, layout, table, key, passed, found),
+            Step::Scanning => take_scan(registers, layout, found),
+            Step::Snapping { bucket } => take_snap(registers, layout, bucket, found),
+            Step::Collecting { bucket, prefix } => take_collect(registers, bucket, prefix, found),
+            Step::Resting | Step::Answered(_) => {}
+        }
     }
 
     /// A number of verbs that are to come at the most before the answer. Each word that is taken lowers it, and right
@@ -199,6 +265,7 @@ impl Client {
         self.registers.finish = Some(how);
     }
 
+    #[tactic(auto, using(crate::proofs::ClosingLemmas::log_of))]
     /// The log, where no call runs or the client is cut. A call that was cut is listed as cut, an open transaction
     /// between two calls as left, or as cut where the client is.
     pub fn into_log(self) -> Log

@@ -1,6 +1,6 @@
 //! Collections: a snapshot is taken, the horizon is raised to it, and the bucket's cells below are freed.
 
-ghost use Rattle.std.specs.Prelude.{◌≡◌, ◌<◌, ◌≤◌, ◌-◌, IsSome, false, length, if◌then◌else◌};
+ghost use Rattle.std.specs.Prelude.{◌≡◌, ◌<◌, ◌≤◌, ◌-◌, IsSome, true, false};
 ghost use Rattle.nam_verbs.specs.declared.now.Now.TheVariants.{Over};
 ghost use Rattle.nam_verbs.specs.Running.{next_verb};
 ghost use Rattle.nam_catalog.specs.declared.shape.Shape.{Shape};

@@ -5,7 +5,7 @@ ghost use Rattle.nam_catalog.specs.declared.bounds.TheConstants.{MOST_CAPACITY};
 ghost use Rattle.nam_client.specs.Registers.{client_of};
 ghost use Rattle.nam_protocol.specs.Own.{OpenClient};
 ghost use Rattle.nam_client.specs.declared.registers.Step.TheVariants as step;
-ghost use Rattle.nam_client.specs.Scanning.{Gathers};
+ghost use Rattle.nam_client.specs.Gathered.{Gathers};
 ghost use Rattle.nam_client.specs.Room.{HasRoom, Holds, ScanStands, StepHolds, greater_spare, owed_keys};
 
 use crate::registers::{Registers, Spare};

@@ -14,7 +14,8 @@ ghost use Rattle.nam_client.specs.declared.registers.Step.TheVariants as step;
 ghost use Rattle.nam_client.specs.Registers.{client_of, call_of};
 ghost use Rattle.nam_client.specs.Room.{HasRoom, Holds, ScanStands};
 ghost use Rattle.nam_client.specs.Fits.{IsClientOf, HandFits};
-ghost use Rattle.nam_client.specs.Scanning.{RiseWithin, OfScan, Gathers, HasLeft, HasNamed, HasAnswered};
+ghost use Rattle.nam_client.specs.Gathered.{RiseWithin, OfScan, Gathers};
+ghost use Rattle.nam_client.specs.Scanning.{HasLeft, HasNamed, HasAnswered};
 ghost use Rattle.nam_client.specs.Scanning.{gathered, rows_listed, scan_failed, left_at, after_key, after_scan};
 
 use crate::registers::{Registers, Step, Told};

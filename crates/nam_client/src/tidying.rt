@@ -1,6 +1,6 @@
 //! Tidyings: the key's position is searched, and the version in the slot that its next version needs is moved.
 
-ghost use Rattle.std.specs.Prelude.{◌≡◌, ◌<◌, ◌≤◌, ◌-◌, IsSome, Some, None, false, length};
+ghost use Rattle.std.specs.Prelude.{◌≡◌, ◌<◌, ◌≤◌, ◌-◌, IsSome, true, false};
 ghost use Rattle.nam_verbs.specs.Running.{next_verb, end_of};
 ghost use Rattle.nam_catalog.specs.declared.shape.Shape.{Shape};
 ghost use Rattle.nam_layout.specs.RowLaw.{IsPosition};

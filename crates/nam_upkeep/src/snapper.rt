@@ -134,7 +134,8 @@ impl Snapper {
 
     /// A number of verbs that are to come at the most. Each word that is taken lowers it.
     pub fn left(&self) -> u64
-        ensures { result ≡ verbs_left (running self.now) }
+        ensures value { result ≡ verbs_left (running self.now) }
+        ensures few { result ≤ 2 * MOST_WORKERS }
     {
         let workers = self.workers as u64;
         match self.step {

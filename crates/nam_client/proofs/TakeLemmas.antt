@@ -19,15 +19,15 @@ use Rattle.nam_protocol.specs.Operations.{own_value}
 use Rattle.nam_protocol.specs.Scan.{position_of}
 use Rattle.nam_protocol.specs.ScanCall.{inserted, sorted_onto, item_of, scanned_items}
 use Rattle.nam_scan.specs.Scan.{Scanning as ScanValue, IsScanOf, goes_on}
-use Rattle.nam_txn.specs.Txn.{Transacting}
+use Rattle.nam_txn.specs.Txn.{Rests, Transacting}
 use Rattle.nam_client.specs.declared.registers.Registers.{Registers}
 use Rattle.nam_client.specs.declared.registers.Spare.{Spare}
 use Rattle.nam_client.specs.declared.registers.Step.TheVariants as step
 use Rattle.nam_client.specs.declared.registers.Told.{Told}
 use Rattle.nam_client.specs.Registers.{call_of}
-use Rattle.nam_client.specs.Room.{HasRoom, ScanStands}
+use Rattle.nam_client.specs.Room.{HasRoom, StepHolds, TxnRests}
 use Rattle.nam_client.specs.Fits.{HandFits}
-use Rattle.nam_client.specs.Gathered.{RiseWithin, Gathers}
+use Rattle.nam_client.specs.Gathered.{RiseWithin}
 use Rattle.nam_client.specs.Scanning.{gathered, rows_listed, scan_failed, with_scan, after_skip}
 use Rattle.nam_client.specs.Scanning.{left_at}
 use Rattle.nam_client.specs.Scanning.{after_scan, IsOver}
@@ -81,6 +81,7 @@ pub record Goes (shape : Shape) (a : Registers) (scan : ScanValue) : Type 0 wher
   pub none : a.attempt.locks ≡ 0
   pub held : length a.txn.state.held ≡ a.attempt.locks
   pub written : length a.txn.state.writes ≤ a.attempt.ops_so_far
+  pub calm : Rests a.txn.call
 
 -- what is left of the registers
 pub record IsGood (shape : Shape) (spared : Spare) (open_txn : Transacting) (a : Registers) : Type 0 where
@@ -88,8 +89,8 @@ pub record IsGood (shape : Shape) (spared : Spare) (open_txn : Transacting) (a :
   pub txn : a.txn ≡ open_txn
   pub hand : HandFits shape a (call_of a.step a)
   pub room : HasRoom a
-  pub scans : a.step ≡ step.Scanning → ScanStands a.scan
-  pub rows : a.step ≡ step.Scanning → Gathers a.scanned.items a.scan
+  pub at : StepHolds a.step a
+  pub calm : a.is_open ≡ true → TxnRests a.step a.txn.call
 
 goes_is : (shape : Shape) (scan : ScanValue) (now : Now ScanPoint ScanAnswer) → IsScanOf shape scan
     → IsScanOf shape (goes_on shape scan now)
@@ -117,8 +118,8 @@ module _ (shape : Shape) where
       scanned = let h = goes.scanned in omega arith;
       counts = λ e. absurd (false≢true e);
     };
-    scans = λ e. absurd (cc);
-    rows = λ e. absurd (cc);
+    at = tt;
+    calm = λ e. goes.calm;
   }
 
   good_listed : (a : Registers) (scan : ScanValue) → Goes shape a scan
@@ -148,8 +149,8 @@ module _ (shape : Shape) where
             written = goes.written;
           };
         };
-        scans = λ e. absurd (cc);
-        rows = λ e. absurd (cc);
+        at = tt;
+        calm = λ e. goes.calm;
       }
 
   good_scanning : (a : Registers) (scan : ScanValue) → Goes shape a scan → (place : ScanPoint)
@@ -177,8 +178,8 @@ module _ (shape : Shape) where
         written = goes.written;
       };
     };
-    scans = λ e. refl;
-    rows = λ e. rise;
+    at = rw goes.at (refl, rise);
+    calm = λ e. rw goes.at goes.calm;
   }
 
   goes_gathered : (a : Registers) (scan : ScanValue) (position key : ℕ) (value : Option (List ℕ))
@@ -207,6 +208,7 @@ module _ (shape : Shape) where
         none = goes.none;
         held = goes.held;
         written = goes.written;
+        calm = goes.calm;
       }
 
   good_skip : (a : Registers) (scan : ScanValue) (position : ℕ) → Goes shape a scan

@@ -95,7 +95,7 @@ module _ (shape : Shape) (a : Registers) (scan : ScanValue) (of : IsClientOf sha
   few = rw scan_in.0.sees.capacity_is (few_positions shape of.limits scan.range.table scan_in.0.table_is)
 
   pub rows : RiseWithin 0 scan.position a.scanned.items
-  rows = subst (Gathers a.scanned.items) is (holds.rows at)
+  rows = subst (Gathers a.scanned.items) is ((rw at at holds.at).1)
 
   module _ (next : ScanValue) (next_of : IsScanOf shape next) (range_is : next.range ≡ scan.range)
       (seen_is : next.seen ≡ scan.seen) where
@@ -124,6 +124,7 @@ module _ (shape : Shape) (a : Registers) (scan : ScanValue) (of : IsClientOf sha
           none = c.locks;
           held = c.held;
           written = c.written;
+          calm = rw at at (holds.calm is_open);
         }
 
   module _ (found : ℕ) (next : ScanValue) (next_of : IsScanOf shape next)

@@ -1,5 +1,5 @@
 -- What holds of a client's registers for the shape of its store.
-use Rattle.std.specs.Prelude.{◌≡◌, ℕ, ◌<◌, List, length, Option, Some, None, IsTrue, Bool, true}
+use Rattle.std.specs.Prelude.{◌≡◌, ℕ, ◌<◌, List, [], length, Option, Some, None, IsTrue, Bool, true}
 use Rattle.nam_verbs.specs.declared.now.Now.{Now}
 use Rattle.nam_verbs.specs.declared.now.Now.TheVariants.{At, Over}
 use Rattle.nam_catalog.specs.declared.shape.Shape.{Shape}
@@ -15,9 +15,15 @@ use Rattle.nam_protocol.specs.declared.client.CallPoint.TheVariants.{Beginning, 
 use Rattle.nam_protocol.specs.declared.client.CallPoint.TheVariants.{Snapping, Collecting}
 use Rattle.nam_protocol.specs.ClientFits.{ClientFits}
 use Rattle.nam_scan.specs.Scan.{Scanning as ScanValue, IsScanOf}
-use Rattle.nam_txn.specs.Txn.{IsTxnOf}
+use Rattle.nam_txn.specs.Txn.{IsTxnOf, Transacting}
 use Rattle.nam_client.specs.declared.registers.Registers.{Registers}
 use Rattle.nam_client.specs.Registers.{call_of, client_of}
+
+-- a transaction that was asked no call yet
+pub record IsFresh (t : Transacting) : Type 0 where
+  pub call : t.call ≡ None
+  pub held : t.state.held ≡ []
+  pub read : t.state.read ≡ None
 
 module _ (shape : Shape) where
   -- the scan is of a table, under the transaction's snapshot

@@ -140,8 +140,9 @@ abbrev pub ScanStands : Option ScanValue → Type 0
 ScanStands None = ⊥
 ScanStands (Some scan) = IsNone (end_now scan.state)
 
--- what the step has at hand: a path with its position, a scan that stands, the snapshot of a collection
+-- what the step has at hand: a scan that stands with its rows, a path with its position, the snapshot of a collection
 abbrev pub StepHolds : Step → Registers → Type 0
+StepHolds step.Scanning a = ScanStands a.scan × Gathers a.scanned.items a.scan
 StepHolds (step.Seeking table key passed) a = FitsPath a.path × (passed < a.path.capacity) × (a.to_follow < 2 ^ 32)
 StepHolds (step.Snapping bucket) a = a.to_follow < 2 ^ 32
 StepHolds (step.Collecting bucket prefix) a =
@@ -157,8 +158,6 @@ pub record Holds (a : Registers) : Type 0 where
   pub room : HasRoom a
   pub opened : OpenClient (client_of a)
   pub at : StepHolds a.step a
-  pub scans : a.step ≡ step.Scanning → ScanStands a.scan
-  pub rows : a.step ≡ step.Scanning → Gathers a.scanned.items a.scan
   pub calm : a.is_open ≡ true → TxnRests a.step a.txn.call
   pub finishes : IsSome a.finish → (a.is_cut ≡ true) × (is_running (call_of a.step a) ≡ true)
 

@@ -6,7 +6,7 @@ ghost use Rattle.nam_protocol.specs.SessionFits.{is_running};
 ghost use Rattle.nam_protocol.specs.declared.client.CallPoint.TheVariants.{Beginning};
 ghost use Rattle.nam_client.specs.declared.registers.Step.TheVariants as step;
 ghost use Rattle.nam_client.specs.Registers.{runs, call_of, moved, begun, answer_told};
-ghost use Rattle.nam_client.specs.Room.{ScanStands};
+ghost use Rattle.nam_client.specs.Room.{StepHolds};
 
 use crate::registers::{Registers, Step, Told};
 use nam_calls::MoveAnswer;
@@ -68,7 +68,7 @@ fn begun_now(snapper: &Snapper, prefix: u64) -> Option<Answer>
 
 /// The answer to the last call, and none where no call was asked or one runs.
 pub fn answer_of(a: &Registers) -> Option<Answer>
-    requires { a.now.step ≡ step.Scanning → ScanStands a.now.scan }
+    requires { StepHolds a.now.step a.now }
     ensures { result ≡ answer_now (call_of a.now.step a.now) }
 {
     match a.step {
@@ -96,7 +96,7 @@ pub fn answer_of(a: &Registers) -> Option<Answer>
 
 /// Whether a call runs.
 pub fn is_busy(a: &Registers) -> bool
-    requires { a.now.step ≡ step.Scanning → ScanStands a.now.scan }
+    requires { StepHolds a.now.step a.now }
     ensures { result ≡ is_running (call_of a.now.step a.now) }
 {
     match a.step {

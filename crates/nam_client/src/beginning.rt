@@ -12,11 +12,10 @@ ghost use Rattle.nam_protocol.specs.Log.{prefix_of, unbegun};
 ghost use Rattle.nam_protocol.specs.Own.{MayAsk};
 ghost use Rattle.nam_layout.specs.Address.{IsWorker};
 ghost use Rattle.nam_client.specs.Registers.{client_of, call_of, seen_in, opened, listed};
-ghost use Rattle.nam_txn.specs.Txn.{CanBegin, IsTxnOf};
 ghost use Rattle.nam_protocol.specs.Txn.{new_txn};
 ghost use Rattle.nam_client.specs.declared.registers.Step.TheVariants as step;
 ghost use Rattle.nam_client.specs.Room.{HasRoom, StepHolds, TxnRests};
-ghost use Rattle.nam_client.specs.Fits.{IsClientOf, HandFits};
+ghost use Rattle.nam_client.specs.Fits.{IsClientOf, HandFits, IsFresh};
 
 use crate::registers::{Attempting, Registers, Step};
 use nam_layout::Layout;
@@ -55,8 +54,8 @@ pub fn begin(a: &mut Registers, layout: &Layout, txn: u32, nth: u32)
     ensures spare { a.new.spare ≡ record a.old.spare { attempts = a.old.spare.attempts - 1 } }
     ensures hand { HandFits layout.now a.new (call_of a.new.step a.new) }
     ensures room { HasRoom a.new }
+    ensures closed { a.new.is_open ≡ false }
     ensures at { StepHolds a.new.step a.new }
-    ensures calm { a.new.is_open ≡ true → TxnRests a.new.step a.new.txn.call }
 {
     a.spare.attempts -= 1;
     a.snapper.begin(workers_of(layout, a.worker));
@@ -89,11 +88,9 @@ pub fn take_begin(a: &mut Registers, txn: u32, nth: u32, found: u64)
     requires closed { a.old.is_open ≡ false }
     requires room { HasRoom a.old }
     ensures client { (shape : Shape) → a.old.snapper.workers ≡ shape.workers
-        → a.old.txn.state.worker ≡ a.old.worker
         → client_of a.new ≡ client_after shape (client_of a.old) found }
     ensures spare { a.new.spare ≡ a.old.spare }
-    ensures txn { (shape : Shape) → CanBegin shape a.old.txn.state.worker a.old.last (seen_in a.new.snapper.state)
-        → a.new.is_open ≡ true → IsTxnOf shape a.new.txn }
+    ensures txn { a.new.is_open ≡ true → IsFresh a.new.txn }
     ensures hand { (shape : Shape) → a.old.snapper.workers ≡ shape.workers
         → HandFits shape a.new (call_of a.new.step a.new) }
     ensures room { HasRoom a.new }
@@ -130,10 +127,8 @@ pub fn take_begin(a: &mut Registers, txn: u32, nth: u32, found: u64)
 fn open(a: &mut Registers, txn: u32, nth: u32)
     requires done { a.old.snapper.state ≡ Over (Done (seen_in a.old.snapper.state)) }
     requires snaps { 0 < a.old.log.room.snaps }
-    ensures state { a.new.txn.state ≡ new_txn a.old.txn.state.worker a.old.last (seen_in a.old.snapper.state) }
+    ensures state { a.new.txn.state ≡ new_txn a.old.worker a.old.last (seen_in a.old.snapper.state) }
     ensures call { a.new.txn.call ≡ None }
-    ensures txn { (shape : Shape) → CanBegin shape a.old.txn.state.worker a.old.last (seen_in a.old.snapper.state)
-        → IsTxnOf shape a.new.txn }
     ensures rest { a.new ≡ record (opened a.old txn nth) { txn = a.new.txn } }
 {
     let seen = a.snapper.seen();
@@ -146,7 +141,7 @@ fn open(a: &mut Registers, txn: u32, nth: u32)
         reads: 0,
         locks: 0,
     };
-    a.txn.restart(a.last, seen);
+    a.txn.restart(a.worker, a.last, seen);
     a.log.list_snap(seen);
     a.is_open = true;
 }

@@ -20,14 +20,10 @@ ghost use Rattle.nam_client.specs.Client.{CanServe, spare_of, less_room, verb_of
 ghost use Rattle.nam_client.specs.Fits.{IsClientOf};
 
 use crate::answering::{answer_of, is_busy};
-use crate::beginning::{begin, take_begin};
+use crate::calls::{ask_call, take_word};
 use crate::closing::{abandon, into_log};
-use crate::collecting::{collect, take_collect, take_snap};
-use crate::registers::{Registers, Spare, Step, new_registers};
+use crate::registers::{Registers, Spare, new_registers};
 use crate::room::reserve;
-use crate::scanning::{ask_scan, take_scan};
-use crate::tidying::{take_move, take_seek, tidy};
-use crate::transacting::{ask_txn, take_txn};
 use crate::verbs::{verb_of, verbs_left};
 use nam_layout::Layout;
 use nam_protocol::{Answer, Call};
@@ -95,10 +91,7 @@ impl Client {
     #[tactic(auto, using(
         crate::proofs::KeptLemmas::asked_kept,
         crate::proofs::KeptLemmas::asked_left,
-        crate::proofs::KeptLemmas::asked_opened,
-        crate::proofs::KeptLemmas::asked_unfinished,
-        crate::proofs::KeptLemmas::unfinished_uncut,
-        crate::proofs::KeptLemmas::still_finishes,
+        crate::proofs::KeptLemmas::asked_holds,
     ))]
     /// Asks a call, for which there is room. It may be answered at once.
     pub fn ask(&mut self, layout: &Layout, call: &Call)
@@ -111,14 +104,7 @@ impl Client {
         ensures of { IsClientOf layout.now self.new }
         ensures left { client_left layout.now (client_of self.new) ≤ call_bound layout.now (client_of self.old) call.now }
     {
-        let registers = &mut self.registers;
-        match call {
-            Call::Begin { txn, nth } => begin(registers, layout, *txn, *nth),
-            Call::Txn(call) => ask_txn(registers, layout, call),
-            Call::Scan { table, low, high } => ask_scan(registers, layout, *table, *low, *high),
-            Call::Tidy { table, key } => tidy(registers, layout, *table, *key),
-            Call::Collect { bucket } => collect(registers, layout, *bucket),
-        }
+        ask_call(&mut self.registers, layout, call);
     }
 
     #[tactic(auto, using(crate::proofs::VerbLemmas::within))]
@@ -135,10 +121,7 @@ impl Client {
     #[tactic(auto, using(
         crate::proofs::KeptLemmas::word_kept,
         crate::proofs::KeptLemmas::word_falls,
-        crate::proofs::KeptLemmas::word_opened,
-        crate::proofs::KeptLemmas::word_unfinished,
-        crate::proofs::KeptLemmas::unfinished_uncut,
-        crate::proofs::KeptLemmas::still_finishes,
+        crate::proofs::KeptLemmas::word_holds,
     ))]
     /// Goes on with the word that the verb found.
     #[inline]
@@ -150,17 +133,7 @@ impl Client {
         ensures of { IsClientOf layout.now self.new }
         ensures falls { client_left layout.now (client_of self.new) < client_left layout.now (client_of self.old) }
     {
-        let registers = &mut self.registers;
-        match registers.step {
-            Step::Moving { table, key, position } => take_move(registers, table, key, position, found),
-            Step::InTxn => take_txn(registers, layout, found),
-            Step::Beginning { txn, nth } => take_begin(registers, txn, nth, found),
-            Step::Seeking { table, key, passed } => take_seek(registers, layout, table, key, passed, found),
-            Step::Scanning => take_scan(registers, layout, found),
-            Step::Snapping { bucket } => take_snap(registers, layout, bucket, found),
-            Step::Collecting { bucket, prefix } => take_collect(registers, bucket, prefix, found),
-            Step::Resting | Step::Answered(_) => {}
-        }
+        take_word(&mut self.registers, layout, found);
     }
 
     /// A number of verbs that are to come at the most before the answer. Each word that is taken lowers it, and right

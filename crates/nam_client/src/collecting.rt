@@ -13,7 +13,7 @@ ghost use Rattle.nam_protocol.specs.Own.{MayAsk};
 ghost use Rattle.si_model.specs.declared.log.Event.TheVariants.{Collected};
 ghost use Rattle.nam_client.specs.declared.registers.Step.TheVariants as step;
 ghost use Rattle.nam_client.specs.Registers.{client_of, call_of, seen_in, listed, collecting};
-ghost use Rattle.nam_client.specs.Room.{HasRoom, StepHolds, TxnRests};
+ghost use Rattle.nam_client.specs.Room.{HasRoom, StepHolds};
 ghost use Rattle.nam_client.specs.Fits.{IsClientOf, HandFits};
 
 use crate::beginning::{prefix_of, workers_of};
@@ -32,8 +32,8 @@ pub fn collect(a: &mut Registers, layout: &Layout, bucket: u32)
     ensures spare { a.new.spare ≡ record a.old.spare { tidies = a.old.spare.tidies - 1 } }
     ensures hand { HandFits layout.now a.new (call_of a.new.step a.new) }
     ensures room { HasRoom a.new }
+    ensures closed { a.new.is_open ≡ false }
     ensures at { StepHolds a.new.step a.new }
-    ensures calm { a.new.is_open ≡ true → TxnRests a.new.step a.new.txn.call }
 {
     a.spare.tidies -= 1;
     let workers = workers_of(layout, a.worker);
@@ -50,14 +50,15 @@ pub fn take_snap(a: &mut Registers, layout: &Layout, bucket: u32, found: u64)
     requires hand { HandFits layout.now a.old (call_of a.old.step a.old) }
     requires workers { a.old.snapper.workers ≡ layout.now.workers }
     requires bucket { bucket < layout.now.buckets }
+    requires at { StepHolds a.old.step a.old }
     requires closed { a.old.is_open ≡ false }
     requires room { HasRoom a.old }
     ensures client { client_of a.new ≡ client_after layout.now (client_of a.old) found }
     ensures spare { a.new.spare ≡ a.old.spare }
     ensures hand { HandFits layout.now a.new (call_of a.new.step a.new) }
     ensures room { HasRoom a.new }
+    ensures closed { a.new.is_open ≡ false }
     ensures at { StepHolds a.new.step a.new }
-    ensures calm { a.new.is_open ≡ true → TxnRests a.new.step a.new.txn.call }
 {
     a.snapper.take(found);
     match a.snapper.end() {
@@ -111,8 +112,8 @@ pub fn take_collect(a: &mut Registers, bucket: u32, prefix: u64, found: u64)
     ensures hand { (shape : Shape) → HandFits shape a.old (call_of a.old.step a.old)
         → HandFits shape a.new (call_of a.new.step a.new) }
     ensures room { HasRoom a.new }
+    ensures closed { a.new.is_open ≡ false }
     ensures at { StepHolds a.new.step a.new }
-    ensures calm { a.new.is_open ≡ true → TxnRests a.new.step a.new.txn.call }
 {
     a.collector.take(a.snapper.seen(), found);
     if a.collector.is_over() {

@@ -4,9 +4,7 @@ ghost use Rattle.std.specs.Prelude.{◌≡◌, ◌≤◌, ◌+◌, min, Some, If
 ghost use Rattle.nam_catalog.specs.declared.bounds.TheConstants.{MOST_CAPACITY};
 ghost use Rattle.nam_client.specs.Registers.{client_of};
 ghost use Rattle.nam_protocol.specs.Own.{OpenClient};
-ghost use Rattle.nam_client.specs.declared.registers.Step.TheVariants as step;
-ghost use Rattle.nam_client.specs.Gathered.{Gathers};
-ghost use Rattle.nam_client.specs.Room.{HasRoom, Holds, ScanStands, StepHolds, greater_spare, owed_keys};
+ghost use Rattle.nam_client.specs.Room.{HasRoom, Holds, StepHolds, greater_spare, owed_keys};
 
 use crate::registers::{Registers, Spare};
 use nam_catalog::bounds::MOST_CAPACITY;
@@ -62,8 +60,6 @@ pub fn reserve(a: &mut Registers, asked: &Spare) -> Result<(), AllocError>
     ensures room { HasRoom a.new }
     ensures opened { OpenClient (client_of a.new) }
     ensures at { StepHolds a.new.step a.new }
-    ensures scans { a.new.step ≡ step.Scanning → ScanStands a.new.scan }
-    ensures rows { a.new.step ≡ step.Scanning → Gathers a.new.scanned.items a.new.scan }
 {
     let spare = a.spare.max_each(asked);
     let room = room_for(a, &spare).ok_or(AllocError)?;

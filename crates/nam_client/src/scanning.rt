@@ -9,12 +9,12 @@ ghost use Rattle.nam_protocol.specs.Client.{client_ask, client_after};
 ghost use Rattle.nam_protocol.specs.Log.{with_reads};
 ghost use Rattle.nam_protocol.specs.Own.{MayAsk};
 ghost use Rattle.nam_protocol.specs.ScanCall.{item_of, sorted_onto};
-ghost use Rattle.nam_txn.specs.Txn.{IsTxnOf};
+ghost use Rattle.nam_txn.specs.Txn.{IsTxnOf, Rests};
 ghost use Rattle.nam_client.specs.declared.registers.Step.TheVariants as step;
 ghost use Rattle.nam_client.specs.Registers.{client_of, call_of};
-ghost use Rattle.nam_client.specs.Room.{HasRoom, Holds, ScanStands};
+ghost use Rattle.nam_client.specs.Room.{HasRoom, Holds, StepHolds, TxnRests};
 ghost use Rattle.nam_client.specs.Fits.{IsClientOf, HandFits};
-ghost use Rattle.nam_client.specs.Gathered.{RiseWithin, OfScan, Gathers};
+ghost use Rattle.nam_client.specs.Gathered.{RiseWithin, OfScan};
 ghost use Rattle.nam_client.specs.Scanning.{HasLeft, HasNamed, HasAnswered};
 ghost use Rattle.nam_client.specs.Scanning.{gathered, rows_listed, scan_failed, left_at, after_key, after_scan};
 
@@ -31,6 +31,7 @@ pub fn ask_scan(a: &mut Registers, layout: &Layout, table: u32, low: u64, high: 
     requires of { IsClientOf layout.now a.old }
     requires may { MayAsk layout.now (client_of a.old) (call.Scan table low high) }
     requires holds { Holds a.old }
+    requires rests { Rests a.old.txn.call }
     requires spare { capacity_of layout.now table ≤ a.old.spare.ops }
     requires counted { a.old.attempt.ops_so_far + capacity_of layout.now table < 2 ^ 32 }
     ensures client { client_of a.new ≡ client_ask layout.now (client_of a.old) (call.Scan table low high) }
@@ -39,10 +40,8 @@ pub fn ask_scan(a: &mut Registers, layout: &Layout, table: u32, low: u64, high: 
     ensures txn { a.new.is_open ≡ true → IsTxnOf layout.now a.new.txn }
     ensures hand { HandFits layout.now a.new (call_of a.new.step a.new) }
     ensures room { HasRoom a.new }
-    ensures scans { ScanStands a.new.scan }
-    ensures rows { Gathers a.new.scanned.items a.new.scan }
-    ensures step { a.new.step ≡ step.Scanning }
-    ensures txn_is { a.new.txn ≡ a.old.txn }
+    ensures at { StepHolds a.new.step a.new }
+    ensures calm { a.new.is_open ≡ true → TxnRests a.new.step a.new.txn.call }
 {
     // A layout's total says that the shape is within its limits: the table has a position.
     let _words = layout.total();
@@ -66,8 +65,8 @@ pub fn take_scan(a: &mut Registers, layout: &Layout, found: u64)
     ensures txn { a.new.is_open ≡ true → IsTxnOf layout.now a.new.txn }
     ensures hand { HandFits layout.now a.new (call_of a.new.step a.new) }
     ensures room { HasRoom a.new }
-    ensures scans { a.new.step ≡ step.Scanning → ScanStands a.new.scan }
-    ensures rows { a.new.step ≡ step.Scanning → Gathers a.new.scanned.items a.new.scan }
+    ensures at { StepHolds a.new.step a.new }
+    ensures calm { a.new.is_open ≡ true → TxnRests a.new.step a.new.txn.call }
 {
     let Some(scan) = &mut a.scan else { return };
     let position = scan.position();

@@ -14,7 +14,7 @@ ghost use Rattle.nam_protocol.specs.Client.{client_ask, client_after};
 ghost use Rattle.nam_protocol.specs.Own.{MayAsk};
 ghost use Rattle.nam_client.specs.declared.registers.Step.TheVariants as step;
 ghost use Rattle.nam_client.specs.Registers.{client_of, call_of, after_move};
-ghost use Rattle.nam_client.specs.Room.{HasRoom, StepHolds, TxnRests};
+ghost use Rattle.nam_client.specs.Room.{HasRoom, StepHolds};
 ghost use Rattle.nam_client.specs.Fits.{IsClientOf, HandFits, HasAtHand};
 
 use crate::registers::{Registers, Step, Told};
@@ -45,8 +45,8 @@ pub fn tidy(a: &mut Registers, layout: &Layout, table: u32, key: u64)
     ensures spare { a.new.spare ≡ record a.old.spare { tidies = a.old.spare.tidies - 1 } }
     ensures hand { HandFits layout.now a.new (call_of a.new.step a.new) }
     ensures room { HasRoom a.new }
+    ensures closed { a.new.is_open ≡ false }
     ensures at { StepHolds a.new.step a.new }
-    ensures calm { a.new.is_open ≡ true → TxnRests a.new.step a.new.txn.call }
 {
     a.spare.tidies -= 1;
     a.path = path_of(layout, table, key);
@@ -78,8 +78,8 @@ pub fn take_seek(
     ensures spare { a.new.spare ≡ a.old.spare }
     ensures hand { HandFits layout.now a.new (call_of a.new.step a.new) }
     ensures room { HasRoom a.new }
+    ensures closed { a.new.is_open ≡ false }
     ensures at { StepHolds a.new.step a.new }
-    ensures calm { a.new.is_open ≡ true → TxnRests a.new.step a.new.txn.call }
 {
     match find_after(&a.path, passed, found) {
         Now::At(passed) => a.step = Step::Seeking { table, key, passed },
@@ -118,8 +118,8 @@ pub fn take_move(a: &mut Registers, table: u32, key: u64, position: u32, found: 
     ensures hand { (shape : Shape) → HandFits shape a.old (call_of a.old.step a.old)
         → HandFits shape a.new (call_of a.new.step a.new) }
     ensures room { HasRoom a.new }
+    ensures closed { a.new.is_open ≡ false }
     ensures at { StepHolds a.new.step a.new }
-    ensures calm { a.new.is_open ≡ true → TxnRests a.new.step a.new.txn.call }
 {
     a.mover.take(found);
     if let Some(end) = a.mover.end() {

@@ -44,7 +44,6 @@ pub fn verb_of(a: &Registers) -> Option<Verb>
 }
 
 /// How many verbs are to come at the most, and none where no call runs or the client is cut.
-#[tactic(auto, using(crate::proofs::VerbLemmas::collecting))]
 pub fn verbs_left(a: &Registers) -> u64
     requires { Holds a.now }
     ensures { (shape : Shape) → IsClientOf shape a.now → result ≡ client_left shape (client_of a.now) }

@@ -88,7 +88,9 @@ module _ (shape : Shape) (a : Registers) (of : IsClientOf shape a) (some : IsSom
   workers_by (Over end) hand is = absurd (cc)
 
   pub begin_workers : a.snapper.workers ≡ shape.workers
-  begin_workers = workers_by a.snapper.state (rw at at of.hand) (rw at at (going shape a some).stands)
+  begin_workers =
+      workers_by a.snapper.state (rw at at of.hand)
+      (sym (ap (λ (s : Step). call_of s a) at) ∙ (going shape a some).stands)
 
 -- 1. With a word
 

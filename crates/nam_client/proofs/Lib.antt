@@ -10,5 +10,6 @@ pub mod SteppedLemmas
 pub mod TableLemmas
 pub mod TakeLemmas
 pub mod TakeStart
+pub mod TestLemmas
 pub mod TxnSteps
 pub mod VerbLemmas

@@ -54,13 +54,14 @@ impl Registers {
         }
     }
 
-    pub fn restart(&mut self, last: u64, seen: &Snapshot)
+    pub fn restart(&mut self, worker: u32, last: u64, seen: &Snapshot)
         requires { Holds self.old }
         ensures step { self.new.step ≡ step.Resting }
-        ensures state { self.new.state ≡ new_txn self.old.state.worker last seen.now }
+        ensures state { self.new.state ≡ new_txn worker last seen.now }
         ensures holds { Holds self.new }
     {
         let state = &mut self.state;
+        state.worker = worker;
         state.last = last;
         copy_seen(&mut state.seen, seen);
         state.writes.clear();

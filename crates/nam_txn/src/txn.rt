@@ -54,13 +54,13 @@ impl Txn {
         }
     }
 
-    /// Begins a new transaction of the same worker. The one that stood is forgotten.
-    pub fn restart(&mut self, last: u64, seen: &Snapshot)
-        ensures state { self.new.state ≡ new_txn self.old.state.worker last seen.now }
+    /// Begins a new transaction of a worker in its place. The one that stood is forgotten.
+    pub fn restart(&mut self, worker: u32, last: u64, seen: &Snapshot)
+        ensures state { self.new.state ≡ new_txn worker last seen.now }
         ensures call { self.new.call ≡ None }
-        ensures of { (shape : Shape) → CanBegin shape self.old.state.worker last seen.now → IsTxnOf shape self.new }
+        ensures of { (shape : Shape) → CanBegin shape worker last seen.now → IsTxnOf shape self.new }
     {
-        self.registers.restart(last, seen);
+        self.registers.restart(worker, last, seen);
     }
 
     /// Asks a call, where none runs and no locks are held. It may be answered at once.

@@ -1,0 +1,15 @@
+pub mod AskRoom
+pub mod ClosingLemmas
+pub mod EndingLemmas
+pub mod KeptLemmas
+pub mod ScanCallLemmas
+pub mod ScanLemmas
+pub mod SortLemmas
+pub mod StepRoom
+pub mod SteppedLemmas
+pub mod TableLemmas
+pub mod TakeLemmas
+pub mod TakeStart
+pub mod TestLemmas
+pub mod TxnSteps
+pub mod VerbLemmas

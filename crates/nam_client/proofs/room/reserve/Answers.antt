@@ -1,0 +1,14 @@
+use Rattle.std.proofs.Common.{rules}
+use Rattle.nam_client.proofs.room.reserve.Goals as goal
+
+pub returns-clause-room : goal.returns-clause-room
+returns-clause-room c = record {
+  events = search rules;
+  closes = search rules;
+  reads = search rules;
+  locks = search rules;
+  writes = search rules;
+  snaps = search rules;
+  scanned = search rules;
+  counts = search rules;
+}

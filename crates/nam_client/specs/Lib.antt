@@ -1,0 +1,8 @@
+pub mod Registers
+pub mod Gathered
+pub mod Scanning
+pub mod Room
+pub mod Fits
+pub mod Ending
+pub mod Client
+pub mod Closing

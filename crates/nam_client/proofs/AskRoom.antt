@@ -1,6 +1,7 @@
 -- The registers whose transaction's call was asked: their room, and the client that has asked.
 use Rattle.std.specs.Prelude.{IsSome, Option, Some, None, drop, if◌then◌else◌, min}
-use Rattle.std.proofs.Common.{Bool, List, [], ◌∷◌, ◌++◌, ap, length, refl, sym, subst, true, false, ℕ, ◌+◌, ◌-◌, ◌≤◌, ◌<◌, ◌^◌}
+use Rattle.std.proofs.Common.{Bool, List, [], ◌∷◌, ◌++◌, ap, length, refl, sym}
+use Rattle.std.proofs.Common.{subst, true, false, ℕ, ◌+◌, ◌-◌, ◌≤◌, ◌<◌, ◌^◌}
 use Rattle.std.proofs.Common.{◌≡◌, ◌∙◌, arith}
 use Rattle.std.proofs.lemmas.Bool.{false≢true}
 use Rattle.std.proofs.lemmas.List.{append-nil}
@@ -42,7 +43,8 @@ use Rattle.nam_client.specs.Registers.{call_of, client_of, open_of, with_new_loc
 use Rattle.nam_client.specs.Room.{HasRoom, Holds, positions}
 use Rattle.nam_client.proofs.StepRoom.{EndsAs, OpenRoom, RoomBy, call_or, can_go_on, ends_as, open_is, room_by, runs_as}
 use Rattle.nam_client.proofs.SteppedLemmas.{finished, none_new, stepped_is, with_txn}
-use Rattle.nam_client.proofs.TxnSteps.{Quiet, ReadsWithin, Steps, owed_now, owed_now_once, quiet_owes, quiet_reads, reads_once}
+use Rattle.nam_client.proofs.TxnSteps.{Quiet, ReadsWithin, Steps, owed_now}
+use Rattle.nam_client.proofs.TxnSteps.{owed_now_once, quiet_owes, quiet_reads, reads_once}
 
 -- 1. What asking does with a transaction
 
@@ -242,7 +244,8 @@ open_call shape attempt false call fits = absurd fits
 
 -- 4. The call is asked
 
-module _ (shape : Shape) (a : Registers) (call : TxnCall) (may : MayAsk shape (client_of a) (Txn call)) (holds : Holds a)
+module _ (shape : Shape) (a : Registers) (call : TxnCall) (may : MayAsk shape (client_of a) (Txn call))
+    (holds : Holds a)
     where
   pub is_open : a.is_open ≡ true
   is_open = (open_call shape (open_of a) a.is_open call may.fits).0

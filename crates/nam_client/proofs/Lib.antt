@@ -10,6 +10,5 @@ pub mod SteppedLemmas
 pub mod TableLemmas
 pub mod TakeLemmas
 pub mod TakeStart
-pub mod TestLemmas
 pub mod TxnSteps
 pub mod VerbLemmas

@@ -1,6 +1,7 @@
 -- The room that the registers have after a step of their transaction.
 use Rattle.std.specs.Prelude.{IsSome, IsTrue, Option, Some, None, drop, if◌then◌else◌, min}
-use Rattle.std.proofs.Common.{Bool, List, [], ◌∷◌, ap, length, refl, sym, subst, true, false, ℕ, ◌+◌, ◌-◌, ◌≤◌, ◌<◌, ◌^◌}
+use Rattle.std.proofs.Common.{Bool, List, [], ◌∷◌, ap, length, refl, sym}
+use Rattle.std.proofs.Common.{subst, true, false, ℕ, ◌+◌, ◌-◌, ◌≤◌, ◌<◌, ◌^◌}
 use Rattle.std.proofs.Common.{◌≡◌, ◌∙◌, arith}
 use Rattle.std.proofs.lemmas.Bool.{false≢true}
 use Rattle.nam_verbs.specs.declared.now.Now.{Now}
@@ -32,7 +33,8 @@ use Rattle.nam_client.specs.declared.registers.Step.TheVariants as step
 use Rattle.nam_client.specs.Ending.{CanGoOn}
 use Rattle.nam_client.specs.Fits.{HandFits, IsClientOf}
 use Rattle.nam_client.specs.Registers.{call_of, client_of, in_txn, open_of, with_new_locks}
-use Rattle.nam_client.specs.Room.{CanList, CanRead, Counts, HasAnswered, HasRoom, Holds, by_point, lists_read, owed_event, owed_keys}
+use Rattle.nam_client.specs.Room.{CanList, CanRead, Counts, HasAnswered, HasRoom}
+use Rattle.nam_client.specs.Room.{Holds, by_point, lists_read, owed_event, owed_keys}
 use Rattle.nam_client.specs.Room.{owed_reads, positions, reads_at_hand, reads_of_point, snap_of_point, taken_in}
 use Rattle.nam_client.proofs.SteppedLemmas.{finished, held_of, new_length, stepped_is, taken_held, with_txn}
 use Rattle.nam_client.proofs.TxnSteps.{ReadsWithin, Steps, owed_at, owed_now, steps}
@@ -97,7 +99,8 @@ pub record OpenRoom (a : Registers) (owed : ℕ) : Type 0 where
   pub listed : a.attempt.reads + owed ≤ a.attempt.ops_so_far
   pub held : length a.txn.state.held ≡ a.attempt.locks
 
-module _ (a : Registers) (opened : a.is_open ≡ true) (at : TxnPoint) (is : call_of a.step a ≡ Some (At (InTxn at))) where
+module _ (a : Registers) (opened : a.is_open ≡ true) (at : TxnPoint)
+    (is : call_of a.step a ≡ Some (At (InTxn at))) where
   pub open_room : HasRoom a → OpenRoom a (owed_at at)
   open_room room =
       let by = subst (λ c. RoomBy a true c) is
@@ -316,7 +319,8 @@ module _ (shape : Shape) (a : Registers) (found : ℕ) (of : IsClientOf shape a)
       → Steps a.txn.state (owed_at at) (txn_after shape a.txn.state at found)
   steps_at at is =
       let txn = of.txn (opened_at at is) in
-      let fits = subst (λ (c : Option (Now TxnPoint TxnAnswer)). TxnCallFits shape a.txn.state a.txn.hand c) is txn.call in
+      let fits =
+          subst (λ (c : Option (Now TxnPoint TxnAnswer)). TxnCallFits shape a.txn.state a.txn.hand c) is txn.call in
       steps shape a.txn.state at found txn.fits fits.0 fits.2
 
   -- the locks after the word, and how the registers go on

@@ -1,6 +1,7 @@
 -- The registers whose transaction has stepped, and whose new locks are listed, are the client that has stepped.
 use Rattle.std.specs.Prelude.{IsSome, Option, Some, None, drop, slice_index, if◌then◌else◌}
-use Rattle.std.proofs.Common.{Bool, List, [], ◌∷◌, ◌++◌, ap, length, refl, sym, subst, true, false, ℕ, ◌+◌, ◌-◌, ◌≤◌, ◌∙◌}
+use Rattle.std.proofs.Common.{Bool, List, [], ◌∷◌, ◌++◌, ap, length, refl}
+use Rattle.std.proofs.Common.{sym, subst, true, false, ℕ, ◌+◌, ◌-◌, ◌≤◌, ◌∙◌}
 use Rattle.std.proofs.Common.{◌≡◌, arith, suc, zero}
 use Rattle.std.proofs.Math.Seq.{drop-length}
 use Rattle.std.proofs.lemmas.List.{length-drop}
@@ -121,7 +122,10 @@ module _ (a : Registers) (t : Transacting) where
   running_is client call opened in_txn is =
       let b = with_txn in
       let o = ap (λ (is_open : Bool). if is_open then Some (open_of b) else None) opened in
-      let c = ap (λ (s : Step). call_of s b) in_txn ∙ ap (λ (x : Option (Now TxnPoint TxnAnswer)). call_of step.InTxn (record b { txn = record t { call = x } })) is in
+      let c =
+          ap (λ (s : Step). call_of s b) in_txn
+          ∙ ap (λ (x : Option (Now TxnPoint TxnAnswer)). call_of step.InTxn (record b { txn = record t { call = x } }))
+          is in
       ap (λ (x : Option Open). record (client_of b) { txn = x; call = runs InTxn answer.Txn call }) (sym o)
       ∙ ap (λ (y : Option (Now CallPoint Answer)). record (client_of b) { call = y }) (sym c)
 

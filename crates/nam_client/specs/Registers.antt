@@ -143,8 +143,10 @@ opened a txn nth =
 
 -- a move has ended: it is listed where it claimed a cell or found none
 abbrev pub after_move : Registers → ℕ → ℕ → MoveAnswer → Registers
-after_move a table key (move_end.Moved stamp) = listed a (event.Moved a.mover.cells.bucket table key stamp moved_how.Done)
-after_move a table key (move_end.Back stamp) = listed a (event.Moved a.mover.cells.bucket table key stamp moved_how.Back)
+after_move a table key (move_end.Moved stamp) =
+    listed a (event.Moved a.mover.cells.bucket table key stamp moved_how.Done)
+after_move a table key (move_end.Back stamp) =
+    listed a (event.Moved a.mover.cells.bucket table key stamp moved_how.Back)
 after_move a table key move_end.Nothing = a
 after_move a table key (move_end.NoRoom bucket) = listed a (event.NoRoom bucket)
 

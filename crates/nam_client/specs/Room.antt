@@ -1,5 +1,6 @@
 -- The room that a client has in its log: for the calls that it may still be asked, and for what it owes.
-use Rattle.std.specs.Prelude.{◌≡◌, Bool, true, ℕ, ◌+◌, ◌^◌, ◌≤◌, ◌<◌, min, max, if◌then◌else◌, List, length, Option, Some, None, IsNone, IsSome}
+use Rattle.std.specs.Prelude.{◌≡◌, Bool, true, ℕ, ◌+◌, ◌^◌, ◌≤◌, ◌<◌, min}
+use Rattle.std.specs.Prelude.{max, if◌then◌else◌, List, length, Option, Some, None, IsNone, IsSome}
 use Rattle.nam_verbs.specs.declared.now.Now.{Now}
 use Rattle.nam_verbs.specs.declared.now.Now.TheVariants.{At, Over}
 use Rattle.nam_verbs.specs.Now.{end_now}

@@ -1,6 +1,7 @@
 //! Clients.
 
-ghost use Rattle.std.specs.Prelude.{◌≡◌, ◌<◌, ◌≤◌, ◌+◌, ◌-◌, ◌^◌, ◌↔◌, IsNone, IsSome, IfSome, IsTrue, OnOk, OnErr, length};
+ghost use Rattle.std.specs.Prelude.{◌≡◌, ◌<◌, ◌≤◌, ◌+◌, ◌-◌, ◌^◌, ◌↔◌};
+ghost use Rattle.std.specs.Prelude.{IsNone, IsSome, IfSome, IsTrue, OnOk, OnErr, length};
 ghost use Rattle.std.specs.Prelude.{true, false, Some, None};
 ghost use Rattle.nam_verbs.specs.Verb.{address_of};
 ghost use Rattle.nam_verbs.specs.declared.now.Now.TheVariants.{Over};
@@ -102,7 +103,8 @@ impl Client {
         ensures client { client_of self.new ≡ client_ask layout.now (client_of self.old) call.now }
         ensures spare { spare_of self.new ≡ less_room (spare_of self.old) (call_room layout.now call.now) }
         ensures of { IsClientOf layout.now self.new }
-        ensures left { client_left layout.now (client_of self.new) ≤ call_bound layout.now (client_of self.old) call.now }
+        ensures left { client_left layout.now (client_of self.new)
+            ≤ call_bound layout.now (client_of self.old) call.now }
     {
         ask_call(&mut self.registers, layout, call);
     }

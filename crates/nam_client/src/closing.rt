@@ -9,7 +9,8 @@ ghost use Rattle.nam_protocol.specs.SessionFits.{is_running};
 ghost use Rattle.nam_client.specs.Registers.{client_of, call_of};
 ghost use Rattle.nam_client.specs.Room.{Holds, HasRoom};
 ghost use Rattle.nam_client.specs.Fits.{HandFits};
-ghost use Rattle.nam_client.specs.Closing.{open_listed, cut_move_listed, was_rolled_on, cut_txn_listed, ended, finish_listed};
+ghost use Rattle.nam_client.specs.Closing.{open_listed, cut_move_listed, was_rolled_on};
+ghost use Rattle.nam_client.specs.Closing.{cut_txn_listed, ended, finish_listed};
 
 use crate::beginning::list_unbegun;
 use crate::collecting::list_collect;

@@ -91,7 +91,8 @@ pub fn take_seek(
 /// The key has a position.
 fn begin_move(a: &mut Registers, layout: &Layout, table: u32, key: u64, position: u32)
     requires position { IsPosition layout.now.tables table position }
-    ensures mover { a.new.mover ≡ moving (place_of layout.now table position) (cells_by layout.now (place_of layout.now table position)) }
+    ensures mover { a.new.mover
+        ≡ moving (place_of layout.now table position) (cells_by layout.now (place_of layout.now table position)) }
     ensures rest { a.new ≡ record a.old { mover = a.new.mover; step = step.Moving table key position } }
 {
     let place = layout.place(table, position);

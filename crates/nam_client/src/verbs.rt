@@ -14,7 +14,11 @@ use nam_scan::Scan;
 use nam_verbs::Verb;
 
 /// The verb that stands, and none where no call runs or the client is cut.
-#[tactic(auto, using(crate::proofs::VerbLemmas::in_txn, crate::proofs::VerbLemmas::seeking, crate::proofs::VerbLemmas::scanning))]
+#[tactic(auto, using(
+    crate::proofs::VerbLemmas::in_txn,
+    crate::proofs::VerbLemmas::seeking,
+    crate::proofs::VerbLemmas::scanning,
+))]
 #[inline]
 pub fn verb_of(a: &Registers) -> Option<Verb>
     requires { Holds a.now }

@@ -149,43 +149,47 @@ resting_room a None rests by =
     let claims = counts.claims in
     let listed = counts.reads in
     let events = by.0 in
-    let snaps = by.4 in
-    (record {
-      events = omega arith;
-      closes = by.7 (omega arith);
-      written = counts.written;
-      reads = by.1;
-      locks = by.2;
-      writes = by.3;
-      snaps = omega arith;
-      scanned = by.5;
-      ops = counts.ops;
-      word = counts.word;
-      claims = counts.claims;
-      listed = counts.reads;
-      held = counts.held;
-    }, counts.locks)
+    let snaps = by.4 in (
+      record {
+        events = omega arith;
+        closes = by.7 (omega arith);
+        written = counts.written;
+        reads = by.1;
+        locks = by.2;
+        writes = by.3;
+        snaps = omega arith;
+        scanned = by.5;
+        ops = counts.ops;
+        word = counts.word;
+        claims = counts.claims;
+        listed = counts.reads;
+        held = counts.held;
+      },
+      counts.locks,
+    )
 resting_room a (Some (Over end)) rests by =
     let counts = by.6 refl in
     let claims = counts.claims in
     let listed = counts.reads in
     let events = by.0 in
-    let snaps = by.4 in
-    (record {
-      events = omega arith;
-      closes = by.7 (omega arith);
-      written = counts.written;
-      reads = by.1;
-      locks = by.2;
-      writes = by.3;
-      snaps = omega arith;
-      scanned = by.5;
-      ops = counts.ops;
-      word = counts.word;
-      claims = counts.claims;
-      listed = counts.reads;
-      held = counts.held;
-    }, counts.locks)
+    let snaps = by.4 in (
+      record {
+        events = omega arith;
+        closes = by.7 (omega arith);
+        written = counts.written;
+        reads = by.1;
+        locks = by.2;
+        writes = by.3;
+        snaps = omega arith;
+        scanned = by.5;
+        ops = counts.ops;
+        word = counts.word;
+        claims = counts.claims;
+        listed = counts.reads;
+        held = counts.held;
+      },
+      counts.locks,
+    )
 
 counted_room : (a : Registers) (call : TxnCall) → op_count call ≤ a.spare.ops
     → a.attempt.ops_so_far + op_count call < 2 ^ 32 → OpenRoom a 0 → OpenRoom (call_counted a call) (op_count call)
@@ -246,72 +250,72 @@ open_call shape attempt false call fits = absurd fits
 
 module _ (shape : Shape) (a : Registers) (call : TxnCall) (may : MayAsk shape (client_of a) (Txn call))
     (holds : Holds a)
-    where
-  pub is_open : a.is_open ≡ true
-  is_open = (open_call shape (open_of a) a.is_open call may.fits).0
+  where
+    pub is_open : a.is_open ≡ true
+    is_open = (open_call shape (open_of a) a.is_open call may.fits).0
 
-  pub call_fits : TxnCallFits shape a.txn.state call
-  call_fits = (open_call shape (open_of a) a.is_open call may.fits).1
+    pub call_fits : TxnCallFits shape a.txn.state call
+    call_fits = (open_call shape (open_of a) a.is_open call may.fits).1
 
-  room_before : OpenRoom a 0 × (a.attempt.locks ≡ 0)
-  room_before =
-      resting_room a (call_of a.step a) may.rests
-      (subst (λ (o : Bool). RoomBy a o (call_of a.step a)) is_open (room_by a holds.room))
+    room_before : OpenRoom a 0 × (a.attempt.locks ≡ 0)
+    room_before =
+        resting_room a (call_of a.step a) may.rests
+        (subst (λ (o : Bool). RoomBy a o (call_of a.step a)) is_open (room_by a holds.room))
 
-  pub none_held : a.txn.state.held ≡ []
-  none_held =
-      let same = room_before.0.held in
-      let none = room_before.1 in
-      no_length a.txn.state.held (omega arith)
-
-  pub few_ops : op_count call ≤ a.spare.ops → a.attempt.ops_so_far + op_count call < 2 ^ 32
-      → a.attempt.ops + op_count call < 2 ^ 32
-  few_ops spare counted = let ops = room_before.0.ops in omega arith
-
-  module _ (t : Transacting) (at : IsAt t (txn_ask shape a.txn.state call)) (of : IsTxnOf shape t) where
-    after_locks : with_txn (call_counted a call) t ≡ record (call_counted a call) { txn = t }
-    after_locks =
+    pub none_held : a.txn.state.held ≡ []
+    none_held =
+        let same = room_before.0.held in
         let none = room_before.1 in
-        let held =
-        ap (λ (s : TxnState). length s.held) at.state
-        ∙ ap (λ (hs : List ℕ). length hs) (asked_held shape a.txn.state none_held call) in
-        unlocked (record (call_counted a call) { txn = t }) (omega arith)
+        no_length a.txn.state.held (omega arith)
 
-    pub ready_asked : op_count call ≤ a.spare.ops → a.attempt.ops_so_far + op_count call < 2 ^ 32
-        → CanGoOn (record (call_counted a call) { txn = t }) t.call
-    ready_asked spare counted =
-        subst (λ (b : Registers). CanGoOn b t.call) after_locks
-        (can_go_on shape (call_counted a call) t (op_count call) is_open refl of
-        (counted_room a call spare counted room_before.0) (txn_ask shape a.txn.state call) at
-        (call_asked shape a.txn.state none_held call))
+    pub few_ops : op_count call ≤ a.spare.ops → a.attempt.ops_so_far + op_count call < 2 ^ 32
+        → a.attempt.ops + op_count call < 2 ^ 32
+    few_ops spare counted = let ops = room_before.0.ops in omega arith
 
-    pub asked_is : (now : Now TxnPoint TxnAnswer) → t.call ≡ Some now
-        → let b = record (call_counted a call) { txn = t } in
-        client_ask shape (client_of a) (Txn call) ≡ finished (client_of b) (open_of b) now
-    asked_is now called =
-        let next = txn_ask shape a.txn.state call in
-        let none = room_before.1 in
-        ap (λ (o : Bool). ask_txn shape (client_of a) call (if o then Some (open_of a) else None)) is_open
-        ∙ ap (λ (attempt : Open). stepped (client_of a) attempt 0 next) (counted_open a call)
-        ∙ stepped_is (call_counted a call) t shape next 0 (client_of a).txn (client_of a).call at of is_open refl
-        (sym none)
-        ∙ ap (λ (b : Registers). finished (client_of b) (open_of b) next.call) after_locks
-        ∙ ap (λ (n : Now TxnPoint TxnAnswer). let b = record (call_counted a call) { txn = t } in
-        finished (client_of b) (open_of b) n)
-        (ap (call_or now) (sym at.call ∙ called))
+    module _ (t : Transacting) (at : IsAt t (txn_ask shape a.txn.state call)) (of : IsTxnOf shape t) where
+      after_locks : with_txn (call_counted a call) t ≡ record (call_counted a call) { txn = t }
+      after_locks =
+          let none = room_before.1 in
+          let held =
+          ap (λ (s : TxnState). length s.held) at.state
+          ∙ ap (λ (hs : List ℕ). length hs) (asked_held shape a.txn.state none_held call) in
+          unlocked (record (call_counted a call) { txn = t }) (omega arith)
 
-  module _ (b : Registers) (is : b ≡ record (call_counted a call) { txn = b.txn })
-      (at : IsAt b.txn (txn_ask shape a.txn.state call)) (of : IsTxnOf shape b.txn) where
-    asks_as : (now : Now TxnPoint TxnAnswer) → b.txn.call ≡ Some now
-        → client_ask shape (client_of a) (Txn call) ≡ finished (client_of b) (open_of b) now
-    asks_as now called =
-        asked_is b.txn at of now called ∙ ap (λ (r : Registers). finished (client_of r) (open_of r) now) (sym is)
+      pub ready_asked : op_count call ≤ a.spare.ops → a.attempt.ops_so_far + op_count call < 2 ^ 32
+          → CanGoOn (record (call_counted a call) { txn = t }) t.call
+      ready_asked spare counted =
+          subst (λ (b : Registers). CanGoOn b t.call) after_locks
+          (can_go_on shape (call_counted a call) t (op_count call) is_open refl of
+          (counted_room a call spare counted room_before.0) (txn_ask shape a.txn.state call) at
+          (call_asked shape a.txn.state none_held call))
 
-    pub ask_runs : Runs b.txn.call → client_of b ≡ client_ask shape (client_of a) (Txn call)
-    ask_runs goes = runs_as b b.txn.call refl goes (client_ask shape (client_of a) (Txn call)) asks_as
+      pub asked_is : (now : Now TxnPoint TxnAnswer) → t.call ≡ Some now
+          → let b = record (call_counted a call) { txn = t } in
+          client_ask shape (client_of a) (Txn call) ≡ finished (client_of b) (open_of b) now
+      asked_is now called =
+          let next = txn_ask shape a.txn.state call in
+          let none = room_before.1 in
+          ap (λ (o : Bool). ask_txn shape (client_of a) call (if o then Some (open_of a) else None)) is_open
+          ∙ ap (λ (attempt : Open). stepped (client_of a) attempt 0 next) (counted_open a call)
+          ∙ stepped_is (call_counted a call) t shape next 0 (client_of a).txn (client_of a).call at of is_open refl
+          (sym none)
+          ∙ ap (λ (b : Registers). finished (client_of b) (open_of b) next.call) after_locks
+          ∙ ap (λ (n : Now TxnPoint TxnAnswer). let b = record (call_counted a call) { txn = t } in
+          finished (client_of b) (open_of b) n)
+          (ap (call_or now) (sym at.call ∙ called))
 
-    pub ask_ends : (Runs b.txn.call → ⊥) → (after : ClientState) → EndsAs b after
-        → after ≡ client_ask shape (client_of a) (Txn call)
-    ask_ends rests after ends =
-        ends_as b b.txn.call refl rests (subst (λ (c : Option (Now TxnPoint TxnAnswer)). IsSome c) (sym at.call) refl)
-        (client_ask shape (client_of a) (Txn call)) after asks_as ends
+    module _ (b : Registers) (is : b ≡ record (call_counted a call) { txn = b.txn })
+        (at : IsAt b.txn (txn_ask shape a.txn.state call)) (of : IsTxnOf shape b.txn) where
+      asks_as : (now : Now TxnPoint TxnAnswer) → b.txn.call ≡ Some now
+          → client_ask shape (client_of a) (Txn call) ≡ finished (client_of b) (open_of b) now
+      asks_as now called =
+          asked_is b.txn at of now called ∙ ap (λ (r : Registers). finished (client_of r) (open_of r) now) (sym is)
+
+      pub ask_runs : Runs b.txn.call → client_of b ≡ client_ask shape (client_of a) (Txn call)
+      ask_runs goes = runs_as b b.txn.call refl goes (client_ask shape (client_of a) (Txn call)) asks_as
+
+      pub ask_ends : (Runs b.txn.call → ⊥) → (after : ClientState) → EndsAs b after
+          → after ≡ client_ask shape (client_of a) (Txn call)
+      ask_ends rests after ends =
+          ends_as b b.txn.call refl rests (subst (λ (c : Option (Now TxnPoint TxnAnswer)). IsSome c) (sym at.call) refl)
+          (client_ask shape (client_of a) (Txn call)) after asks_as ends

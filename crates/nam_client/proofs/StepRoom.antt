@@ -320,7 +320,7 @@ module _ (shape : Shape) (a : Registers) (found : ℕ) (of : IsClientOf shape a)
   steps_at at is =
       let txn = of.txn (opened_at at is) in
       let fits =
-          subst (λ (c : Option (Now TxnPoint TxnAnswer)). TxnCallFits shape a.txn.state a.txn.hand c) is txn.call in
+      subst (λ (c : Option (Now TxnPoint TxnAnswer)). TxnCallFits shape a.txn.state a.txn.hand c) is txn.call in
       steps shape a.txn.state at found txn.fits fits.0 fits.2
 
   -- the locks after the word, and how the registers go on
@@ -334,12 +334,11 @@ module _ (shape : Shape) (a : Registers) (found : ℕ) (of : IsClientOf shape a)
   ready_by t (Some (At place)) is runs at txn =
       let opened = opened_at place is in
       let room = room_at place is in
-      let stepped = steps_at place is in
-      (
+      let stepped = steps_at place is in (
         locks_of shape a t (owed_at place) opened stands txn room (txn_after shape a.txn.state place found) at.state
-        stepped,
+            stepped,
         can_go_on shape a t (owed_at place) opened stands txn room (txn_after shape a.txn.state place found) at
-        stepped,
+            stepped,
       )
 
   pub ready : (t : Transacting) → Runs a.txn.call → IsAt t (after_of shape a.txn.state a.txn.call found)

@@ -123,9 +123,9 @@ module _ (a : Registers) (t : Transacting) where
       let b = with_txn in
       let o = ap (λ (is_open : Bool). if is_open then Some (open_of b) else None) opened in
       let c =
-          ap (λ (s : Step). call_of s b) in_txn
-          ∙ ap (λ (x : Option (Now TxnPoint TxnAnswer)). call_of step.InTxn (record b { txn = record t { call = x } }))
-          is in
+      ap (λ (s : Step). call_of s b) in_txn
+      ∙ ap (λ (x : Option (Now TxnPoint TxnAnswer)). call_of step.InTxn (record b { txn = record t { call = x } }))
+      is in
       ap (λ (x : Option Open). record (client_of b) { txn = x; call = runs InTxn answer.Txn call }) (sym o)
       ∙ ap (λ (y : Option (Now CallPoint Answer)). record (client_of b) { call = y }) (sym c)
 

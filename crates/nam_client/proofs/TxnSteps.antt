@@ -95,16 +95,16 @@ claims_one : (shape : Shape) (state : TxnState) (at : TxnPoint) (found : ℕ)
     → ClaimsOne state (txn_after shape state at found)
 claims_one shape state at found = elim (claims_once shape state at found) [
   | inl same ↦
-    let next = txn_after shape state at found in
-    let once = owed_now_once next.call in
-    let claims = ap (λ (cs : List Record). length cs) same in
-    omega arith
+      let next = txn_after shape state at found in
+      let once = owed_now_once next.call in
+      let claims = ap (λ (cs : List Record). length cs) same in
+      omega arith
   | inr (r, end, claims, over) ↦
-    let next = txn_after shape state at found in
-    let none : owed_now next.call ≡ 0 = ap owed_now over in
-    let more = ap (λ (cs : List Record). length cs) claims in
-    let one = claimed_one state.claims r in
-    omega arith
+      let next = txn_after shape state at found in
+      let none : owed_now next.call ≡ 0 = ap owed_now over in
+      let more = ap (λ (cs : List Record). length cs) claims in
+      let one = claimed_one state.claims r in
+      omega arith
 ]
 
 op_steps : (shape : Shape) (state : TxnState) (at : TxnPoint) (found : ℕ) → state.held ≡ []
@@ -211,26 +211,26 @@ module _ (shape : Shape) (state : TxnState) where
       let within = places_within place c.2 in
       elim on.2 [
         | inl same ↦
-          let held = ap (λ (hs : List ℕ). length hs) same in
-          record {
-            owed_less = omega arith;
-            claims = omega arith;
-            reads = quiet_reads state next next.call on.1;
-            least = omega arith;
-            most = omega arith;
-            held = omega arith;
-          }
+            let held = ap (λ (hs : List ℕ). length hs) same in
+            record {
+              owed_less = omega arith;
+              claims = omega arith;
+              reads = quiet_reads state next next.call on.1;
+              least = omega arith;
+              most = omega arith;
+              held = omega arith;
+            }
         | inr (header, point, taken) ↦
-          let held = ap (λ (hs : List ℕ). length hs) taken ∙ length-append state.held (header ∷ []) in
-          let less = one_more place header point c.2 in
-          record {
-            owed_less = omega arith;
-            claims = omega arith;
-            reads = quiet_reads state next next.call on.1;
-            least = omega arith;
-            most = omega arith;
-            held = omega arith;
-          }
+            let held = ap (λ (hs : List ℕ). length hs) taken ∙ length-append state.held (header ∷ []) in
+            let less = one_more place header point c.2 in
+            record {
+              owed_less = omega arith;
+              claims = omega arith;
+              reads = quiet_reads state next next.call on.1;
+              least = omega arith;
+              most = omega arith;
+              held = omega arith;
+            }
       ]
 
   -- 4. Each point

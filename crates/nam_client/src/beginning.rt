@@ -62,7 +62,6 @@ pub fn begin(a: &mut Registers, layout: &Layout, txn: u32, nth: u32)
     a.step = Step::Beginning { txn, nth };
 }
 
-
 /// Lists an attempt that got no snapshot.
 #[inline(never)]
 pub fn list_unbegun(a: &mut Registers, txn: u32, nth: u32, outcome: Outcome)

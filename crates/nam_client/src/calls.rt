@@ -20,12 +20,7 @@ use nam_layout::Layout;
 use nam_protocol::Call;
 
 /// Asks a call, for which there is room.
-#[tactic(auto, using(
-    crate::proofs::KeptLemmas::rests_call,
-    crate::proofs::KeptLemmas::rests_scan,
-    crate::proofs::KeptLemmas::in_txn_holds,
-    crate::proofs::KeptLemmas::in_txn_calm,
-))]
+#[tactic(auto, using(crate::proofs::KeptLemmas::rests_call, crate::proofs::KeptLemmas::rests_scan, crate::proofs::KeptLemmas::in_txn_holds, crate::proofs::KeptLemmas::in_txn_calm,))]
 pub fn ask_call(a: &mut Registers, layout: &Layout, call: &Call)
     requires of { IsClientOf layout.now a.old }
     requires holds { Holds a.old }
@@ -50,10 +45,7 @@ pub fn ask_call(a: &mut Registers, layout: &Layout, call: &Call)
 }
 
 /// Goes on with the word that the verb found.
-#[tactic(auto, using(
-    crate::proofs::KeptLemmas::in_txn_holds,
-    crate::proofs::KeptLemmas::in_txn_calm,
-))]
+#[tactic(auto, using(crate::proofs::KeptLemmas::in_txn_holds, crate::proofs::KeptLemmas::in_txn_calm,))]
 #[inline]
 pub fn take_word(a: &mut Registers, layout: &Layout, found: u64)
     requires of { IsClientOf layout.now a.old }
@@ -68,7 +60,11 @@ pub fn take_word(a: &mut Registers, layout: &Layout, found: u64)
     ensures calm { a.new.is_open ≡ true → TxnRests a.new.step a.new.txn.call }
 {
     match a.step {
-        Step::Moving { table, key, position } => take_move(a, table, key, position, found),
+        Step::Moving {
+            table,
+            key,
+            position,
+        } => take_move(a, table, key, position, found),
         Step::InTxn => take_txn(a, layout, found),
         Step::Beginning { txn, nth } => take_begin(a, txn, nth, found),
         Step::Seeking { table, key, passed } => take_seek(a, layout, table, key, passed, found),

@@ -89,11 +89,7 @@ impl Client {
         (spare.attempts, spare.ops, spare.tidies)
     }
 
-    #[tactic(auto, using(
-        crate::proofs::KeptLemmas::asked_kept,
-        crate::proofs::KeptLemmas::asked_left,
-        crate::proofs::KeptLemmas::asked_holds,
-    ))]
+    #[tactic(auto, using(crate::proofs::KeptLemmas::asked_kept, crate::proofs::KeptLemmas::asked_left, crate::proofs::KeptLemmas::asked_holds,))]
     /// Asks a call, for which there is room. It may be answered at once.
     pub fn ask(&mut self, layout: &Layout, call: &Call)
         requires of { IsClientOf layout.now self.old }
@@ -120,11 +116,7 @@ impl Client {
         verb_of(&self.registers)
     }
 
-    #[tactic(auto, using(
-        crate::proofs::KeptLemmas::word_kept,
-        crate::proofs::KeptLemmas::word_falls,
-        crate::proofs::KeptLemmas::word_holds,
-    ))]
+    #[tactic(auto, using(crate::proofs::KeptLemmas::word_kept, crate::proofs::KeptLemmas::word_falls, crate::proofs::KeptLemmas::word_holds,))]
     /// Goes on with the word that the verb found.
     #[inline]
     pub fn take(&mut self, layout: &Layout, found: u64)

@@ -64,11 +64,13 @@ pub fn take_snap(a: &mut Registers, layout: &Layout, bucket: u32, found: u64)
     match a.snapper.end() {
         None => {}
         Some(SnapperEnd::Done) => begin_collect(a, layout, bucket),
-        Some(SnapperEnd::Again {
-            worker,
-            first,
-            second,
-        }) => a.log.list_event(Event::CollectAgain {
+        Some(
+            SnapperEnd::Again {
+                worker,
+                first,
+                second,
+            },
+        ) => a.log.list_event(Event::CollectAgain {
             bucket,
             worker,
             first,
@@ -90,8 +92,7 @@ fn begin_collect(a: &mut Registers, layout: &Layout, bucket: u32)
     let _words = layout.total();
     let seen = a.snapper.seen();
     a.log.list_snap(seen);
-    a.collector
-        .begin(&layout.cells(bucket), seen.len() as u32);
+    a.collector.begin(&layout.cells(bucket), seen.len() as u32);
     a.step = Step::Collecting {
         bucket,
         prefix: prefix_of(a.start, seen.as_slice()),

@@ -65,7 +65,9 @@ pub enum Told {
     /// There was nothing to be moved.
     Nothing,
     /// A scan listed so many rows.
-    Scanned { items: u32 },
+    Scanned {
+        items: u32,
+    },
     /// A scan found its snapshot too old.
     TooOld {
         worker: u32,

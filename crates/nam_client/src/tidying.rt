@@ -18,8 +18,8 @@ ghost use Rattle.nam_client.specs.Room.{HasRoom, StepHolds};
 ghost use Rattle.nam_client.specs.Fits.{IsClientOf, HandFits, HasAtHand};
 
 use crate::registers::{Registers, Step, Told};
-use nam_index::{FindEnd, find_after, path_of};
 use nam_calls::MoveAnswer;
+use nam_index::{FindEnd, find_after, path_of};
 use nam_layout::Layout;
 use nam_verbs::Now;
 use si_model::{Event, MoveEnd};
@@ -60,14 +60,7 @@ pub fn tidy(a: &mut Registers, layout: &Layout, table: u32, key: u64)
 
 /// Goes on with a key word of the search.
 #[inline]
-pub fn take_seek(
-    a: &mut Registers,
-    layout: &Layout,
-    table: u32,
-    key: u64,
-    passed: u32,
-    found: u64,
-)
+pub fn take_seek(a: &mut Registers, layout: &Layout, table: u32, key: u64, passed: u32, found: u64)
     requires step { a.old.step ≡ step.Seeking table key passed }
     requires table { IsTableOf layout.now table }
     requires hand { HasAtHand layout.now a.old (SeekingAt table key passed) }

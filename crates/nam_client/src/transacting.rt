@@ -24,15 +24,7 @@ use nam_protocol::TxnCall;
 use si_model::{Attempt, Outcome};
 
 /// Asks a call of the open transaction.
-#[tactic(auto, using(
-    crate::proofs::AskRoom::room_of_call,
-    crate::proofs::AskRoom::ask_runs,
-    crate::proofs::AskRoom::ask_ends,
-    crate::proofs::StepRoom::can_list,
-    crate::proofs::StepRoom::is_answered,
-    crate::proofs::StepRoom::room_going,
-    crate::proofs::StepRoom::hand_fits,
-))]
+#[tactic(auto, using(crate::proofs::AskRoom::room_of_call, crate::proofs::AskRoom::ask_runs, crate::proofs::AskRoom::ask_ends, crate::proofs::StepRoom::can_list, crate::proofs::StepRoom::is_answered, crate::proofs::StepRoom::room_going, crate::proofs::StepRoom::hand_fits,))]
 pub fn ask_txn(a: &mut Registers, layout: &Layout, call: &TxnCall)
     requires of { IsClientOf layout.now a.old }
     requires may { MayAsk layout.now (client_of a.old) (TxnOf call.now) }
@@ -55,13 +47,7 @@ pub fn ask_txn(a: &mut Registers, layout: &Layout, call: &TxnCall)
 }
 
 /// Counts a call of the transaction, and asks it.
-#[tactic(auto, using(
-    crate::proofs::AskRoom::call_fits,
-    crate::proofs::AskRoom::none_held,
-    crate::proofs::AskRoom::is_open,
-    crate::proofs::AskRoom::few_ops,
-    crate::proofs::AskRoom::ready_asked,
-))]
+#[tactic(auto, using(crate::proofs::AskRoom::call_fits, crate::proofs::AskRoom::none_held, crate::proofs::AskRoom::is_open, crate::proofs::AskRoom::few_ops, crate::proofs::AskRoom::ready_asked,))]
 fn start_txn(a: &mut Registers, layout: &Layout, call: &TxnCall)
     requires of { IsClientOf layout.now a.old }
     requires may { MayAsk layout.now (client_of a.old) (TxnOf call.now) }
@@ -95,14 +81,7 @@ fn count_call(a: &mut Registers, call: &TxnCall)
 
 /// Goes on with a word of the transaction's call. A lock that it takes is listed at once.
 #[inline]
-#[tactic(auto, using(
-    crate::proofs::StepRoom::can_list,
-    crate::proofs::StepRoom::is_answered,
-    crate::proofs::StepRoom::room_going,
-    crate::proofs::StepRoom::client_runs,
-    crate::proofs::StepRoom::client_ends,
-    crate::proofs::StepRoom::hand_fits,
-))]
+#[tactic(auto, using(crate::proofs::StepRoom::can_list, crate::proofs::StepRoom::is_answered, crate::proofs::StepRoom::room_going, crate::proofs::StepRoom::client_runs, crate::proofs::StepRoom::client_ends, crate::proofs::StepRoom::hand_fits,))]
 pub fn take_txn(a: &mut Registers, layout: &Layout, found: u64)
     requires of { IsClientOf layout.now a.old }
     requires holds { Holds a.old }

@@ -14,11 +14,7 @@ use nam_scan::Scan;
 use nam_verbs::Verb;
 
 /// The verb that stands, and none where no call runs or the client is cut.
-#[tactic(auto, using(
-    crate::proofs::VerbLemmas::in_txn,
-    crate::proofs::VerbLemmas::seeking,
-    crate::proofs::VerbLemmas::scanning,
-))]
+#[tactic(auto, using(crate::proofs::VerbLemmas::in_txn, crate::proofs::VerbLemmas::seeking, crate::proofs::VerbLemmas::scanning,))]
 #[inline]
 pub fn verb_of(a: &Registers) -> Option<Verb>
     requires { Holds a.now }
@@ -29,13 +25,7 @@ pub fn verb_of(a: &Registers) -> Option<Verb>
     }
     match a.step {
         Step::Moving { .. } => a.mover.verb(),
-        Step::InTxn => {
-            if a.is_open {
-                a.txn.verb()
-            } else {
-                None
-            }
-        }
+        Step::InTxn => { if a.is_open { a.txn.verb() } else { None } }
         Step::Beginning { .. } | Step::Snapping { .. } => a.snapper.verb(),
         Step::Seeking { passed, .. } => Some(find_verb(&a.path, passed)),
         Step::Scanning => match &a.scan {
@@ -57,13 +47,7 @@ pub fn verbs_left(a: &Registers) -> u64
     }
     match a.step {
         Step::Moving { .. } => a.mover.left(),
-        Step::InTxn => {
-            if a.is_open {
-                a.txn.left()
-            } else {
-                0
-            }
-        }
+        Step::InTxn => { if a.is_open { a.txn.left() } else { 0 } }
         Step::Beginning { .. } => a.snapper.left(),
         Step::Snapping { .. } => match a.snapper.end() {
             None => a.snapper.left() + a.to_follow,

@@ -9,7 +9,7 @@ returns-in-Beginning-clause-txn c =
     let shape = c.args.layout.now in
     let a = c.args.a.now in
     let workers = begin_workers shape a c.requires.of c.requires.stands c.in-Beginning.txn c.in-Beginning.nth
-        c.in-Beginning.is in
+    c.in-Beginning.is in
     word_fresh shape a c.take_begin.new.a c.requires.of c.args.found c.requires.stands
     (c.take_begin.ensures.client shape workers) c.take_begin.ensures.txn
 

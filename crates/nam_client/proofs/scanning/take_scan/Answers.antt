@@ -98,6 +98,8 @@ returns-else-is_over-clause-at c =
     let a = c.args.a.now in
     let scan = c.in-Some.scan in
     let at = point_in scan.state (subst ScanStands c.in-Some.is (rw c.requires.step at c.requires.holds.at).0) in
-    rw c.requires.step (search rules,
-    still_rows shape a scan c.requires.of c.requires.holds c.requires.step c.in-Some.is
-    c.position-position.ensures.fits at.0 at.1 c.args.found c.take.new.self c.take.ensures.of c.take.ensures.value)
+    rw c.requires.step (
+      search rules,
+      still_rows shape a scan c.requires.of c.requires.holds c.requires.step c.in-Some.is
+          c.position-position.ensures.fits at.0 at.1 c.args.found c.take.new.self c.take.ensures.of c.take.ensures.value,
+    )

@@ -8,14 +8,14 @@ use Rattle.nam_client.proofs.transacting.list_answer.Goals as goal
 pub list_read-requires-clause-room : goal.list_read-requires-clause-room
 list_read-requires-clause-room c =
     let read =
-        reads_passing c.args.a.now c.in-Some.answer.now c.requires.can c.in-Some.ensures.some c.in-Passes.ensures in
+    reads_passing c.args.a.now c.in-Some.answer.now c.requires.can c.in-Some.ensures.some c.in-Passes.ensures in
     let room = read.room in
     omega arith
 
 pub list_read-requires-clause-word : goal.list_read-requires-clause-word
 list_read-requires-clause-word c =
     let read =
-        reads_passing c.args.a.now c.in-Some.answer.now c.requires.can c.in-Some.ensures.some c.in-Passes.ensures in
+    reads_passing c.args.a.now c.in-Some.answer.now c.requires.can c.in-Some.ensures.some c.in-Passes.ensures in
     let so_far = read.so_far in
     let word = c.requires.can.word in
     omega arith

@@ -2,13 +2,11 @@ ghost use Rattle.std.specs.Prelude.{◌≡◌, ◌≤◌, length, All, IsTrue, N
 ghost use Rattle.nam_catalog.specs.Limits.{fault_of};
 ghost use Rattle.nam_core.specs.Opening.{FitsRow};
 
-use crate::{MakeError, Runs, Turn, World, audit, opening};
+use crate::{MakeError, audit, opening};
 use lists::{List, ShortList};
 use nam_catalog::{Form, Shape, Table, TableName, check};
 use nam_layout::Layout;
-use nam_protocol::SessionState;
-use nam_verbs::Verb;
-use si_model::{AuditRow, Log, Row, Value};
+use si_model::{AuditRow, Row, Value};
 use std::alloc::{AllocError, Global};
 
 // The words with the rows below, where the key words stand at 4, 11, 18, 25 and 34: vector and horizon, three positions
@@ -89,34 +87,6 @@ fn all_fit(shape: &Shape, rows: &[Row]) -> bool
     true
 }
 
-// A session that never runs.
-#[derive(Drop)]
-struct Never {
-    state: SessionState,
-}
-
-impl Runs for Never {
-    ghost session = { λ never. never.state };
-
-    ghost IsOf = { λ shape never. ⊥ };
-
-    fn verb(&self) -> Option<Verb> {
-        None
-    }
-
-    fn is_cut(&self) -> bool {
-        self.state.client.cut
-    }
-
-    fn take(&mut self, _layout: &Layout, _found: u64) {}
-
-    fn cut(&mut self, _layout: &Layout) {}
-
-    fn into_log(self, _layout: &Layout) -> Log {
-        unreachable!()
-    }
-}
-
 fn is_row(row: &AuditRow, table: u32, key: u64, words: &[u64], locked: bool) -> bool {
     let same = match &row.value {
         Some(value) => value.as_slice() == words,
@@ -162,21 +132,5 @@ fn the_audit_sees_locks_and_old_versions(rt: HostRuntime) -> Result<(), AllocErr
     assert!(rt; is_row(&rows[2], 0, 7, [70].as_slice(), false));
     assert!(rt; is_row(&rows[3], 1, 3, [30, 31].as_slice(), false));
     assert!(rt; is_row(&rows[4], 1, 5, [50, 51].as_slice(), false));
-    Ok(())
-}
-
-#[test]
-fn a_world_without_sessions_keeps_its_rows(rt: HostRuntime) -> Result<(), AllocError> {
-    let shape = shape().expect(&rt, "a shape");
-    let rows = rows(rt.alloc())?;
-    assert!(rt; all_fit(&shape, rows.as_slice()));
-    let sessions: Vec<Never> = Vec::new(rt.alloc());
-    let made = World::new(rt.alloc(), &shape, rows.as_slice(), sessions);
-    let mut world = made.expect(&rt, "a world");
-    assert!(rt; world.verb(1).is_none());
-    world.run([Turn::Step { worker: 1 }, Turn::Cut { worker: 2 }].as_slice());
-    let closed = world.finish(rt.alloc())?;
-    assert_eq!(rt; closed.logs.len(), 0);
-    assert_eq!(rt; closed.audit.len(), 5);
     Ok(())
 }

@@ -1,9 +1,9 @@
-ghost use Rattle.std.specs.Prelude.{◌≡◌, ◌≤◌, length, All, IsTrue, None, IfSome};
+ghost use Rattle.std.specs.Prelude.{◌≡◌, All, IsTrue, None, IfSome};
 ghost use Rattle.nam_catalog.specs.Limits.{fault_of};
 ghost use Rattle.nam_core.specs.Opening.{FitsRow};
 
 use crate::{MakeError, audit, opening};
-use lists::{List, ShortList};
+use lists::ShortList;
 use nam_catalog::{Form, Shape, Table, TableName, check};
 use nam_layout::Layout;
 use si_model::{AuditRow, Row, Value};

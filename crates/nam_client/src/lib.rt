@@ -15,6 +15,8 @@ mod ending;
 mod registers;
 mod room;
 mod scanning;
+#[cfg(test)]
+mod tests;
 mod tidying;
 mod transacting;
 mod verbs;

@@ -47,6 +47,31 @@ fn shape() -> Option<Shape>
     Some(shape)
 }
 
+// One worker, and 4,096 positions of one word.
+fn wide_shape() -> Option<Shape>
+    ensures { IfSome result (λ shape. fault_of shape ≡ None) }
+{
+    let mut tables: ShortList<Table, 8> = ShortList::new();
+    tables.push(Table {
+        name: TableName::from_text("t"),
+        width: 1,
+        capacity: 4096,
+        ring: 1,
+    });
+    let shape = Shape {
+        form: Form::Narrow,
+        workers: 1,
+        tables,
+        buckets: 1,
+        cells: 1,
+        start: 0,
+    };
+    if check(&shape).is_err() {
+        return None;
+    }
+    Some(shape)
+}
+
 fn row(table: u32, key: u64, word: u32) -> Row {
     let mut value = Value::new();
     value.push(word as u64);
@@ -132,5 +157,22 @@ fn the_audit_sees_locks_and_old_versions(rt: HostRuntime) -> Result<(), AllocErr
     assert!(rt; is_row(&rows[2], 0, 7, [70].as_slice(), false));
     assert!(rt; is_row(&rows[3], 1, 3, [30, 31].as_slice(), false));
     assert!(rt; is_row(&rows[4], 1, 5, [50, 51].as_slice(), false));
+    Ok(())
+}
+
+#[test]
+fn a_table_of_many_rows_is_opened_and_audited(rt: HostRuntime) -> Result<(), AllocError> {
+    let shape = wide_shape().expect(&rt, "a shape");
+    let layout = Layout::new(&shape);
+    let mut rows = Vec::new(rt.alloc());
+    for key in 0..4096 {
+        rows.push(row(0, key, 1))?;
+    }
+    assert!(rt; all_fit(&shape, rows.as_slice()));
+    let words = opening(rt.alloc(), &shape, &layout, rows.as_slice());
+    let words = words.expect(&rt, "words");
+    assert!(rt; words.len() as u64 == layout.total());
+    let audit = audit(rt.alloc(), &shape, &layout, words.as_slice())?;
+    assert_eq!(rt; audit.len(), 4096);
     Ok(())
 }

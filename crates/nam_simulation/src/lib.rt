@@ -11,6 +11,8 @@ mod reporting;
 mod rounds;
 mod schedule;
 mod simulate;
+#[cfg(test)]
+mod tests;
 mod turns;
 
 pub use jobs::jobs_of;

@@ -63,6 +63,13 @@ impl Client {
         }
     }
 
+    /// The worker whose client it is.
+    pub fn worker(&self) -> u32
+        ensures { result ≡ (client_of self.now).worker }
+    {
+        self.registers.worker
+    }
+
     /// Makes room for so many begins, operations, and tidyings or collections, and for two events more. A scan takes
     /// the room of as many operations as its table has positions. Where memory is not found all is as before.
     pub fn reserve(&mut self, attempts: u32, ops: u32, tidies: u32) -> Result<(), AllocError>

@@ -13,6 +13,7 @@ mod load;
 mod make_error;
 mod opened;
 mod runs;
+mod session;
 #[cfg(test)]
 mod tests;
 mod turn;
@@ -20,6 +21,7 @@ mod world;
 
 pub use audited::audit;
 pub use make_error::MakeError;
+pub use nam_worker::Session;
 pub use opened::opening;
 pub use runs::Runs;
 pub use turn::Turn;

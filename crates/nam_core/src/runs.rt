@@ -7,6 +7,7 @@ ghost use Rattle.nam_catalog.specs.declared.shape.Shape.{Shape};
 ghost use Rattle.nam_catalog.specs.Words.{words_of};
 ghost use Rattle.nam_layout.specs.Address.{address};
 ghost use Rattle.nam_protocol.specs.Session.{session_verb, session_after, session_cut, session_log};
+ghost use Rattle.nam_protocol.specs.World.{HasNoVerb};
 
 use nam_layout::Layout;
 use nam_verbs::Verb;
@@ -42,13 +43,13 @@ pub trait Runs: Drop {
         ensures of { IsOf layout.now self.new };
 
     /// The session is stopped before its next verb.
-    fn cut(&mut self, layout: &Layout)
-        requires of { IsOf layout.now self.old }
-        ensures value { session self.new ≡ session_cut layout.now.form (session self.old) }
-        ensures of { IsOf layout.now self.new };
+    fn cut(&mut self)
+        ensures value { (shape : Shape) → IsOf shape self.old
+            → session self.new ≡ session_cut shape.form (session self.old) }
+        ensures of { (shape : Shape) → IsOf shape self.old → IsOf shape self.new };
 
-    /// The log of what it did.
-    fn into_log(self, layout: &Layout) -> Log
-        requires of { IsOf layout.now self }
-        ensures { result ≡ session_log layout.now (session self) };
+    /// The log of what it did, once no verb is to come.
+    fn into_log(self) -> Log
+        requires { (shape : Shape) × IsOf shape self × HasNoVerb shape (session self) }
+        ensures { (shape : Shape) → IsOf shape self → result ≡ session_log shape (session self) };
 }

@@ -1,12 +1,14 @@
 //! Worlds.
 
 ghost use Rattle.std.specs.Prelude.{◌≡◌, ◌≤◌, ◌++◌, None, All, map, length, IfOk, MatchOption, MatchResult};
+ghost use Rattle.std.specs.List.{AllByRecursion};
 ghost use Rattle.nam_verbs.specs.Verb.{after_verb, found_by};
 ghost use Rattle.nam_catalog.specs.Limits.{fault_of};
 ghost use Rattle.nam_catalog.specs.Words.{words_of};
 ghost use Rattle.nam_calls.specs.Memory.{verb_there};
 ghost use Rattle.nam_protocol.specs.Session.{session_verb, session_after, session_log};
 ghost use Rattle.nam_protocol.specs.World.{world_verb, session_of, is_cut, step, cut, after_turn, after_turns};
+ghost use Rattle.nam_protocol.specs.World.{HasNoVerb, HasEnded};
 ghost use Rattle.nam_protocol.specs.Schedule.{is_live};
 ghost use Rattle.nam_protocol.specs.Closed.{closed};
 ghost use Rattle.nam_core.specs.Opening.{FitsRow};
@@ -101,12 +103,13 @@ fn logs_of<S: Runs>(
     layout: &Layout,
     sessions: Vec<S>,
 ) -> Result<List<Log>, AllocError>
-    requires { All (S.IsOf layout.now) sessions.items }
+    requires of { All (S.IsOf layout.now) sessions.items }
+    requires ended { AllByRecursion (HasNoVerb layout.now) (map S.session sessions.items) }
     ensures { IfOk result (λ logs. logs ≡ map (session_log layout.now) (map S.session sessions.items)) }
 {
     let mut logs = List::new(alloc);
     for session in sessions {
-        logs.push(session.into_log(layout))?;
+        logs.push(session.into_log())?;
     }
     Ok(logs)
 }
@@ -193,7 +196,7 @@ impl<S: Runs> World<S> {
     {
         let place = worker.saturating_sub(1) as usize;
         if place < self.sessions.len() {
-            self.sessions[place].cut(&self.layout);
+            self.sessions[place].cut();
         }
     }
 
@@ -218,8 +221,10 @@ impl<S: Runs> World<S> {
         }
     }
 
-    /// The logs, and the audit of the words. Where memory is not found, the world is lost.
+    /// The logs, and the audit of the words, once no worker has a verb to come. Where memory is not found, the world is
+    /// lost.
     pub fn finish(self, alloc: Global) -> Result<Closed, AllocError>
+        requires { HasEnded self.shape self.world }
         ensures { IfOk result (λ end. end ≡ closed self.shape self.world) }
     {
         let World {

@@ -1,4 +1,6 @@
 mod TurnLemmas
 mod RunLemmas
 mod JobLemmas
+mod OpenedLemmas
+mod SessionJobs
 mod SimulatedLemmas

@@ -1,14 +1,19 @@
 -- The run that a world of the code and the lines of its workers are.
 use Rattle.std.specs.Prelude.{◌≡◌, ◌-◌, ℕ, Bool, false, List, [], ◌∷◌, ◌++◌, map, Option, Some, None, slice_get}
 use Rattle.std.specs.Prelude.{slice_set, slice_index_or}
+use Rattle.std.specs.List.{AllByRecursion}
 use Rattle.nam_line.specs.Plan.{Line, asked_once, refuses_next}
 use Rattle.nam_script.specs.declared.script.Script.{Script}
 use Rattle.nam_script.specs.declared.script.ScriptTxn.{ScriptTxn}
 use Rattle.nam_script.specs.declared.script.Stint.{Stint as ScriptStint}
 use Rattle.nam_protocol.specs.declared.session.Job.{Job}
 use Rattle.nam_protocol.specs.EndsLaw.{scenario_bound}
+use Rattle.nam_protocol.specs.Left.{room_for}
+use Rattle.nam_protocol.specs.SessionFits.{JobFits}
 use Rattle.nam_protocol.specs.Schedule.{Run, Stint, opened, until_ended}
 use Rattle.nam_scenario.specs.Scenario.{scenario_of}
+use Rattle.nam_worker.specs.Answering.{AreJobs}
+use Rattle.nam_worker.specs.Needs.{IsSmall}
 use Rattle.nam_core.specs.World.{ShapedWorld}
 
 abbrev pub run_of : ShapedWorld → List Line → Run
@@ -44,3 +49,9 @@ abbrev pub with_job : List (List Job) → ℕ → ScriptTxn → List (List Job)
 with_job jobs number txn =
     slice_set jobs (txn.worker - 1)
     (slice_index_or jobs (txn.worker - 1) [] ++ record { txn = number; ops = txn.ops } ∷ [])
+
+-- the jobs are such as a worker of the script may have
+pub record AreJobsOf (script : Script) (jobs : List Job) : Type 0 where
+  pub fit : AllByRecursion (JobFits script.shape) jobs
+  pub are : AreJobs jobs
+  pub small : IsSmall (room_for script.shape script.policy jobs)

@@ -10,7 +10,9 @@ mod jobs;
 mod reporting;
 mod rounds;
 mod schedule;
+mod sessions;
 mod simulate;
+mod simulated;
 #[cfg(test)]
 mod tests;
 mod turns;
@@ -19,3 +21,4 @@ pub use jobs::jobs_of;
 pub use nam_core::{Runs, World};
 pub use nam_protocol::Job;
 pub use simulate::simulated_text;
+pub use simulated::simulated;

@@ -3,6 +3,7 @@
 ghost use Rattle.std.specs.Prelude.{◌≡◌, map, IfOk};
 ghost use Rattle.nam_script.specs.ScriptSetting.{setting_of};
 ghost use Rattle.nam_protocol.specs.Closed.{closed};
+ghost use Rattle.nam_protocol.specs.World.{HasEnded};
 ghost use Rattle.nam_report.specs.Fits.{FitsScript};
 ghost use Rattle.nam_simulated.specs.RunLaw.{ClosedIsOf};
 ghost use Rattle.nam_simulated.specs.ReportLaw.{report_of};
@@ -58,6 +59,7 @@ pub fn report_of<S: Runs>(
     world: World<S>,
 ) -> Result<Report, AllocError>
     requires shape { world.shape ≡ script.now.shape }
+    requires ended { HasEnded script.now.shape world.world }
     requires left { ClosedIsOf script.now.shape (closed script.now.shape world.world) }
     ensures report { IfOk result (λ report.
         report ≡ report_of script.now (closed script.now.shape world.world)) }

@@ -1,6 +1,6 @@
 //! The retry policy as a value.
 
-ghost use Rattle.std.specs.Prelude.{◌≡◌, ◌↔◌, ◌≤◌, ◌<◌, ◌+◌, ◌^◌, length, true, slice_get, IsNone};
+ghost use Rattle.std.specs.Prelude.{◌≡◌, ◌↔◌, ◌≤◌, ◌<◌, ◌+◌, ◌^◌, length, true, slice_get, IsNone, is_some, not};
 ghost use Rattle.std.specs.List.{AllByRecursion};
 ghost use Rattle.nam_protocol.specs.declared.client.Call.TheVariants.{Tidy};
 ghost use Rattle.nam_protocol.specs.AttemptLaw.{has_passed};
@@ -305,6 +305,20 @@ impl Driver {
                 place: DriverPoint::ToBegin,
             },
         }
+    }
+
+    /// The policy that it follows.
+    pub fn policy(&self) -> Policy
+        ensures { result ≡ self.now.policy }
+    {
+        self.state.policy
+    }
+
+    /// Whether all jobs are through.
+    pub fn is_through(&self, jobs: &[Job]) -> bool
+        ensures { result ≡ not (is_some (driver_next jobs.now self.now)) }
+    {
+        self.state.job as usize >= jobs.len()
     }
 
     /// The next call of the policy. None exactly where all jobs are through.

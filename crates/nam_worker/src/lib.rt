@@ -6,17 +6,23 @@
 #![tactic(auto)]
 
 mod answering;
+mod asking;
 mod driver;
+mod gate;
 mod keys;
 mod laws;
 mod room;
+mod session;
 #[cfg(test)]
 mod tests;
 
 pub use answering::is_answer_to;
 pub use driver::Driver;
+pub use gate::{Gate, OpenGate};
 pub use keys::are_jobs;
 pub use laws::answers_fit;
+pub use nam_client::Client;
 pub use nam_protocol::{Answer, Call, Job, TxnAnswer, TxnCall};
 pub use room::needs;
+pub use session::Session;
 pub use si_model::Policy;

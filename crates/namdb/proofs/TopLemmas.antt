@@ -10,10 +10,11 @@ use Rattle.namdb.specs.declared.status.Status.TheVariants.{Done, Usage, BadScrip
 use Rattle.namdb.specs.declared.status.Status.TheVariants.{TooLong}
 use Rattle.namdb.specs.Status.{line_of}
 use Rattle.std.specs.Prelude.{◌<◌, IfSome, Result, Ok, Err}
+use Rattle.nam_line.specs.Plan.{Line}
 use Rattle.nam_script.specs.declared.script.Script.{Script}
 use Rattle.nam_script.specs.declared.refusal.Kind.{Kind}
 use Rattle.nam_script.specs.Parse.{Fault, script_of}
-use Rattle.namdb.specs.Headline.{AreRunWords, IsAllThatWasLeft, IsWholeInput, IsAnsweredBy, HasAtMost, MayRefuse}
+use Rattle.namdb.specs.Headline.{AreWords, IsAllThatWasLeft, IsWholeInput, IsAnsweredBy, HasAtMost, MayRefuse}
 use Rattle.namdb.specs.Headline.{MayWrite}
 use Rattle.namdb.specs.Ending.{HasLine, MakesLine, Sends}
 
@@ -49,21 +50,21 @@ module _ (taken now : Option (List ℕ)) (writes writes_now : ℕ) (Kept : Type 
 
 -- of a whole call
 module _ (words : List (String Global)) (left left_now : Option (List ℕ)) (reads reads_now : ℕ)
-    (taken now : Option (List ℕ)) (writes writes_now : ℕ) where
+    (taken now : Option (List ℕ)) (writes writes_now : ℕ) (lines : List Line) where
   -- the sink failed, and took a front of what some status would have written
   abbrev pub SinkFailed : Type 0
   SinkFailed =
       Rose writes writes_now × ((status : Status)
-      × ((text : List ℕ) × MayWrite words left left_now reads reads_now status text × AppendsFront taken now text))
+      × ((text : List ℕ) × MayWrite words left left_now reads reads_now lines status text × AppendsFront taken now text))
 
   pub text_fails : (status : Status) (text : List ℕ) (result : Status)
-      → MayWrite words left left_now reads reads_now status text → Sends taken now writes writes_now status text result
+      → MayWrite words left left_now reads reads_now lines status text → Sends taken now writes writes_now status text result
       → (status ≡ WriteFault → ⊥) → result ≡ WriteFault → SinkFailed
   text_fails status text result may (inl sent) other is = absurd (other (sym sent.0 ∙ is))
   text_fails status text result may (inr failed) other is = (failed.1, (status, (text, may, failed.2)))
 
   line_fails : (Kept : Type 0) (status result : Status)
-      → MayWrite words left left_now reads reads_now status (line_of status)
+      → MayWrite words left left_now reads reads_now lines status (line_of status)
       → SendsLine taken now writes writes_now Kept status result → (status ≡ WriteFault → ⊥) → result ≡ WriteFault
       → SinkFailed
   line_fails Kept status result may (inl sends) other is = text_fails status (line_of status) result may sends other is
@@ -112,7 +113,7 @@ module _ (words : List (String Global)) (left left_now : Option (List ℕ)) (rea
   -- want of memory comes after the words, and before anything is written
   pub memory_keeps : (Kept : Type 0) (status result : Status) → MayRefuse words left left_now reads reads_now status
       → (HasLine status → SendsLine taken now writes writes_now Kept status result)
-      → (status ≡ Memory → (result ≡ Memory) × Kept) → result ≡ Memory → AreRunWords words × HasAtMost left left_now
+      → (status ≡ Memory → (result ≡ Memory) × Kept) → result ≡ Memory → AreWords words × HasAtMost left left_now
       × Kept
   memory_keeps Kept Usage result may line memory is =
       absurd (line_keeps taken now writes writes_now Kept Usage result (line tt) (λ same. cc) is).0
@@ -130,7 +131,7 @@ module _ (words : List (String Global)) (left left_now : Option (List ℕ)) (rea
   memory_keeps Kept WriteFault result may line memory is = absurd may
 
   -- of a source that tells this input, without a fault
-  module _ (input : List ℕ) (is : left ≡ Some input) (few : length input ≤ 1048576) (run : AreRunWords words)
+  module _ (input : List ℕ) (is : left ≡ Some input) (few : length input ≤ 1048576) (run : AreWords words)
       (reads_fine : Rose reads reads_now → ⊥) (writes_fine : Rose writes writes_now → ⊥) where
     the_input : (whole : List ℕ) → IsWholeInput left left_now whole → whole ≡ input
     the_input whole h = let told : IsAllThatWasLeft (Some input) left_now whole =
@@ -140,10 +141,10 @@ module _ (words : List (String Global)) (left left_now : Option (List ℕ)) (rea
     memory_answers (Ok script) result e = inr e
     memory_answers (Err fault) result e = inr e
 
-    pub text_answers : (text out : List ℕ) (result : Status) → MayWrite words left left_now reads reads_now Done text
+    pub text_answers : (text out : List ℕ) (result : Status) → MayWrite words left left_now reads reads_now lines Done text
         → Sends taken now writes writes_now Done out result → IsAnsweredBy (script_of input) result
     text_answers text out result may (inl sent) =
-        subst (λ given. IsAnsweredBy given result) (sym (ap script_of (sym (the_input may.1.0 may.1.1)) ∙ may.1.2.read))
+        subst (λ given. IsAnsweredBy given result) (sym (ap script_of (sym (the_input may.1.1.0 may.1.1.1)) ∙ may.1.1.2.read))
         (inl sent.0)
     text_answers text out result may (inr failed) = absurd (writes_fine failed.1)
 

@@ -11,27 +11,48 @@ use Rattle.nam_script.specs.declared.refusal.Kind.{Kind}
 use Rattle.nam_script.specs.Text.{IsSpelt}
 use Rattle.nam_script.specs.Limits.{IsScript}
 use Rattle.nam_script.specs.Parse.{Fault, script_of}
+use Rattle.nam_line.specs.Plan.{Line}
 use Rattle.nam_report.specs.Fits.{FitsScript}
 use Rattle.nam_report.specs.Text.{report_text}
+use Rattle.nam_simulation.specs.SimulatedText.{IsSimulatedText}
+use Rattle.namdb.specs.declared.command.Command.{Command}
+use Rattle.namdb.specs.declared.command.Command.TheVariants.{Run, Sim}
 use Rattle.namdb.specs.declared.status.Status.{Status}
 use Rattle.namdb.specs.declared.status.Status.TheVariants.{Done, Usage, BadScript, ReadFault, Memory, TooLong}
 use Rattle.nam_script.specs.ScriptSetting.{setting_of}
 use Rattle.namdb.specs.Status.{line_of}
 
--- the text is that of a report which is a run of the script that the input spells
-pub record IsReportOn (input text : List ℕ) : Type 0 where
-  pub script : Script
+-- the text is that of a report which is a run of the script
+pub record IsRunText (script : Script) (text : List ℕ) : Type 0 where
   pub report : Report
-  pub read : script_of input ≡ Ok script
-  pub spelt : IsSpelt script input
-  pub limits : IsScript script
   pub run : IsRun (setting_of script) report
   pub fits : FitsScript script report
   pub written : text ≡ report_text script.shape.tables report
 
--- the program's name and `run`
-abbrev pub AreRunWords : List (String Global) → Type 0
-AreRunWords words = (length words ≡ 2) × IfSome (slice_get words 1) (λ word. string_bytes word ≡ codes "run")
+-- what a command writes for a script: `run` such a text, and `sim` that of the simulated run under these lines
+abbrev pub IsTextFor : Command → List Line → Script → List ℕ → Type 0
+IsTextFor Run lines script text = IsRunText script text
+IsTextFor Sim lines script text = IsSimulatedText script lines text
+
+-- the text is what the command writes for the script that the input spells
+pub record IsReportOn (command : Command) (lines : List Line) (input text : List ℕ) : Type 0 where
+  pub script : Script
+  pub read : script_of input ≡ Ok script
+  pub spelt : IsSpelt script input
+  pub limits : IsScript script
+  pub report : IsTextFor command lines script text
+
+abbrev pub command_word : Command → List ℕ
+command_word Run = codes "run"
+command_word Sim = codes "sim"
+
+-- the program's name and the command's word
+abbrev pub AreWordsFor : List (String Global) → Command → Type 0
+AreWordsFor words command =
+    (length words ≡ 2) × IfSome (slice_get words 1) (λ word. string_bytes word ≡ command_word command)
+
+abbrev pub AreWords : List (String Global) → Type 0
+AreWords words = (command : Command) × AreWordsFor words command
 
 -- the input is all that was left of a source that tells that, and nothing is left now
 abbrev pub IsAllThatWasLeft : Option (List ℕ) → Option (List ℕ) → List ℕ → Type 0
@@ -64,16 +85,22 @@ HasAtMost left now = LosesFront left now (λ n. n ≤ 1048576)
 module _ (words : List (String Global)) (left now : Option (List ℕ)) (faults faults_now : ℕ) where
   -- it may be refused so
   abbrev pub MayRefuse : Status → Type 0
-  MayRefuse Usage = (AreRunWords words → ⊥) × (now ≡ left)
-  MayRefuse (BadScript line kind) = AreRunWords words
+  MayRefuse Usage = (AreWords words → ⊥) × (now ≡ left)
+  MayRefuse (BadScript line kind) = AreWords words
       × ((input : List ℕ) × IsWholeInput left now input × IsBadScript input line kind)
-  MayRefuse ReadFault = AreRunWords words × Rose faults faults_now × HasAtMost left now
-  MayRefuse TooLong = AreRunWords words × HasTooMuch left now
-  MayRefuse Memory = AreRunWords words × HasAtMost left now
+  MayRefuse ReadFault = AreWords words × Rose faults faults_now × HasAtMost left now
+  MayRefuse TooLong = AreWords words × HasTooMuch left now
+  MayRefuse Memory = AreWords words × HasAtMost left now
   MayRefuse status = ⊥
 
+  -- under these lines it may be done, and has written this text
+  abbrev pub MayBeDone : List Line → List ℕ → Type 0
+  MayBeDone lines text =
+      (command : Command) × AreWordsFor words command
+      × ((input : List ℕ) × IsWholeInput left now input × IsReportOn command lines input text)
+
   -- it may end so with this text. (`Memory` and `WriteFault` have none of their own.)
-  abbrev pub MayWrite : Status → List ℕ → Type 0
-  MayWrite Done text = AreRunWords words × ((input : List ℕ) × IsWholeInput left now input × IsReportOn input text)
-  MayWrite Memory text = ⊥
-  MayWrite status text = MayRefuse status × (text ≡ line_of status)
+  abbrev pub MayWrite : List Line → Status → List ℕ → Type 0
+  MayWrite lines Done text = MayBeDone lines text
+  MayWrite lines Memory text = ⊥
+  MayWrite lines status text = MayRefuse status × (text ≡ line_of status)

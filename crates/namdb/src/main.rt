@@ -12,6 +12,7 @@ ghost use Rattle.std.specs.IoError.{error_kind};
 ghost use Rattle.std.specs.declared.io.ErrorKind.TheVariants.{OutOfMemory};
 
 mod attempt;
+mod command;
 mod evaluate;
 mod serial;
 mod stamps;
@@ -21,7 +22,9 @@ mod store;
 mod tests;
 mod top;
 
+use nam_catalog::bounds::MOST_WORKERS;
 use nam_io::{StdSink, StdSource};
+use nam_line::{Line, UpLine};
 use status::Status;
 use std::alloc::{AllocError, Global};
 use std::env::Args;
@@ -41,13 +44,33 @@ fn words(alloc: Global, given: io::Result<Args>) -> Result<Vec<String>, AllocErr
     }
 }
 
+/// Lines of which none fails, one for each worker that a script may have.
+fn up_lines(alloc: Global) -> Result<Vec<Box<dyn Line + Send>>, AllocError> {
+    let mut lines: Vec<Box<dyn Line + Send>> = Vec::new(alloc);
+    for _worker in 0..MOST_WORKERS {
+        lines.push(Box::new(alloc, UpLine::new())?)?;
+    }
+    Ok(lines)
+}
+
+/// Calls the program with these words over the standard streams.
+fn call(rt: &HostRuntime) -> Result<Status, AllocError> {
+    let words = words(rt.alloc(), env::args(rt))?;
+    let lines = up_lines(rt.alloc())?;
+    let mut source = StdSource::new(rt.stdin());
+    let mut sink = StdSink::new(rt.stdout());
+    Ok(namdb(
+        rt.alloc(),
+        words.as_slice(),
+        &mut source,
+        &mut sink,
+        lines,
+    ))
+}
+
 fn main(rt: HostRuntime) -> Status {
-    match words(rt.alloc(), env::args(&rt)) {
-        Ok(words) => {
-            let mut source = StdSource::new(rt.stdin());
-            let mut sink = StdSink::new(rt.stdout());
-            namdb(rt.alloc(), words.as_slice(), &mut source, &mut sink)
-        }
+    match call(&rt) {
+        Ok(status) => status,
         Err(no_memory) => Status::from(no_memory),
     }
 }

@@ -1,11 +1,13 @@
 use Rattle.std.proofs.Common.{[], ◌≡◌, ◌∷◌, ◌++◌, List, map, ap, sym, ◌∙◌, subst, append_assoc}
+use Rattle.std.specs.List.{AllByRecursion}
 use Rattle.std.specs.Prelude.{All}
 use Rattle.std.specs.Vec.Iter.{into_iter_items}
-use Rattle.std.proofs.lemmas.List.Elements.{All-tail}
+use Rattle.std.proofs.lemmas.List.Elements.{All-head, All-tail}
 use Rattle.si_model.specs.declared.log.Log.{Log}
 use Rattle.nam_catalog.specs.declared.shape.Shape.{Shape}
 use Rattle.nam_protocol.specs.declared.session.SessionState.{SessionState}
 use Rattle.nam_protocol.specs.Session.{session_log}
+use Rattle.nam_protocol.specs.World.{HasNoVerb}
 use Rattle.nam_core.proofs.world.logs_of.Goals as goal
 
 abbrev logs_in : {S : Type 0} → Shape → (S → SessionState) → List S → List Log
@@ -31,8 +33,11 @@ loop-session-preserved g c =
       of =
           All-tail (g.S.Runs.IsOf c.args.layout.now) c.in-Some.session rest
           (subst (All (g.S.Runs.IsOf c.args.layout.now)) next c.loop-session.invariant.of);
+      ended =
+          (subst (λ sessions. AllByRecursion (HasNoVerb shape) (map session sessions)) next
+              c.loop-session.invariant.ended).1;
       rest =
           pushed shape session c.loop-session.logs c.push.new.self c.into_log.result c.in-Some.session rest
-          (into_iter_items c.loop-session.session-iterator) c.in_ok-push.ensures.ok c.into_log.ensures next
+          (into_iter_items c.loop-session.session-iterator) c.in_ok-push.ensures.ok (c.into_log.ensures shape (All-head (g.S.Runs.IsOf shape) c.in-Some.session rest (subst (All (g.S.Runs.IsOf shape)) next c.loop-session.invariant.of))) next
           ∙ c.loop-session.invariant.rest;
     }

@@ -21,8 +21,7 @@ returns-then-place-len g c =
     let less = subst (λ k. k < length sessions) at
     (subst (λ n. c.saturating_sub-place.result < n) number c.if-place-len.true) in
     let is = subst (λ k. item ≡ get_or sessions k item) at c.index_mut.ensures.value in
-    let stopped = subst (λ (s : Shape). session next ≡ session_cut s.form (session item)) c.self.invariant.layout_is
-    c.cut.ensures.value in
+    let stopped = c.cut.ensures.value shape ? in
     subst
     (λ (w : ShapedWorld). shaped session shape words (slice_set sessions c.saturating_sub-place.result next)
     ≡ record { shape = w.shape; world = cut w.shape w.world worker })

@@ -3,7 +3,7 @@ use Rattle.std.proofs.Common.{◌≡◌, ◌≤◌, ◌<◌, ◌+◌, ◌*◌, �
 use Rattle.std.proofs.Common.{refl, sym, ap, subst, ◌∙◌, arith}
 use Rattle.std.proofs.lemmas.Nat.{mul-le}
 use Rattle.std.proofs.lemmas.List.{length-map}
-use Rattle.std.specs.Prelude.{if◌then◌else◌}
+use Rattle.std.specs.Prelude.{◌==◌, if◌then◌else◌}
 use Rattle.std.specs.List.{AllByRecursion}
 use Rattle.si_model.specs.declared.op.Op.{Op}
 use Rattle.si_model.specs.declared.op.Op.TheVariants.{Get, Put, Add, Del, Need, Guard, Scan}
@@ -14,7 +14,7 @@ use Rattle.nam_catalog.specs.Tables.{capacities_of}
 use Rattle.nam_protocol.specs.declared.session.Job.{Job}
 use Rattle.nam_protocol.specs.EndsLaw.{ScenarioFits}
 use Rattle.nam_protocol.specs.Left.{jobs_weight, jobs_writes, op_weight, ops_weight, room_for, writes_in}
-use Rattle.nam_protocol.specs.Schedule.{Owned, all_jobs, jobs_of}
+use Rattle.nam_protocol.specs.Schedule.{Owned, all_jobs, jobs_of, numbers_from}
 use Rattle.nam_protocol.specs.SessionFits.{JobFits, OpsFit}
 use Rattle.nam_protocol.proofs.JobKeys.{written_few}
 use Rattle.nam_script.specs.declared.script.Script.{Script}
@@ -149,3 +149,19 @@ module _ (script : Script) (is : IsScript script) where
         are = record { many = omega arith; each = short shape worker 1 script.txns is.txns };
         small = small (own shape worker 1 script.txns) (omega arith) (omega arith) (omega arith);
       }
+
+  numbered_jobs : (numbers : List ℕ)
+      → AllByRecursion (AreJobsOf script) (map (λ worker. jobs_of worker 1 (scenario_of script).txns) numbers)
+  numbered_jobs [] = tt
+  numbered_jobs (worker ∷ numbers) = (worker_jobs worker, numbered_jobs numbers)
+
+  pub workers_jobs : AllByRecursion (AreJobsOf script) (all_jobs script.shape.workers (scenario_of script).txns)
+  workers_jobs = numbered_jobs (numbers_from 1 script.shape.workers)
+
+numbers_long : (from count : ℕ) → length (numbers_from from count) ≡ count
+numbers_long from zero = refl
+numbers_long from (suc count) = ap suc (numbers_long (from + 1) count)
+
+pub jobs_long : (workers : ℕ) (txns : List Owned) → length (all_jobs workers txns) ≡ workers
+jobs_long workers txns =
+    length-map (numbers_from 1 workers) (λ worker. jobs_of worker 1 txns) ∙ numbers_long 1 workers

@@ -12,13 +12,13 @@ mod rounds;
 mod schedule;
 mod sessions;
 mod simulate;
-mod simulated;
 #[cfg(test)]
 mod tests;
 mod turns;
+mod whole_run;
 
 pub use jobs::jobs_of;
 pub use nam_core::{Runs, World};
 pub use nam_protocol::Job;
 pub use simulate::simulated_text;
-pub use simulated::simulated;
+pub use whole_run::simulated;

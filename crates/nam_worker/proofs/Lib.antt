@@ -4,5 +4,5 @@ pub mod CallAnswers
 mod OpsCounted
 mod SessionLemmas
 mod AskingLemmas
-mod MedicLemmas
+pub mod MedicLemmas
 mod SteppingLemmas

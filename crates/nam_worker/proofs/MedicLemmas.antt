@@ -30,12 +30,14 @@ use Rattle.nam_protocol.specs.declared.txn.CommitPoint.{CommitPoint}
 use Rattle.nam_protocol.specs.declared.txn.CommitPoint.TheVariants as commit
 use Rattle.nam_protocol.specs.declared.txn.TxnPoint.{TxnPoint}
 use Rattle.nam_protocol.specs.declared.txn.TxnPoint.TheVariants.{Finding, Reading, Claiming, Committing}
+use Rattle.nam_protocol.specs.Client.{verb_of}
 use Rattle.nam_protocol.specs.Commit.{has_intents}
 use Rattle.nam_protocol.specs.CutClient.{client_cut, closed_call, cut_in_txn, cut_move, cut_open, into_log, left_open}
 use Rattle.nam_protocol.specs.Driver.{driver_take, job_call}
 use Rattle.nam_protocol.specs.EventsLaw.{by_cut}
 use Rattle.nam_protocol.specs.RoomLaw.{room_left}
-use Rattle.nam_protocol.specs.Session.{cut_in, jobs_over, session_cut, session_log, stopped, treated}
+use Rattle.nam_protocol.specs.Session.{cut_in, jobs_over, session_cut, session_log, session_verb, stopped, treated}
+use Rattle.nam_protocol.specs.Session.{verb_by}
 use Rattle.nam_protocol.specs.SessionFits.{SessionFits, is_running}
 use Rattle.nam_medic.specs.Medic.{Finishing, Serves, running}
 use Rattle.nam_medic.proofs.MedicLemmas.{verb_within}
@@ -92,6 +94,27 @@ module _ (shape : Shape) (a : SessionParts) (is : IsSessionOf shape a) where
   cut_runs cut =
       fits.stands ∙ sym (call_is a.driver (slice_get a.jobs a.driver.job))
       ∙ not_false (is_some (job_call a.driver (slice_get a.jobs a.driver.job))) (is.stopped cut)
+
+  -- where no verb is to come, no call runs, or it was stopped
+  rests_at : (cut : Bool) → (client_of a.client).cut ≡ cut → session_verb shape (session_of a) ≡ None
+      → is_running (client_of a.client).call ≡ true → (client_of a.client).cut ≡ true
+  rests_at true e none runs = e
+  rests_at false e none runs =
+      let verb = verb_of shape (client_of a.client) (client_of a.client).call in
+      let medic = ap (λ m. medic_in m (client_of a.client).medic) (uncut_medic e) ∙ is.unfinished in
+      let stands = ap (λ m. verb_by shape (session_of a) m) (sym medic) ∙ none in
+      let open_verb = ap (λ (c : Bool). if c then None else verb) (sym e) ∙ stands in
+      absurd (no_verb (client_of a.client).call runs open_verb)
+    where
+      no_verb : (now : Option (Now CallPoint Answer)) → is_running now ≡ true
+          → verb_of shape (client_of a.client) now ≡ None → ⊥
+      no_verb None runs none = false≢true runs
+      no_verb (Some (At place)) runs none = absurd (cc)
+      no_verb (Some (Over end)) runs none = false≢true runs
+
+  pub rests_or_cut : session_verb shape (session_of a) ≡ None → is_running (client_of a.client).call ≡ true
+      → (client_of a.client).cut ≡ true
+  rests_or_cut = rests_at (client_of a.client).cut refl
 
   -- 3. The verb of its medic
 

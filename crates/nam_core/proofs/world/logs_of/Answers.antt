@@ -35,7 +35,7 @@ loop-session-preserved g c =
           (subst (All (g.S.Runs.IsOf c.args.layout.now)) next c.loop-session.invariant.of);
       ended =
           (subst (λ sessions. AllByRecursion (HasNoVerb shape) (map session sessions)) next
-              c.loop-session.invariant.ended).1;
+          c.loop-session.invariant.ended).1;
       rest =
           pushed shape session c.loop-session.logs c.push.new.self c.into_log.result c.in-Some.session rest
           (into_iter_items c.loop-session.session-iterator) c.in_ok-push.ensures.ok (c.into_log.ensures shape (All-head (g.S.Runs.IsOf shape) c.in-Some.session rest (subst (All (g.S.Runs.IsOf shape)) next c.loop-session.invariant.of))) next

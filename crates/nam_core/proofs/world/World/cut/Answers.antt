@@ -1,7 +1,6 @@
-use Rattle.std.proofs.Common.{◌≡◌, ◌<◌, length, get_or, ap, ◌∙◌, subst}
+use Rattle.std.proofs.Common.{◌≡◌, ◌<◌, ◌-◌, length, get_or, ap, sym, ◌∙◌, subst}
+use Rattle.std.proofs.lemmas.List.Elements.{All-get_or}
 use Rattle.std.specs.Prelude.{slice_set}
-use Rattle.nam_catalog.specs.declared.shape.Shape.{Shape}
-use Rattle.nam_protocol.specs.Session.{session_cut}
 use Rattle.nam_protocol.specs.World.{cut}
 use Rattle.nam_core.specs.World.{ShapedWorld, shaped}
 use Rattle.nam_core.proofs.WorldLemmas.{cuts}
@@ -21,7 +20,9 @@ returns-then-place-len g c =
     let less = subst (λ k. k < length sessions) at
     (subst (λ n. c.saturating_sub-place.result < n) number c.if-place-len.true) in
     let is = subst (λ k. item ≡ get_or sessions k item) at c.index_mut.ensures.value in
-    let stopped = c.cut.ensures.value shape ? in
+    let of = subst (g.S.Runs.IsOf shape) (sym is) (All-get_or (g.S.Runs.IsOf shape) sessions (worker - 1) item less
+    c.self.invariant.of) in
+    let stopped = c.cut.ensures.value shape of in
     subst
     (λ (w : ShapedWorld). shaped session shape words (slice_set sessions c.saturating_sub-place.result next)
     ≡ record { shape = w.shape; world = cut w.shape w.world worker })

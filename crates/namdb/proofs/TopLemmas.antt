@@ -9,14 +9,36 @@ use Rattle.namdb.specs.declared.status.Status.{Status}
 use Rattle.namdb.specs.declared.status.Status.TheVariants.{Done, Usage, BadScript, ReadFault, WriteFault, Memory}
 use Rattle.namdb.specs.declared.status.Status.TheVariants.{TooLong}
 use Rattle.namdb.specs.Status.{line_of}
-use Rattle.std.specs.Prelude.{◌<◌, IfSome, Result, Ok, Err}
+use Rattle.std.specs.Prelude.{◌<◌, IfSome, Result, Ok, Err, codes, slice_get, string_bytes, false}
+use Rattle.std.specs.Str.{bytes_eq}
+use Rattle.std.proofs.lemmas.Bool.{false≢true}
+use Rattle.std.proofs.lemmas.Slice.Eq.{bytes_eq-Decides}
+use Rattle.namdb.specs.declared.command.Command.{Command}
+use Rattle.namdb.specs.declared.command.Command.TheVariants.{Run, Sim}
 use Rattle.nam_line.specs.Plan.{Line}
 use Rattle.nam_script.specs.declared.script.Script.{Script}
 use Rattle.nam_script.specs.declared.refusal.Kind.{Kind}
 use Rattle.nam_script.specs.Parse.{Fault, script_of}
-use Rattle.namdb.specs.Headline.{AreWords, IsAllThatWasLeft, IsWholeInput, IsAnsweredBy, HasAtMost, MayRefuse}
-use Rattle.namdb.specs.Headline.{MayWrite}
+use Rattle.namdb.specs.Headline.{AreWords, AreWordsFor, IsAllThatWasLeft, IsWholeInput, IsAnsweredBy, HasAtMost, MayRefuse}
+use Rattle.namdb.specs.Headline.{IsReportOn, MayBeDone, MayWrite}
 use Rattle.namdb.specs.Ending.{HasLine, MakesLine, Sends}
+
+-- a second word that is neither command's
+by_command : (words : List (String Global)) (word : String Global) (text : List ℕ) → slice_get words 1 ≡ Some word
+    → text ≡ string_bytes word → bytes_eq text (codes "run") ≡ false → bytes_eq text (codes "sim") ≡ false
+    → (command : Command) → AreWordsFor words command → ⊥
+by_command words word text second value no_run no_sim Run are =
+    let is = subst (λ o. IfSome o (λ w. string_bytes w ≡ codes "run")) second are.1 in
+    false≢true (sym no_run ∙ (bytes_eq-Decides text (codes "run")).1 (value ∙ is))
+by_command words word text second value no_run no_sim Sim are =
+    let is = subst (λ o. IfSome o (λ w. string_bytes w ≡ codes "sim")) second are.1 in
+    false≢true (sym no_sim ∙ (bytes_eq-Decides text (codes "sim")).1 (value ∙ is))
+
+pub no_command : (words : List (String Global)) (word : String Global) (text : List ℕ) → slice_get words 1 ≡ Some word
+    → text ≡ string_bytes word → bytes_eq text (codes "run") ≡ false → bytes_eq text (codes "sim") ≡ false
+    → AreWords words → ⊥
+no_command words word text second value no_run no_sim are =
+    by_command words word text second value no_run no_sim are.0 are.1
 
 -- an input that was read whole has at most so many bytes
 all_at_most : (left now : Option (List ℕ)) (input : List ℕ) → IsAllThatWasLeft left now input → length input ≤ 1048576
@@ -62,6 +84,19 @@ module _ (words : List (String Global)) (left left_now : Option (List ℕ)) (rea
       → (status ≡ WriteFault → ⊥) → result ≡ WriteFault → SinkFailed
   text_fails status text result may (inl sent) other is = absurd (other (sym sent.0 ∙ is))
   text_fails status text result may (inr failed) other is = (failed.1, (status, (text, may, failed.2)))
+
+  -- the text went out whole
+  abbrev pub HasDone : Type 0
+  HasDone =
+      (command : Command) × AreWordsFor words command
+      × ((input : List ℕ) × IsWholeInput left left_now input
+      × ((text : List ℕ) × IsReportOn command lines input text × Appends taken now text))
+
+  pub text_done : (text out : List ℕ) (result : Status) → MayBeDone words left left_now lines text → out ≡ text
+      → Sends taken now writes writes_now Done out result → result ≡ Done → HasDone
+  text_done text out result may same (inl sent) is =
+      (may.0, may.1, (may.2.0, may.2.1, (text, may.2.2, subst (Appends taken now) same sent.1)))
+  text_done text out result may same (inr failed) is = absurd (let fault = sym failed.0 ∙ is in cc)
 
   line_fails : (Kept : Type 0) (status result : Status)
       → MayWrite words left left_now reads reads_now lines status (line_of status)
@@ -144,7 +179,7 @@ module _ (words : List (String Global)) (left left_now : Option (List ℕ)) (rea
     pub text_answers : (text out : List ℕ) (result : Status) → MayWrite words left left_now reads reads_now lines Done text
         → Sends taken now writes writes_now Done out result → IsAnsweredBy (script_of input) result
     text_answers text out result may (inl sent) =
-        subst (λ given. IsAnsweredBy given result) (sym (ap script_of (sym (the_input may.1.1.0 may.1.1.1)) ∙ may.1.1.2.read))
+        subst (λ given. IsAnsweredBy given result) (sym (ap script_of (sym (the_input may.2.0 may.2.1)) ∙ may.2.2.read))
         (inl sent.0)
     text_answers text out result may (inr failed) = absurd (writes_fine failed.1)
 

@@ -81,6 +81,13 @@ HasTooMuch left now = IfSome left (λ bytes. 1048576 < length bytes) × LosesFro
 abbrev pub HasAtMost : Option (List ℕ) → Option (List ℕ) → Type 0
 HasAtMost left now = LosesFront left now (λ n. n ≤ 1048576)
 
+-- a call with these words, before and after which the source tells that this is left, may be done under these lines,
+-- and have written this text
+abbrev pub MayBeDone : List (String Global) → Option (List ℕ) → Option (List ℕ) → List Line → List ℕ → Type 0
+MayBeDone words left now lines text =
+    (command : Command) × AreWordsFor words command
+    × ((input : List ℕ) × IsWholeInput left now input × IsReportOn command lines input text)
+
 -- Of a call with these words, before and after which the source tells that this is left, and counts so many faults:
 module _ (words : List (String Global)) (left now : Option (List ℕ)) (faults faults_now : ℕ) where
   -- it may be refused so
@@ -93,14 +100,8 @@ module _ (words : List (String Global)) (left now : Option (List ℕ)) (faults f
   MayRefuse Memory = AreWords words × HasAtMost left now
   MayRefuse status = ⊥
 
-  -- under these lines it may be done, and has written this text
-  abbrev pub MayBeDone : List Line → List ℕ → Type 0
-  MayBeDone lines text =
-      (command : Command) × AreWordsFor words command
-      × ((input : List ℕ) × IsWholeInput left now input × IsReportOn command lines input text)
-
   -- it may end so with this text. (`Memory` and `WriteFault` have none of their own.)
   abbrev pub MayWrite : List Line → Status → List ℕ → Type 0
-  MayWrite lines Done text = MayBeDone lines text
+  MayWrite lines Done text = MayBeDone words left now lines text
   MayWrite lines Memory text = ⊥
   MayWrite lines status text = MayRefuse status × (text ≡ line_of status)

@@ -572,7 +572,13 @@ fn ending(alloc: Global, call: &Call<'_>) -> Result<(Status, MemSink), AllocErro
     let writes = Vec::from_slice(alloc, call.failing_writes)?;
     let mut source = MemSource::new(input, PIECE, reads);
     let mut sink = MemSink::new(alloc, call.room, PIECE, writes)?;
-    let status = namdb(alloc, words.as_slice(), &mut source, &mut sink);
+    let status = namdb(
+        alloc,
+        words.as_slice(),
+        &mut source,
+        &mut sink,
+        Vec::new(alloc),
+    );
     Ok((status, sink))
 }
 

@@ -98,8 +98,7 @@ pub fn namdb<S: Source, K: Sink>(
         × HasAtMost (S.left source.old) (S.left source.new)
         × (sink.new ≡ sink.old) }
 {
-    let mut lines = lines;
-    match report_of(alloc, words, source, lines.as_mut_slice()) {
+    match report_of(alloc, words, source, lines) {
         Ok(text) => end_with(sink, Status::Done, text.as_slice()),
         Err(status) => refuse(alloc, sink, status),
     }
@@ -110,11 +109,11 @@ fn report_of<S: Source>(
     alloc: Global,
     words: &[String],
     source: &mut S,
-    lines: &mut [Box<dyn Line + Send>],
+    lines: Vec<Box<dyn Line + Send>>,
 ) -> Result<Vec<u8>, Status>
     ensures report { IfOk result (λ text.
         MayBeDone words.now (S.left source.old) (S.left source.new)
-        (map (λ line. state line) lines.old) text.items) }
+        (map (λ line. state line) lines.items) text.items) }
     ensures refusal { IfErr result (λ status.
         MayRefuse words.now (S.left source.old) (S.left source.new) (S.faults source.old) (S.faults source.new)
         status) }
@@ -132,10 +131,10 @@ fn report_on(
     alloc: Global,
     command: Command,
     input: &[u8],
-    lines: &mut [Box<dyn Line + Send>],
+    lines: Vec<Box<dyn Line + Send>>,
 ) -> Result<Vec<u8>, Status>
     ensures report { IfOk result (λ text.
-        IsReportOn command (map (λ line. state line) lines.old) input.now text.items) }
+        IsReportOn command (map (λ line. state line) lines.items) input.now text.items) }
     ensures refusal { IfErr result (λ status. IsAnswerToInput input.now status) }
 {
     let script = nam_script::parse(alloc, input)?;
@@ -147,15 +146,16 @@ fn text_for(
     alloc: Global,
     command: Command,
     script: &Script,
-    lines: &mut [Box<dyn Line + Send>],
+    lines: Vec<Box<dyn Line + Send>>,
 ) -> Result<Vec<u8>, AllocError>
     requires { IsScript script.now }
     ensures { IfOk result (λ text.
-        IsTextFor command (map (λ line. state line) lines.old) script.now text.items) }
+        IsTextFor command (map (λ line. state line) lines.items) script.now text.items) }
 {
+    let mut lines = lines;
     match command {
         Command::Run => run_text(alloc, script),
-        Command::Sim => simulated(alloc, script, lines),
+        Command::Sim => simulated(alloc, script, lines.as_mut_slice()),
     }
 }
 

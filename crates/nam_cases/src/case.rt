@@ -1,5 +1,7 @@
 //! A case: a script, the lines of its workers, and its report.
 
+ghost use Rattle.std.specs.Prelude.{◌<◌, ◌≤◌, length, IfSome};
+
 use crate::words::{cut_at, number};
 use nam_catalog::bounds::MOST_WORKERS;
 use nam_line::{FuseLine, Line, ListLine, UpLine};
@@ -16,7 +18,9 @@ pub struct Case<'a> {
 }
 
 /// So many bytes, and those after them.
-fn split(bytes: &[u8], count: u64) -> Option<(&[u8], &[u8])> {
+fn split(bytes: &[u8], count: u64) -> Option<(&[u8], &[u8])>
+    ensures { IfSome result (λ parts. length parts.1.now ≤ length bytes.now) }
+{
     let count = usize::try_from(count).ok()?;
     if bytes.len() < count {
         return None;
@@ -69,7 +73,9 @@ fn line_of(alloc: Global, plans: &[u8], worker: u64) -> Result<Box<dyn Line + Se
 
 impl<'a> Case<'a> {
     /// The first case, and what stands after it.
-    pub fn read(bytes: &'a [u8]) -> Option<(Case<'a>, &'a [u8])> {
+    pub fn read(bytes: &'a [u8]) -> Option<(Case<'a>, &'a [u8])>
+        ensures { IfSome result (λ found. 0 < length bytes.now → length found.1.now < length bytes.now) }
+    {
         let (line, rest) = cut_at(bytes, b'\n');
         let (_case, line) = cut_at(line, b' ');
         let (name, line) = cut_at(line, b' ');

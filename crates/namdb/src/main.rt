@@ -59,13 +59,7 @@ fn call(rt: &HostRuntime) -> Result<Status, AllocError> {
     let lines = up_lines(rt.alloc())?;
     let mut source = StdSource::new(rt.stdin());
     let mut sink = StdSink::new(rt.stdout());
-    Ok(namdb(
-        rt.alloc(),
-        words.as_slice(),
-        &mut source,
-        &mut sink,
-        lines,
-    ))
+    Ok(namdb(rt.alloc(), words.as_slice(), &mut source, &mut sink, lines))
 }
 
 fn main(rt: HostRuntime) -> Status {

@@ -1,5 +1,7 @@
 ghost use Rattle.std.specs.Prelude.{◌≡◌};
 
+mod simulated;
+
 use crate::status::Status;
 use crate::top::namdb;
 use nam_io::{MemSink, MemSource};

@@ -1,6 +1,6 @@
 mod TurnLemmas
 mod RunLemmas
 mod JobLemmas
-mod OpenedLemmas
+pub mod OpenedLemmas
 mod SessionJobs
 mod SimulatedLemmas

@@ -20,5 +20,6 @@ mod whole_run;
 pub use jobs::jobs_of;
 pub use nam_core::{Runs, World};
 pub use nam_protocol::Job;
+pub use sessions::sessions_of;
 pub use simulate::simulated_text;
 pub use whole_run::simulated;

@@ -28,47 +28,53 @@ fn split(bytes: &[u8], count: u64) -> Option<(&[u8], &[u8])>
     Some((&bytes[..count], &bytes[count..]))
 }
 
-/// The line that refuses the verbs of these numbers.
-fn list_line(alloc: Global, list: &[u8]) -> Result<Box<dyn Line + Send>, AllocError> {
-    let mut failing = Vec::new(alloc);
+/// What a worker's line refuses.
+#[derive(Debug, Drop)]
+enum Plan {
+    /// Nothing.
+    Up,
+    /// The verb of this number and all later ones.
+    Fuse(u64),
+    /// The verbs of these numbers.
+    List(Vec<u64>),
+}
+
+/// The numbers of a list.
+fn list_of(alloc: Global, list: &[u8]) -> Result<Vec<u64>, AllocError> {
+    let mut numbers = Vec::new(alloc);
     let mut rest = list;
     while !rest.is_empty() {
         let (word, after) = cut_at(rest, b',');
-        failing.push(number(word).unwrap_or(0))?;
+        numbers.push(number(word).unwrap_or(0))?;
         rest = after;
     }
-    Ok(Box::new(alloc, ListLine::new(failing))?)
+    Ok(numbers)
 }
 
-/// The line of a worker by its plan, if that is the word's.
-fn planned(
-    alloc: Global,
-    word: &[u8],
-    worker: u64,
-) -> Result<Option<Box<dyn Line + Send>>, AllocError> {
+/// The plan that a word gives the worker's line, if it is that worker's.
+fn planned(alloc: Global, word: &[u8], worker: u64) -> Result<Option<Plan>, AllocError> {
     let (of, at) = cut_at(word, b':');
     if number(of) == Some(worker) {
-        let line = FuseLine::new(number(at).unwrap_or(0));
-        return Ok(Some(Box::new(alloc, line)?));
+        return Ok(Some(Plan::Fuse(number(at).unwrap_or(0))));
     }
     let (of, list) = cut_at(word, b'=');
     if number(of) == Some(worker) {
-        return Ok(Some(list_line(alloc, list)?));
+        return Ok(Some(Plan::List(list_of(alloc, list)?)));
     }
     Ok(None)
 }
 
-/// The line of a worker: that of its plan, or one that refuses nothing.
-fn line_of(alloc: Global, plans: &[u8], worker: u64) -> Result<Box<dyn Line + Send>, AllocError> {
+/// The plan of a worker's line.
+fn plan_of(alloc: Global, plans: &[u8], worker: u64) -> Result<Plan, AllocError> {
     let mut rest = plans;
     while !rest.is_empty() {
         let (word, after) = cut_at(rest, b' ');
-        if let Some(line) = planned(alloc, word, worker)? {
-            return Ok(line);
+        if let Some(plan) = planned(alloc, word, worker)? {
+            return Ok(plan);
         }
         rest = after;
     }
-    Ok(Box::new(alloc, UpLine::new())?)
+    Ok(Plan::Up)
 }
 
 impl<'a> Case<'a> {
@@ -93,15 +99,6 @@ impl<'a> Case<'a> {
         Some((case, rest))
     }
 
-    /// The lines of all workers.
-    fn lines(&self, alloc: Global) -> Result<Vec<Box<dyn Line + Send>>, AllocError> {
-        let mut lines: Vec<Box<dyn Line + Send>> = Vec::new(alloc);
-        for before in 0..MOST_WORKERS {
-            lines.push(line_of(alloc, self.plans, u64::from(before) + 1)?)?;
-        }
-        Ok(lines)
-    }
-
     /// Whether the report is that of the simulated run of the script under the lines.
     pub fn agrees(&self, alloc: Global) -> Result<bool, AllocError> {
         let script = match parse(alloc, self.script) {
@@ -109,7 +106,14 @@ impl<'a> Case<'a> {
             Err(ParseEnd::Memory) => return Err(AllocError),
             Err(ParseEnd::Bad { .. }) => return Ok(false),
         };
-        let mut lines = self.lines(alloc)?;
+        let mut lines: Vec<Box<dyn Line + Send>> = Vec::new(alloc);
+        for before in 0..MOST_WORKERS {
+            match plan_of(alloc, self.plans, u64::from(before) + 1)? {
+                Plan::Up => lines.push(Box::new(alloc, UpLine::new())?)?,
+                Plan::Fuse(at) => lines.push(Box::new(alloc, FuseLine::new(at))?)?,
+                Plan::List(failing) => lines.push(Box::new(alloc, ListLine::new(failing))?)?,
+            }
+        }
         let text = simulated(alloc, &script, lines.as_mut_slice())?;
         Ok(text.as_slice() == self.report)
     }

@@ -44,19 +44,14 @@ fn words(alloc: Global, given: io::Result<Args>) -> Result<Vec<String>, AllocErr
     }
 }
 
-/// Lines of which none fails, one for each worker that a script may have.
-fn up_lines(alloc: Global) -> Result<Vec<Box<dyn Line + Send>>, AllocError> {
-    let mut lines: Vec<Box<dyn Line + Send>> = Vec::new(alloc);
-    for _worker in 0..MOST_WORKERS {
-        lines.push(Box::new(alloc, UpLine::new())?)?;
-    }
-    Ok(lines)
-}
-
-/// Calls the program with these words over the standard streams.
+/// Calls the program with these words over the standard streams, and with a line for each worker that a script may
+/// have, of which none fails.
 fn call(rt: &HostRuntime) -> Result<Status, AllocError> {
     let words = words(rt.alloc(), env::args(rt))?;
-    let lines = up_lines(rt.alloc())?;
+    let mut lines: Vec<Box<dyn Line + Send>> = Vec::new(rt.alloc());
+    for _worker in 0..MOST_WORKERS {
+        lines.push(Box::new(rt.alloc(), UpLine::new())?)?;
+    }
     let mut source = StdSource::new(rt.stdin());
     let mut sink = StdSink::new(rt.stdout());
     Ok(namdb(rt.alloc(), words.as_slice(), &mut source, &mut sink, lines))

@@ -1,12 +1,11 @@
 -- The world of a script, in which nothing was done yet.
-use Rattle.std.proofs.Common.{◌≡◌, ◌≤◌, ◌<◌, ◌+◌, ℕ, List, [], ◌∷◌, ◌++◌, length, map, Some, None}
+use Rattle.std.proofs.Common.{◌≡◌, ◌≤◌, ◌+◌, ℕ, List, [], ◌∷◌, ◌++◌, length, map, None}
 use Rattle.std.proofs.Common.{refl, sym, ap, subst, ◌∙◌, arith, append_assoc}
 use Rattle.std.specs.Prelude.{All}
 use Rattle.std.specs.List.{AllByRecursion}
 use Rattle.std.proofs.lemmas.List.{length-map, length_push, map-append}
 use Rattle.std.proofs.lemmas.List.Elements.{All-from_recursion}
 use Rattle.si_model.specs.declared.row.Row.{Row}
-use Rattle.nam_catalog.specs.declared.shape.Shape.{Shape}
 use Rattle.nam_catalog.specs.declared.shape.Table.{Table}
 use Rattle.nam_catalog.specs.Tables.{widths_of}
 use Rattle.nam_catalog.specs.Greatest.{greatest_number}
@@ -16,7 +15,7 @@ use Rattle.nam_protocol.specs.declared.client.ClientState.{ClientState}
 use Rattle.nam_protocol.specs.declared.session.Job.{Job}
 use Rattle.nam_protocol.specs.declared.session.SessionState.{SessionState}
 use Rattle.nam_protocol.specs.Driver.{new_driver}
-use Rattle.nam_protocol.specs.Schedule.{all_jobs, opened}
+use Rattle.nam_protocol.specs.Schedule.{all_jobs}
 use Rattle.nam_protocol.specs.Session.{new_session}
 use Rattle.nam_protocol.specs.Telling.{new_client}
 use Rattle.nam_protocol.specs.World.{new_sessions}

@@ -1,18 +1,16 @@
 -- The jobs of a script's worker are such as its session may have.
 use Rattle.std.proofs.Common.{◌≡◌, ◌≤◌, ◌<◌, ◌+◌, ◌*◌, ◌^◌, ℕ, zero, suc, Bool, true, false, List, [], ◌∷◌, length, map}
-use Rattle.std.proofs.Common.{refl, sym, ap, subst, ◌∙◌, arith}
+use Rattle.std.proofs.Common.{refl, ap, ◌∙◌, arith}
 use Rattle.std.proofs.lemmas.Nat.{mul-le}
 use Rattle.std.proofs.lemmas.List.{length-map}
 use Rattle.std.specs.Prelude.{◌==◌, if◌then◌else◌}
 use Rattle.std.specs.List.{AllByRecursion}
 use Rattle.si_model.specs.declared.op.Op.{Op}
 use Rattle.si_model.specs.declared.op.Op.TheVariants.{Get, Put, Add, Del, Need, Guard, Scan}
-use Rattle.si_model.specs.declared.op.Policy.{Policy}
 use Rattle.nam_catalog.specs.declared.shape.Shape.{Shape}
 use Rattle.nam_catalog.specs.declared.bounds.TheConstants.{MOST_OPS, MOST_TRIES, MOST_TXNS}
 use Rattle.nam_catalog.specs.Tables.{capacities_of}
 use Rattle.nam_protocol.specs.declared.session.Job.{Job}
-use Rattle.nam_protocol.specs.EndsLaw.{ScenarioFits}
 use Rattle.nam_protocol.specs.Left.{jobs_weight, jobs_writes, op_weight, ops_weight, room_for, writes_in}
 use Rattle.nam_protocol.specs.Schedule.{Owned, all_jobs, jobs_of, numbers_from}
 use Rattle.nam_protocol.specs.SessionFits.{JobFits, OpsFit}
@@ -23,7 +21,7 @@ use Rattle.nam_script.specs.Checks.{op_cost, ops_cost, txns_cost}
 use Rattle.nam_script.specs.Limits.{IsScript, TxnFits}
 use Rattle.nam_scenario.specs.Scenario.{owned_of, scenario_of}
 use Rattle.nam_scenario.proofs.ScenarioLemmas.{scripts_fit}
-use Rattle.nam_worker.specs.Answering.{AreJobs, IsJob}
+use Rattle.nam_worker.specs.Answering.{IsJob}
 use Rattle.nam_worker.specs.Needs.{IsSmall}
 use Rattle.nam_simulation.specs.Simulation.{AreJobsOf}
 

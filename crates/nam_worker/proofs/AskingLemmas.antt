@@ -1,13 +1,11 @@
 -- The calls of a session's driver are asked of its client, for which there is room.
-use Rattle.std.proofs.Common.{◌≡◌, ◌≤◌, ◌<◌, ◌+◌, ◌-◌, ◌^◌, ℕ, suc, zero, List, length, Option, Some, None}
-use Rattle.std.proofs.Common.{true, refl, sym, ap, subst, ◌∙◌, arith}
-use Rattle.std.proofs.lemmas.Bool.{false≢true}
-use Rattle.std.specs.Prelude.{slice_get, is_some, IsSome}
+use Rattle.std.proofs.Common.{◌≡◌, ◌≤◌, ◌<◌, ◌+◌, ◌-◌, ◌^◌, ℕ, suc, zero, List, Option, Some, None}
+use Rattle.std.proofs.Common.{refl, sym, ap, subst, ◌∙◌, arith}
+use Rattle.std.specs.Prelude.{slice_get, IsSome}
 use Rattle.nam_verbs.specs.declared.now.Now.{Now}
-use Rattle.nam_verbs.specs.declared.now.Now.TheVariants.{At, Over}
+use Rattle.nam_verbs.specs.declared.now.Now.TheVariants.{Over}
 use Rattle.nam_verbs.specs.VerbAt.{VerbAt}
 use Rattle.nam_catalog.specs.declared.shape.Shape.{Shape}
-use Rattle.nam_catalog.specs.Fits.{FitsLimits}
 use Rattle.nam_layout.specs.declared.field.Field.{Field}
 use Rattle.nam_protocol.specs.declared.client.Answer.{Answer}
 use Rattle.nam_protocol.specs.declared.client.Answer.TheVariants.{Nothing}
@@ -20,13 +18,13 @@ use Rattle.nam_protocol.specs.declared.session.DriverState.{DriverState}
 use Rattle.nam_protocol.specs.declared.session.Job.{Job}
 use Rattle.nam_protocol.specs.declared.session.SessionState.{SessionState}
 use Rattle.nam_protocol.specs.AskedLaw.{call_at}
-use Rattle.nam_protocol.specs.Client.{call_after, client_after, client_ask, client_verb}
+use Rattle.nam_protocol.specs.Client.{client_after, client_ask, client_verb}
 use Rattle.nam_protocol.specs.Driver.{driver_next, driver_take, job_call, place_call}
 use Rattle.nam_protocol.specs.Left.{Room}
 use Rattle.nam_protocol.specs.Own.{MayAsk}
 use Rattle.nam_protocol.specs.RoomLaw.{DriverCounts, IsWithin, PlaceCounts, both_rooms, call_room, room_left}
-use Rattle.nam_protocol.specs.Session.{answer_now, call_taken, calls_at_most, settle, settled, taken}
-use Rattle.nam_protocol.specs.SessionFits.{DriverFits, DriverPointFits, is_running, ops_of}
+use Rattle.nam_protocol.specs.Session.{answer_now, calls_at_most, settle, settled, taken}
+use Rattle.nam_protocol.specs.SessionFits.{DriverFits, DriverPointFits, ops_of}
 use Rattle.nam_protocol.proofs.AskedSession.{AsksSo, NowOf}
 use Rattle.nam_protocol.proofs.EndsSession.{IsReady, takes_word}
 use Rattle.nam_protocol.proofs.RoomDriver.{room_suffices}
@@ -157,12 +155,6 @@ module _ (shape : Shape) (client : Registers) (driver : DriverState) (jobs : Lis
           counted = rw is (still_counted end);
           jobs_are = can.jobs_are;
         }
-
--- a call that runs has no answer
-pub busy_unanswered : (now : Option (Now CallPoint Answer)) → is_running now ≡ true → answer_now now ≡ None
-busy_unanswered None e = refl
-busy_unanswered (Some (At place)) e = refl
-busy_unanswered (Some (Over end)) e = absurd (false≢true e)
 
 -- 3. Calls are asked one after another
 
@@ -296,20 +288,6 @@ module _ (shape : Shape) (client : Registers) (driver : DriverState) (jobs : Lis
   pub word_room : HasRoomAfter shape after driver jobs
   word_room = record { room = λ end some. rw spare_is (room.room end some); counted = word_counted }
 
-  -- the call was answered so, or not yet
-  abbrev after_answer : Option Answer → SessionState
-  after_answer o = elim o [
-    | None ↦ record now_session { client = client_after shape (client_of client) found }
-    | Some answer ↦ settled shape (taken now_session (client_after shape (client_of client) found) answer)
-  ]
-
-  pub word_unanswered : answer_now (client_of after).call ≡ None
-      → asking after driver jobs ≡ call_taken shape now_session found
-  word_unanswered none =
-      let unanswered : answer_now (client_after shape (client_of client) found).call ≡ None =
-      ap (λ (c : ClientState). answer_now c.call) (sym client_is) ∙ none in
-      ap (λ c. record now_session { client = c }) client_is ∙ sym (ap after_answer unanswered)
-
   module _ (end : Answer) (answered : answer_now (client_of after).call ≡ Some end) where
     word_answered : answer_now (client_after shape (client_of client) found).call ≡ Some end
     word_answered = ap (λ (c : ClientState). answer_now c.call) (sym client_is) ∙ answered
@@ -353,16 +331,3 @@ module _ (shape : Shape) (client : Registers) (driver : DriverState) (jobs : Lis
       counted = rw is (word_counted end next_stands);
       jobs_are = are;
     }
-
-    pub word_settled : (driver_after : DriverState) → driver_after ≡ driver_take jobs driver end
-        → (last : SessionState) → last ≡ settled shape (asking after driver_after jobs)
-        → last ≡ call_taken shape now_session found
-    word_settled driver_after is last settles =
-        settles
-        ∙ ap (λ c. settled shape record { client = c; driver = driver_after; jobs = jobs }) client_is
-        ∙ ap (λ d. settled shape record {
-          client = client_after shape (client_of client) found;
-          driver = d;
-          jobs = jobs;
-        }) is
-        ∙ sym (ap after_answer word_answered)

@@ -1,5 +1,5 @@
 -- A session that is stopped, and its medic.
-use Rattle.std.proofs.Common.{◌≡◌, ◌<◌, ◌+◌, ◌^◌, ℕ, Bool, true, false, Option, Some, None, inl, inr, ◌⊎◌}
+use Rattle.std.proofs.Common.{◌≡◌, ◌<◌, ◌+◌, ◌^◌, ℕ, Bool, true, false, Option, Some, None, inl, inr}
 use Rattle.std.proofs.Common.{refl, sym, ap, subst, ◌∙◌}
 use Rattle.std.proofs.lemmas.Bool.{false≢true}
 use Rattle.std.specs.Prelude.{◌&&◌, ◌||◌, not, is_some, slice_get, if◌then◌else◌, IfSome}
@@ -11,11 +11,9 @@ use Rattle.nam_verbs.specs.declared.now.Now.{Now}
 use Rattle.nam_verbs.specs.declared.now.Now.TheVariants.{At, Over}
 use Rattle.nam_verbs.specs.Now.{FitsNow, end_now}
 use Rattle.nam_verbs.specs.Running.{next_verb}
-use Rattle.nam_catalog.specs.declared.form.Form.{Form}
 use Rattle.nam_catalog.specs.declared.shape.Shape.{Shape}
 use Rattle.nam_catalog.specs.Words.{words_of}
 use Rattle.nam_calls.specs.declared.medic.MedicPoint.{MedicPoint}
-use Rattle.nam_calls.specs.Medic.{medic_begin}
 use Rattle.nam_calls.specs.MedicFits.{MedicFits}
 use Rattle.nam_protocol.specs.declared.client.Answer.{Answer}
 use Rattle.nam_protocol.specs.declared.client.CallPoint.{CallPoint}
@@ -36,7 +34,7 @@ use Rattle.nam_protocol.specs.CutClient.{client_cut, closed_call, cut_in_txn, cu
 use Rattle.nam_protocol.specs.Driver.{driver_take, job_call}
 use Rattle.nam_protocol.specs.EventsLaw.{by_cut}
 use Rattle.nam_protocol.specs.RoomLaw.{room_left}
-use Rattle.nam_protocol.specs.Session.{cut_in, jobs_over, session_cut, session_log, session_verb, stopped, treated}
+use Rattle.nam_protocol.specs.Session.{cut_in, jobs_over, session_cut, session_log, session_verb, stopped}
 use Rattle.nam_protocol.specs.Session.{verb_by}
 use Rattle.nam_protocol.specs.SessionFits.{SessionFits, is_running}
 use Rattle.nam_medic.specs.Medic.{Finishing, Serves, running}
@@ -45,7 +43,7 @@ use Rattle.nam_client.specs.declared.registers.Registers.{Registers}
 use Rattle.nam_client.specs.Client.{ops_so_far, spare_of}
 use Rattle.nam_client.specs.Fits.{IsClientOf}
 use Rattle.nam_client.specs.Registers.{client_of}
-use Rattle.nam_worker.specs.Session.{HasRoomAfter, Holds, IsMedicOf, IsReadyFor, IsSessionOf, SessionParts, medic_in}
+use Rattle.nam_worker.specs.Session.{Holds, IsMedicOf, IsReadyFor, IsSessionOf, SessionParts, medic_in}
 use Rattle.nam_worker.specs.Session.{finish_in, session_of}
 use Rattle.nam_worker.proofs.SessionLemmas.{reached_so}
 

@@ -1,16 +1,13 @@
 -- A session between two calls, and how its next call is asked.
-use Rattle.std.proofs.Common.{◌≡◌, ◌≤◌, ◌<◌, ◌+◌, ◌-◌, ℕ, suc, zero, List, [], ◌∷◌, length, Option, Some, None}
-use Rattle.std.proofs.Common.{false, true, refl, sym, ap, subst, ◌∙◌, arith, take}
-use Rattle.std.proofs.lemmas.Bool.{false≢true}
-use Rattle.std.specs.Prelude.{slice_get, is_some, IsSome}
+use Rattle.std.proofs.Common.{◌≡◌, ◌≤◌, ◌+◌, ◌-◌, ℕ, suc, zero, List, [], ◌∷◌, length, Option, Some, None}
+use Rattle.std.proofs.Common.{refl, ap, subst, ◌∙◌, arith}
+use Rattle.std.specs.Prelude.{slice_get, is_some}
 use Rattle.si_model.specs.declared.op.Op.{Op}
 use Rattle.si_model.specs.declared.op.Policy.{Policy}
 use Rattle.nam_verbs.specs.declared.now.Now.{Now}
 use Rattle.nam_verbs.specs.declared.now.Now.TheVariants.{At, Over}
-use Rattle.nam_verbs.specs.VerbAt.{VerbAt}
 use Rattle.nam_catalog.specs.declared.shape.Shape.{Shape}
 use Rattle.nam_catalog.specs.Fits.{FitsLimits}
-use Rattle.nam_layout.specs.declared.field.Field.{Field}
 use Rattle.nam_protocol.specs.declared.client.Answer.{Answer}
 use Rattle.nam_protocol.specs.declared.client.Call.{Call}
 use Rattle.nam_protocol.specs.declared.client.CallPoint.{CallPoint}
@@ -20,15 +17,15 @@ use Rattle.nam_protocol.specs.declared.session.DriverPoint.TheVariants.{ToBegin,
 use Rattle.nam_protocol.specs.declared.session.DriverState.{DriverState}
 use Rattle.nam_protocol.specs.declared.session.Job.{Job}
 use Rattle.nam_protocol.specs.declared.session.SessionState.{SessionState}
-use Rattle.nam_protocol.specs.Client.{call_after, client_after, client_ask, client_verb}
+use Rattle.nam_protocol.specs.Client.{client_after, client_ask}
 use Rattle.nam_protocol.specs.ClientEvents.{ClientLists}
 use Rattle.nam_protocol.specs.Driver.{driver_next, driver_take, job_call, place_call}
 use Rattle.nam_protocol.specs.EventsLaw.{IsReached}
 use Rattle.nam_protocol.specs.Own.{MayAsk}
-use Rattle.nam_protocol.specs.Session.{answer_now, calls_at_most, settle, settled, taken}
+use Rattle.nam_protocol.specs.Session.{answer_now, calls_at_most, settle, taken}
 use Rattle.nam_protocol.specs.SessionFits.{JobFits, SessionFits, ops_of}
 use Rattle.nam_protocol.proofs.AskedSession.{AsksSo, session_asks}
-use Rattle.nam_protocol.proofs.EndsDriver.{AsksFrom, calls_from, calls_after, takes}
+use Rattle.nam_protocol.proofs.EndsDriver.{AsksFrom, calls_from, takes}
 use Rattle.nam_protocol.proofs.EndsSession.{Asked, Few, IsReady, asks, new_ready, nth_holds, taken_ready}
 use Rattle.nam_protocol.proofs.EndsSession.{takes_word}
 use Rattle.nam_protocol.proofs.EventsClient.{ask_lists, word_lists}

@@ -1,5 +1,5 @@
 -- A session that begins, and that takes a word.
-use Rattle.std.proofs.Common.{◌≡◌, ◌≤◌, ◌<◌, ◌+◌, ◌^◌, ℕ, Bool, true, false, List, [], ◌∷◌, Option, Some, None, inl}
+use Rattle.std.proofs.Common.{◌≡◌, ◌<◌, ℕ, Bool, true, false, List, [], ◌∷◌, Option, Some, None, inl}
 use Rattle.std.proofs.Common.{refl, sym, ap, subst, ◌∙◌, arith}
 use Rattle.std.proofs.lemmas.Bool.{false≢true}
 use Rattle.std.specs.Prelude.{IsSome, if◌then◌else◌}
@@ -22,7 +22,7 @@ use Rattle.nam_protocol.specs.Driver.{new_driver}
 use Rattle.nam_protocol.specs.EventsLaw.{by_word, is_new}
 use Rattle.nam_protocol.specs.Left.{Room, room_for, session_left}
 use Rattle.nam_protocol.specs.RoomLaw.{IsWithin, room_left}
-use Rattle.nam_protocol.specs.Session.{after_by, call_taken, jobs_over, new_session, session_after, session_verb}
+use Rattle.nam_protocol.specs.Session.{after_by, call_taken, new_session, session_after, session_verb}
 use Rattle.nam_protocol.specs.Session.{settled, verb_by}
 use Rattle.nam_protocol.specs.SessionFits.{JobFits}
 use Rattle.nam_protocol.proofs.EndsSession.{session_word, some_of}
@@ -36,7 +36,7 @@ use Rattle.nam_worker.specs.Needs.{FitsTables}
 use Rattle.nam_worker.specs.Session.{CanAskNext, HasRoomAfter, Holds, IsMedicOf, IsNewSession, IsReadyFor, IsSessionOf}
 use Rattle.nam_worker.specs.Session.{IsUncut, Occurs, SessionParts, asking, at_first, medic_in}
 use Rattle.nam_worker.specs.Session.{session_of, unasked}
-use Rattle.nam_worker.proofs.MedicLemmas.{fits, medic_cut}
+use Rattle.nam_worker.proofs.MedicLemmas.{fits}
 
 -- 1. A session begins
 

@@ -1,6 +1,6 @@
 //! Sessions.
 
-ghost use Rattle.std.specs.Prelude.{◌≡◌, ◌<◌, ◌≤◌, ◌↔◌, true, None, IsSome, IfSome, OnOk, OnErr, option_map};
+ghost use Rattle.std.specs.Prelude.{◌≡◌, ◌<◌, ◌≤◌, true, None, IsSome, IfSome, OnOk, OnErr, option_map};
 ghost use Rattle.nam_verbs.specs.Verb.{address_of};
 ghost use Rattle.nam_catalog.specs.declared.shape.Shape.{Shape};
 ghost use Rattle.nam_catalog.specs.Words.{words_of};

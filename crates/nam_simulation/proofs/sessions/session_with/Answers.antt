@@ -1,6 +1,3 @@
-use Rattle.std.proofs.Common.{sym, subst}
-use Rattle.nam_client.specs.Fits.{IsClientOf}
-use Rattle.nam_worker.specs.Session.{IsNewSession}
 use Rattle.nam_simulation.proofs.OpenedLemmas.{can_serve, is_new}
 use Rattle.nam_simulation.proofs.sessions.session_with.Goals as goal
 

@@ -1,7 +1,6 @@
 use Rattle.std.proofs.Common.{sym, ◌∙◌}
 use Rattle.nam_protocol.proofs.EndsSession.{some_of}
 use Rattle.nam_worker.proofs.AskingLemmas.{word_answers_next, word_next, word_room, word_uncut, word_worker_is}
-use Rattle.nam_worker.proofs.AskingLemmas.{word_settled, word_unanswered, busy_unanswered}
 use Rattle.nam_worker.proofs.asking.take_word.Goals as goal
 
 pub returns-then-is_busy-clause-room : goal.returns-then-is_busy-clause-room

@@ -1,7 +1,5 @@
-use Rattle.std.proofs.Common.{sym, subst, inr, ap, ◌∙◌}
-use Rattle.nam_client.specs.Client.{spare_of}
-use Rattle.nam_protocol.specs.RoomLaw.{IsWithin}
-use Rattle.nam_worker.specs.Session.{CanAskNext, IsNewSession, IsReadyFor}
+use Rattle.std.proofs.Common.{sym, subst, inr}
+use Rattle.nam_worker.specs.Session.{IsNewSession, IsReadyFor}
 use Rattle.nam_worker.proofs.SteppingLemmas.{begun_of, can_begin, still_plain}
 use Rattle.nam_worker.proofs.session.Session.prepare.Goals as goal
 

@@ -1,8 +1,9 @@
-//! What a worker asks: the retry policy as a value, and the room that its calls need.
+//! What a worker asks: the retry policy as a value, the room that its calls need, and the session that asks them.
 //!
 //! A [`Driver`] tells the next call for a worker's jobs and takes each call's answer. It is exactly the driver of
-//! nam_protocol, on whose laws it rests: a session of any kind that asks its calls follows the policy. No call takes
-//! memory.
+//! nam_protocol, on whose laws it rests: a session of any kind that asks its calls follows the policy. A [`Session`] is a
+//! client that is asked them; it is exactly the session of nam_protocol, with its medic. No call takes memory but
+//! `Session::prepare`.
 #![tactic(auto)]
 
 mod answering;

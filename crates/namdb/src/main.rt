@@ -1,9 +1,9 @@
 //! The program `namdb`: it reads a script of transactions, runs it on a store with snapshot isolation, and writes a
 //! report.
 //!
-//! `namdb` is the top call, over any source and any sink. Where it ends with `Done`, the sink took the text of one
-//! report and nothing else, and that report is a run of the snapshot isolation machine on the script that the whole
-//! input spells. Each other status has its cause, its line and its exit code. `main` makes the call over the standard
+//! `namdb` is the top call, over any source, any sink and any lines. Where it ends with `Done`, the sink took one text
+//! and nothing else, for the script that the whole input spells: on `run` that of a report which is a run of the
+//! snapshot isolation machine, on `sim` that of the report of the script's simulated run. Each other status has its cause, its line and its exit code. `main` makes the call over the standard
 //! streams.
 #![tactic(auto)]
 

@@ -1,0 +1,2 @@
+//! A store: the words, and one client for each worker.
+#![tactic(auto)]

@@ -1,0 +1,6 @@
+pub mod Lists
+pub mod StepLemmas
+pub mod ClientLemmas
+pub mod BaseLemmas
+pub mod OpeningLemmas
+pub mod ReachedLemmas

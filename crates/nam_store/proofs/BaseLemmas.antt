@@ -1,0 +1,101 @@
+-- Each step of a store keeps what holds of it whatever else its words say.
+use Rattle.std.proofs.Common.{List, Some, arith, false, length, length-set, subst, sym, ℕ, ◌==◌, ◌∙◌, ◌≡◌}
+use Rattle.std.specs.Prelude.{slice_index, slice_set}
+use Rattle.nam_verbs.specs.declared.now.Now.TheVariants.{At}
+use Rattle.nam_verbs.specs.Verb.{after_verb}
+use Rattle.nam_verbs.specs.VerbAt.{ExchangeAt, ReadAt, VerbAt, WriteAt, found_at}
+use Rattle.nam_catalog.specs.declared.shape.Shape.{Shape}
+use Rattle.nam_layout.specs.declared.field.Field.{Field}
+use Rattle.nam_layout.specs.Address.{address}
+use Rattle.nam_calls.specs.Holds.{AreWords, IsWord, WritesWord}
+use Rattle.nam_calls.specs.Memory.{memory, verb_there}
+use Rattle.nam_calls.proofs.FallsTests.{either}
+use Rattle.nam_calls.proofs.HoldsWords.{words_at, words_set}
+use Rattle.nam_protocol.specs.declared.client.Call.{Call}
+use Rattle.nam_protocol.specs.declared.client.CallPoint.{CallPoint}
+use Rattle.nam_protocol.specs.declared.client.ClientState.{ClientState}
+use Rattle.nam_protocol.specs.HoldsWords.{CallHolds}
+use Rattle.nam_protocol.specs.Own.{MayAsk, Rests}
+use Rattle.nam_protocol.proofs.HoldsVerbs.{client_writes}
+use Rattle.nam_store.specs.Base.{BaseOk, ClientOk}
+use Rattle.nam_store.specs.BaseLaw.{KeepsLaw}
+use Rattle.nam_store.specs.Changed.{Does}
+use Rattle.nam_store.specs.Store.{Abandons, Asks, Cuts, Store, StepsTo, Takes, abandon, ask, client_at, cut, found_word}
+use Rattle.nam_store.specs.Store.{next_verb, step, with_client}
+use Rattle.nam_store.specs.StoreLaw.{DoesLaw}
+use Rattle.nam_store.proofs.ClientLemmas.{client_abandons, client_asked, client_stops, client_takes}
+use Rattle.nam_store.proofs.Lists.{everyone_put}
+use Rattle.nam_store.proofs.StepLemmas.{client_does, verb_stands}
+
+-- 1. Words
+
+module _ (shape : Shape) (words : List ℕ) (all : AreWords words) where
+  -- what a verb finds
+  pub found_holds : (verb : VerbAt Field) → IsWord (found_at (memory shape words) verb)
+  found_holds (ReadAt at) = words_at words (address shape at) all
+  found_holds (WriteAt at word) = omega arith
+  found_holds (ExchangeAt at expect word) = words_at words (address shape at) all
+
+  -- and the words that it leaves
+  pub left_hold : (verb : VerbAt Field) → WritesWord verb → AreWords (after_verb words (verb_there shape verb))
+  left_hold (ReadAt at) is = all
+  left_hold (WriteAt at word) is = words_set words (address shape at) word all is
+  left_hold (ExchangeAt at expect word) is =
+      either AreWords (slice_index words (address shape at) == expect) (slice_set words (address shape at) word) words
+      (words_set words (address shape at) word all is) all
+
+-- 2. A store
+
+-- what a client's verb does to the words
+pub does_law : DoesLaw
+does_law shape store base nth client place here at =
+    client_does shape client place at base.limits (base.clients nth client here).fits store nth base.whole
+
+module _ (shape : Shape) (store : Store) (base : BaseOk shape store) (nth : ℕ) (client : ClientState)
+    (here : client_at store nth ≡ Some client) where
+  ok : ClientOk shape nth client
+  ok = base.clients nth client here
+
+  -- the words are others, or the client
+  moved : (words : List ℕ) (later : ClientState) → length words ≡ length store.words → AreWords words
+      → ClientOk shape nth later → BaseOk shape (with_client (record store { words = words }) nth later)
+  moved words later same all is = record {
+    limits = base.limits;
+    whole = same ∙ base.whole;
+    words = all;
+    workers = length-set store.clients nth later ∙ base.workers;
+    clients = everyone_put (ClientOk shape) store.clients nth later base.clients is;
+  }
+
+  pub base_step : (place : CallPoint) → client.cut ≡ false → client.call ≡ Some (At place)
+      → BaseOk shape (step shape store nth client)
+  base_step place runs at =
+      let verb = next_verb shape client in
+      let stands = verb_stands shape client place at runs in
+      moved _ _ (does_law shape store base nth client place here at).whole
+      (left_hold shape store.words base.words verb (client_writes shape base.limits client verb ok.fits ok.holds stands))
+      (client_takes shape base.limits nth client ok place (found_word shape store client) runs at
+      (found_holds shape store.words base.words verb))
+
+  pub base_ask : (asked : Call) → MayAsk shape client asked → CallHolds asked
+      → BaseOk shape (ask shape store nth client asked)
+  base_ask asked may words =
+      moved store.words _ (λ k. length store.words) base.words
+      (client_asked shape base.limits nth client ok asked may words)
+
+  pub base_abandon : Rests client.call → BaseOk shape (abandon store nth client)
+  base_abandon rests =
+      moved store.words _ (λ k. length store.words) base.words
+      (client_abandons shape base.limits nth client ok rests)
+
+  pub base_cut : BaseOk shape (cut store nth client)
+  base_cut =
+      moved store.words _ (λ k. length store.words) base.words (client_stops shape base.limits nth client ok)
+
+pub base_keeps : KeepsLaw
+base_keeps shape before _ (Takes nth client place here runs at) base =
+    base_step shape before base nth client here place runs at
+base_keeps shape before _ (Asks nth client asked here may words) base =
+    base_ask shape before base nth client here asked may words
+base_keeps shape before _ (Abandons nth client here rests) base = base_abandon shape before base nth client here rests
+base_keeps shape before _ (Cuts nth client here) base = base_cut shape before base nth client here

@@ -2,5 +2,6 @@ pub mod Lists
 pub mod StepLemmas
 pub mod ClientLemmas
 pub mod BaseLemmas
+pub mod KindsLemmas
 pub mod OpeningLemmas
 pub mod ReachedLemmas

@@ -4,5 +4,6 @@ pub mod Changed
 pub mod Opening
 pub mod Reached
 pub mod Base
+pub mod Kinds
 pub mod StoreLaw
 pub mod BaseLaw

@@ -1,5 +1,6 @@
 -- Each step of a store keeps what holds of it whatever else its words say.
-use Rattle.std.proofs.Common.{List, Some, arith, false, length, length-set, subst, sym, ℕ, ◌==◌, ◌∙◌, ◌≡◌}
+use Rattle.std.proofs.Common.{List, None, Some, arith, false, length, length-set, ℕ, ◌<◌, ◌==◌, ◌∙◌, ◌≡◌}
+use Rattle.std.proofs.lemmas.Option.{slice_get_within}
 use Rattle.std.specs.Prelude.{slice_index, slice_set}
 use Rattle.nam_verbs.specs.declared.now.Now.TheVariants.{At}
 use Rattle.nam_verbs.specs.Verb.{after_verb}
@@ -16,7 +17,11 @@ use Rattle.nam_protocol.specs.declared.client.CallPoint.{CallPoint}
 use Rattle.nam_protocol.specs.declared.client.ClientState.{ClientState}
 use Rattle.nam_protocol.specs.HoldsWords.{CallHolds}
 use Rattle.nam_protocol.specs.Own.{MayAsk, Rests}
+use Rattle.nam_protocol.specs.CallWrites.{call_writes}
+use Rattle.nam_protocol.specs.Client.{client_after, client_ask}
+use Rattle.nam_protocol.specs.Sorts.{AskOf, StepOf}
 use Rattle.nam_protocol.proofs.HoldsVerbs.{client_writes}
+use Rattle.nam_protocol.proofs.SortsLemmas.{ask_sort, word_sort}
 use Rattle.nam_store.specs.Base.{BaseOk, ClientOk}
 use Rattle.nam_store.specs.BaseLaw.{KeepsLaw}
 use Rattle.nam_store.specs.Changed.{Does}
@@ -24,8 +29,8 @@ use Rattle.nam_store.specs.Store.{Abandons, Asks, Cuts, Store, StepsTo, Takes, a
 use Rattle.nam_store.specs.Store.{next_verb, step, with_client}
 use Rattle.nam_store.specs.StoreLaw.{DoesLaw}
 use Rattle.nam_store.proofs.ClientLemmas.{client_abandons, client_asked, client_stops, client_takes}
-use Rattle.nam_store.proofs.Lists.{everyone_put}
-use Rattle.nam_store.proofs.StepLemmas.{client_does, verb_stands}
+use Rattle.nam_store.proofs.Lists.{everyone_put, some_within}
+use Rattle.nam_store.proofs.StepLemmas.{client_does, read_leaves, verb_stands, written_is}
 
 -- 1. Words
 
@@ -46,6 +51,12 @@ module _ (shape : Shape) (words : List ℕ) (all : AreWords words) where
 
 -- 2. A store
 
+-- each worker has a client
+pub client_of : (shape : Shape) (store : Store) → BaseOk shape store → (nth : ℕ) → nth < shape.workers
+    → (client : ClientState) × (client_at store nth ≡ Some client)
+client_of shape store base nth less =
+    let same = base.workers in some_within store.clients nth (omega arith)
+
 -- what a client's verb does to the words
 pub does_law : DoesLaw
 does_law shape store base nth client place here at =
@@ -55,6 +66,22 @@ module _ (shape : Shape) (store : Store) (base : BaseOk shape store) (nth : ℕ)
     (here : client_at store nth ≡ Some client) where
   ok : ClientOk shape nth client
   ok = base.clients nth client here
+
+  pub client_within : nth < shape.workers
+  client_within = let within = slice_get_within store.clients nth client here in let same = base.workers in omega arith
+
+  -- of which sort its step is, and what it is asked
+  pub step_sort : (place : CallPoint) → client.call ≡ Some (At place)
+      → let found = found_word shape store client in StepOf shape found client (client_after shape client found)
+  step_sort place at = word_sort shape (found_word shape store client) client place ok.fits at
+
+  pub asked_sort : (asked : Call) → MayAsk shape client asked → AskOf shape client (client_ask shape client asked)
+  asked_sort asked may = ask_sort shape client asked may.fits
+
+  -- where its point only reads, all words stay
+  pub words_stay : (place : CallPoint) → client.call ≡ Some (At place) → call_writes shape client place ≡ None
+      → (step shape store nth client).words ≡ store.words
+  words_stay place at none = read_leaves shape store.words _ (written_is shape client place at ∙ none)
 
   -- the words are others, or the client
   moved : (words : List ℕ) (later : ClientState) → length words ≡ length store.words → AreWords words
@@ -91,6 +118,8 @@ module _ (shape : Shape) (store : Store) (base : BaseOk shape store) (nth : ℕ)
   pub base_cut : BaseOk shape (cut store nth client)
   base_cut =
       moved store.words _ (λ k. length store.words) base.words (client_stops shape base.limits nth client ok)
+
+-- 3. One step
 
 pub base_keeps : KeepsLaw
 base_keeps shape before _ (Takes nth client place here runs at) base =

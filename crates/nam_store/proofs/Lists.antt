@@ -1,7 +1,7 @@
 -- Lists in which one element was put in place of another, and functions that were changed at one number.
 use Rattle.std.proofs.Common.{List, Some, [], ap, arith, inl, inr, refl, subst, suc, sym, zero, ⊎_elim, ℕ, ◌≡◌, ◌≢◌, ◌⊎◌}
 use Rattle.std.proofs.Common.{◌∷◌}
-use Rattle.std.specs.Prelude.{◌==◌, slice_get, slice_set}
+use Rattle.std.specs.Prelude.{◌<◌, ◌==◌, length, slice_get, slice_set}
 use Rattle.std.proofs.lemmas.Bool.{cond_both, eqb-false, eqb-true}
 use Rattle.std.proofs.lemmas.Option.{none-some, same_Some}
 use Rattle.nam_store.specs.Everyone.{Everyone, Someone, put}
@@ -35,6 +35,11 @@ module _ {A : Type 0} where
       (λ (t : (other ≢ nth) × (slice_get xs other ≡ Some z)). let apart = t.0 in
       inr ((λ same. apart (omega arith)), t.1))
       (get_cases xs nth other y z e)
+
+  pub some_within : (xs : List A) (nth : ℕ) → nth < length xs → (x : A) × (slice_get xs nth ≡ Some x)
+  some_within [] nth less = absurd (omega arith)
+  some_within (a ∷ xs) zero less = (a, refl)
+  some_within (a ∷ xs) (suc nth) less = some_within xs nth (omega arith)
 
   -- 2. All elements, and some element
 

@@ -65,6 +65,12 @@ module _ (shape : Shape) (words : List ℕ) where
   verb_leaves (ExchangeAt at expect word) whole is field of_shape other =
       (verb_changed (ExchangeAt at expect word) whole is).others field of_shape (λ same. other (ap Some (sym same)))
 
+  -- a read changes nothing
+  pub read_leaves : (verb : VerbAt Field) → written_by verb ≡ None → after_verb words (verb_there shape verb) ≡ words
+  read_leaves (ReadAt at) none = refl
+  read_leaves (WriteAt at word) none = absurd (none-some at (sym none))
+  read_leaves (ExchangeAt at expect word) none = absurd (none-some at (sym none))
+
 -- 2. The verb of a client's point
 
 module _ (shape : Shape) (client : ClientState) (place : CallPoint) (at : client.call ≡ Some (At place)) where
@@ -96,11 +102,6 @@ module _ (shape : Shape) (client : ClientState) (place : CallPoint) (at : client
                 written_is (verb_leaves shape store.words verb whole verb_at_field);
             whole = verb_whole shape store.words verb whole verb_at_field;
           }
-
-      -- and of which sort it is
-      pub client_sort : let found = found_word shape store client in
-          StepOf shape found client (client_after shape client found)
-      client_sort = word_sort shape (found_word shape store client) client place fits at
 
 -- 3. A verb that stands is that of the client's point
 

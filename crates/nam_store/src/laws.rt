@@ -1,0 +1,37 @@
+//! What a step of a store does, and what holds of every store.
+
+ghost use Rattle.nam_store.specs.BaseLaw.{KeepsLaw, OpensLaw, ReachedLaw};
+ghost use Rattle.nam_store.specs.Kinds.{KindsLaw};
+ghost use Rattle.nam_store.specs.StoreLaw.{DoesLaw, OthersLaw, StepByLaw};
+
+/// A client that has a verb can do it next: on the words of the store, at the address of its field, and the client
+/// takes the word that it finds there.
+pub fn step_by()
+    ensures { StepByLaw }
+{}
+
+/// What a step leaves alone.
+///
+/// A client's verb is at a field of the shape. It changes that field to what it leaves there, and no other; and it
+/// changes that field only where the client's point names it as one that it writes. Claims of keys write keys alone, a
+/// commit writes records, their slots and its own worker's intent and entry, a move cells and the flag of a slot, a
+/// collection the horizon and tags of cells; all other calls only read.
+///
+/// A step of any kind changes one client.
+pub fn step_leaves()
+    ensures fields { DoesLaw }
+    ensures kinds { KindsLaw }
+    ensures clients { OthersLaw }
+{}
+
+/// What holds of every store that comes about, whatever its clients do one after another: of a shape within its limits
+/// there are as many words as the shape's, all below 2^64, and a client for each worker, which by itself is as
+/// `ClientOk` says.
+///
+/// The opening has it, with any rows that may be loaded, and each verb, each call that may be asked, each transaction
+/// that is given up and each stop keeps it.
+pub fn base_law()
+    ensures opening { OpensLaw }
+    ensures step { KeepsLaw }
+    ensures reached { ReachedLaw }
+{}

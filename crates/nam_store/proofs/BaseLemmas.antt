@@ -24,8 +24,7 @@ use Rattle.nam_protocol.proofs.HoldsVerbs.{client_writes}
 use Rattle.nam_protocol.proofs.SortsLemmas.{ask_sort, word_sort}
 use Rattle.nam_store.specs.Base.{BaseOk, ClientOk}
 use Rattle.nam_store.specs.BaseLaw.{KeepsLaw}
-use Rattle.nam_store.specs.Changed.{Does}
-use Rattle.nam_store.specs.Store.{Abandons, Asks, Cuts, Store, StepsTo, Takes, abandon, ask, client_at, cut, found_word}
+use Rattle.nam_store.specs.Store.{Abandons, Asks, Cuts, Store, Takes, abandon, ask, client_at, cut, found_word}
 use Rattle.nam_store.specs.Store.{next_verb, step, with_client}
 use Rattle.nam_store.specs.StoreLaw.{DoesLaw}
 use Rattle.nam_store.proofs.ClientLemmas.{client_abandons, client_asked, client_stops, client_takes}
@@ -98,9 +97,10 @@ module _ (shape : Shape) (store : Store) (base : BaseOk shape store) (nth : ℕ)
       → BaseOk shape (step shape store nth client)
   base_step place runs at =
       let verb = next_verb shape client in
-      let stands = verb_stands shape client place at runs in
+      let writes = client_writes shape base.limits client verb ok.fits ok.holds (verb_stands shape client place at runs)
+      in
       moved _ _ (does_law shape store base nth client place here at).whole
-      (left_hold shape store.words base.words verb (client_writes shape base.limits client verb ok.fits ok.holds stands))
+      (left_hold shape store.words base.words verb writes)
       (client_takes shape base.limits nth client ok place (found_word shape store client) runs at
       (found_holds shape store.words base.words verb))
 

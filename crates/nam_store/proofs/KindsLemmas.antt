@@ -1,7 +1,6 @@
 -- A client's verb changes no field but of its call's kind.
-use Rattle.std.proofs.Common.{List, None, Option, Some, refl, subst, ℕ, ◌+◌, ◌∙◌, ◌≡◌}
-use Rattle.std.specs.Prelude.{length, slice_index}
-use Rattle.std.proofs.lemmas.Option.{none-some, same_Some}
+use Rattle.std.proofs.Common.{List, None, Option, Some, subst, ℕ, ◌+◌, ◌≡◌}
+use Rattle.std.specs.Prelude.{slice_index}
 use Rattle.nam_verbs.specs.VerbAt.{target}
 use Rattle.nam_catalog.specs.declared.shape.Shape.{Shape}
 use Rattle.nam_layout.specs.declared.field.Cells.{Cells}
@@ -19,9 +18,7 @@ use Rattle.nam_calls.specs.declared.lock.LockPoint.TheVariants.{GiveBack, Peek, 
 use Rattle.nam_calls.specs.declared.mover.MovePoint.{MovePoint}
 use Rattle.nam_calls.specs.declared.mover.MovePoint.TheVariants.{MoveAgain, MoveBack, MoveClaim, MoveCount, MoveEnding}
 use Rattle.nam_calls.specs.declared.mover.MovePoint.TheVariants.{MoveFill, MoveFlag, MoveFull, MoveHead, MoveWords}
-use Rattle.nam_calls.specs.declared.overflow.ClaimPoint.{ClaimPoint}
 use Rattle.nam_calls.specs.declared.overflow.ClaimPoint.TheVariants.{ClaimLook, ClaimTake}
-use Rattle.nam_calls.specs.declared.overflow.FillPoint.{FillPoint}
 use Rattle.nam_calls.specs.declared.overflow.FillPoint.TheVariants.{FillBegin, FillEnding, FillOwner, FillWord}
 use Rattle.nam_calls.specs.declared.record.InstallPoint.{InstallPoint}
 use Rattle.nam_calls.specs.declared.record.InstallPoint.TheVariants.{InstallCount, InstallHead, InstallWord}

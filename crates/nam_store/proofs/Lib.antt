@@ -1,3 +1,4 @@
+mod StoreExample
 pub mod Lists
 pub mod StepLemmas
 pub mod ClientLemmas

@@ -3,16 +3,13 @@ use Rattle.std.proofs.Common.{List, Some, [], ap, arith, length, refl, subst, su
 use Rattle.std.specs.Prelude.{false, slice_get}
 use Rattle.std.proofs.lemmas.Option.{none-some, same_Some}
 use Rattle.si_model.specs.declared.row.Row.{Row}
-use Rattle.si_model.specs.declared.op.Policy.{Policy}
 use Rattle.nam_catalog.specs.declared.shape.Shape.{Shape}
-use Rattle.nam_catalog.specs.Fits.{FitsLimits}
 use Rattle.nam_protocol.specs.declared.client.ClientState.{ClientState}
 use Rattle.nam_protocol.specs.Telling.{new_client}
 use Rattle.nam_protocol.proofs.HoldsOpening.{new_world_holds}
 use Rattle.nam_protocol.proofs.OpeningLemmas.{opening_law}
 use Rattle.nam_store.specs.Base.{ClientOk}
 use Rattle.nam_store.specs.BaseLaw.{OpensLaw}
-use Rattle.nam_store.specs.Everyone.{Everyone}
 use Rattle.nam_store.specs.Opening.{new_clients, opening_store}
 use Rattle.nam_store.specs.Store.{client_at}
 use Rattle.nam_store.proofs.ClientLemmas.{client_new}

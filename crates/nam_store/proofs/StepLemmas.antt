@@ -1,5 +1,5 @@
 -- What a client's step does to the words, and that it is its verb.
-use Rattle.std.proofs.Common.{Bool, None, Option, Some, ap, false, length, refl, subst, sym, true, ℕ, List, ◌∙◌, ◌≡◌, ◌≢◌}
+use Rattle.std.proofs.Common.{Bool, None, Option, Some, ap, false, length, refl, subst, sym, true, ℕ, List, ◌∙◌, ◌≡◌}
 use Rattle.std.specs.Prelude.{if◌then◌else◌}
 use Rattle.std.proofs.Common.{length-set}
 use Rattle.std.proofs.lemmas.Option.{none-some, same_Some}
@@ -22,12 +22,10 @@ use Rattle.nam_protocol.specs.CallWrites.{call_writes}
 use Rattle.nam_protocol.specs.Client.{call_verb, client_after, client_verb, verb_of}
 use Rattle.nam_protocol.specs.ClientFits.{ClientFits}
 use Rattle.nam_protocol.specs.FieldLaw.{IsAtField}
-use Rattle.nam_protocol.specs.Sorts.{StepOf}
 use Rattle.nam_protocol.proofs.CallWrites.{call_written}
 use Rattle.nam_protocol.proofs.FieldLemmas.{call_fields}
-use Rattle.nam_protocol.proofs.SortsLemmas.{word_sort}
 use Rattle.nam_store.specs.Changed.{Changed, Does, OthersStay}
-use Rattle.nam_store.specs.Store.{Abandons, Asks, Cuts, Store, StepsTo, Takes, client_at, found_word, next_verb, step, verb_at}
+use Rattle.nam_store.specs.Store.{Abandons, Asks, Cuts, Store, StepsTo, Takes, client_at, next_verb, step, verb_at}
 use Rattle.nam_store.specs.Store.{with_client}
 use Rattle.nam_store.specs.StoreLaw.{ChangesOne, OthersLaw, StepByLaw, done_by}
 use Rattle.nam_store.proofs.Lists.{get_beside}

@@ -5,4 +5,7 @@ pub mod ClientLemmas
 pub mod BaseLemmas
 pub mod KindsLemmas
 pub mod OpeningLemmas
+pub mod PathLemmas
+pub mod KeysOpen
+pub mod RowsStand
 pub mod ReachedLemmas

@@ -7,3 +7,4 @@ pub mod Base
 pub mod Kinds
 pub mod StoreLaw
 pub mod BaseLaw
+pub mod LoadedLaw

@@ -2,6 +2,7 @@
 
 ghost use Rattle.nam_store.specs.BaseLaw.{KeepsLaw, OpensLaw, ReachedLaw};
 ghost use Rattle.nam_store.specs.Kinds.{KindsLaw};
+ghost use Rattle.nam_store.specs.LoadedLaw.{KeysOpenLaw, RowsStandLaw};
 ghost use Rattle.nam_store.specs.StoreLaw.{DoesLaw, OthersLaw, StepByLaw};
 
 /// A client that has a verb can do it next: on the words of the store, at the address of its field, and the client
@@ -34,4 +35,11 @@ pub fn base_law()
     ensures opening { OpensLaw }
     ensures step { KeepsLaw }
     ensures reached { ReachedLaw }
+{}
+
+/// Loaded rows stand in the index. Where a key stands on its path the positions before it bear other keys, so that no
+/// key stands twice; and each loaded row stands on its key's path.
+pub fn loaded_law()
+    ensures keys { KeysOpenLaw }
+    ensures rows { RowsStandLaw }
 {}

@@ -1,6 +1,9 @@
 -- A client's verb changes no field but of its call's kind.
-use Rattle.std.proofs.Common.{List, None, Option, Some, subst, ℕ, ◌+◌, ◌≡◌}
+use Rattle.std.proofs.Common.{List, None, Option, Some, subst, sym, ℕ, ◌≡◌}
+use Rattle.std.proofs.lemmas.Option.{none-some}
 use Rattle.std.specs.Prelude.{slice_index}
+use Rattle.nam_verbs.specs.declared.now.Now.{Now}
+use Rattle.nam_verbs.specs.declared.now.Now.TheVariants.{At}
 use Rattle.nam_verbs.specs.VerbAt.{target}
 use Rattle.nam_catalog.specs.declared.shape.Shape.{Shape}
 use Rattle.nam_layout.specs.declared.field.Cells.{Cells}
@@ -26,11 +29,13 @@ use Rattle.nam_calls.specs.declared.ring.CopyPoint.{CopyPoint}
 use Rattle.nam_calls.specs.declared.ring.CopyPoint.TheVariants.{CopyEnding, CopyHead, CopyMark, CopyWord}
 use Rattle.nam_calls.specs.Writes.{claim_key_writes, collect_writes, copy_writes, install_writes, lock_writes}
 use Rattle.nam_calls.specs.Writes.{move_writes}
+use Rattle.nam_protocol.specs.declared.client.Answer.{Answer}
 use Rattle.nam_protocol.specs.declared.client.CallPoint.{CallPoint}
 use Rattle.nam_protocol.specs.declared.client.CallPoint.TheVariants.{Beginning, Collecting, InTxn, Moving, Scanning}
 use Rattle.nam_protocol.specs.declared.client.CallPoint.TheVariants.{Seeking, Snapping}
 use Rattle.nam_protocol.specs.declared.client.ClientState.{ClientState}
 use Rattle.nam_protocol.specs.declared.client.Open.{Open}
+use Rattle.nam_protocol.specs.declared.scan.ScanPoint.TheVariants.{ScanKey, ScanRead}
 use Rattle.nam_protocol.specs.declared.txn.CommitPoint.{CommitPoint}
 use Rattle.nam_protocol.specs.declared.txn.CommitPoint.TheVariants.{Checking, Clearing, Copying, Counting, Deciding}
 use Rattle.nam_protocol.specs.declared.txn.CommitPoint.TheVariants.{Ending, Freeing, Installing, Listing, Locking}
@@ -44,13 +49,16 @@ use Rattle.nam_protocol.specs.CallWrites.{call_writes, commit_writes, open_write
 use Rattle.nam_protocol.specs.Commit.{list_verb, places, record_place}
 use Rattle.nam_protocol.specs.Operations.{op_path}
 use Rattle.nam_protocol.specs.Own.{OwnOpen}
-use Rattle.nam_store.specs.Kinds.{IsCollectField, IsCommitField, IsKeyField, IsMoveField, KindsLaw, MayWrite}
-use Rattle.nam_store.proofs.BaseLemmas.{does_law}
+use Rattle.nam_protocol.specs.Plain.{IsAside}
+use Rattle.nam_protocol.specs.Reader.{Reader, reader_at}
+use Rattle.nam_protocol.specs.Sorts.{IsKeyPlace}
+use Rattle.nam_store.specs.Changed.{written_at, written_of}
+use Rattle.nam_store.specs.Kinds.{IsCollectField, IsCommitField, IsKeyField, IsMoveField, MayWrite, MayWriteAt, Writes}
 
 -- the field that may be changed, if there is one, is so
 abbrev pub AllWritten : (Field → Type 0) → Option Field → Type 0
 AllWritten Is None = Unit {0}
-AllWritten Is (Some word) = Is word
+AllWritten Is (Some field) = Is field
 
 -- 1. Each call by itself
 
@@ -148,11 +156,43 @@ module _ (shape : Shape) (worker : ℕ) where
   call_may_write client (Snapping bucket at) own = tt
   call_may_write client (Collecting bucket prefix seen at) own = collect_written (cells_of shape bucket) at
 
-pub kinds_law : KindsLaw
-kinds_law shape store base nth client place here at word is unwritten =
-    let ok = base.clients nth client here in
-    let own = subst (λ w. OwnOpen w client.last client.log.snaps client.txn) ok.own.worker_is ok.own.opened in
-    let written = call_may_write shape (nth + 1) client place own in
-    (does_law shape store base nth client place here at).leaves word is
-    (λ (same : call_writes shape client place ≡ Some word).
-    unwritten (subst (AllWritten (MayWrite (nth + 1) place)) same written))
+  -- the field that a client may change is one for its kind of call
+  pub written_may : (client : ClientState) (place : CallPoint) → client.call ≡ Some (At place)
+      → OwnOpen worker client.last client.log.snaps client.txn
+      → AllWritten (Writes worker client) (written_of shape client)
+  written_may client place at own =
+      subst (λ (call : Option (Now CallPoint Answer)).
+      AllWritten (MayWriteAt worker call) (written_at shape client call)) (sym at) (call_may_write client place own)
+
+-- 3. By the sorts of steps
+
+-- where a key is looked at or claimed no other field is written
+pub finds_write : (worker : ℕ) (place : CallPoint) (field : Field) → IsKeyPlace place → MayWrite worker place field
+    → IsKeyField field
+finds_write worker (InTxn (Claiming op at)) field is may = may
+finds_write worker (InTxn (Finding op passed)) field is may = absurd may
+finds_write worker (Scanning table low high (ScanKey position)) field is may = absurd may
+finds_write worker (Seeking table key passed) field is may = absurd may
+finds_write worker place field is may = absurd is
+
+-- a reader writes nothing
+pub reads_write : (shape : Shape) (worker : ℕ) (opened : Option Open) (place : CallPoint) (reader : Reader)
+    (field : Field)
+    → reader_at shape opened place ≡ Some reader → MayWrite worker place field → ⊥
+reads_write shape worker (Some attempt) (InTxn (Reading op position at)) reader field is may = may
+reads_write shape worker (Some attempt) (Scanning table low high (ScanRead position key at)) reader field is may = may
+reads_write shape worker opened place reader field is may = none-some reader is
+
+-- neither takes a snapshot, nor belongs to a commit
+pub finds_aside : (place : CallPoint) → IsKeyPlace place → IsAside (Some (At place))
+finds_aside (InTxn (Claiming op at)) is = tt
+finds_aside (InTxn (Finding op passed)) is = tt
+finds_aside (Scanning table low high (ScanKey position)) is = tt
+finds_aside (Seeking table key passed) is = tt
+finds_aside place is = absurd is
+
+pub reads_aside : (shape : Shape) (opened : Option Open) (place : CallPoint) (reader : Reader)
+    → reader_at shape opened place ≡ Some reader → IsAside (Some (At place))
+reads_aside shape (Some attempt) (InTxn (Reading op position at)) reader is = tt
+reads_aside shape (Some attempt) (Scanning table low high (ScanRead position key at)) reader is = tt
+reads_aside shape opened place reader is = absurd (none-some reader is)

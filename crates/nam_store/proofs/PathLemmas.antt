@@ -4,7 +4,7 @@ use Rattle.std.proofs.lemmas.Bool.{cases_lt}
 use Rattle.std.proofs.lemmas.Nat.{mod-mul-add}
 use Rattle.nam_catalog.specs.declared.shape.Shape.{Shape}
 use Rattle.nam_layout.specs.RowLaw.{IsRowOf}
-use Rattle.nam_layout.specs.Rows.{position_of, row_of, table_of}
+use Rattle.nam_layout.specs.Rows.{position_of, row_of}
 use Rattle.nam_layout.proofs.PositionLemmas.{position_is_row}
 use Rattle.nam_calls.specs.Fits.{IsTableOf}
 use Rattle.nam_calls.specs.Index.{nth_position}
@@ -44,7 +44,9 @@ steps_reach c from to within less = elim (cases_lt to from) [
   | inl before ↦
       let p = c + to - from in
       let rest = long_rest c (from + p) (omega arith) (omega arith) in (p, (omega arith), (omega arith))
-  | inr past ↦ let p = to - from in let rest = short_rest c (from + p) (omega arith) in (p, (omega arith), (omega arith))
+  | inr past ↦
+      let p = to - from in
+      let rest = short_rest c (from + p) (omega arith) in (p, (omega arith), (omega arith))
 ]
 
 -- 2. Rows

@@ -1,7 +1,7 @@
 -- Each loaded row stands on its key's path, since its table has room for it.
 use Rattle.std.proofs.Common.{Bool, List, [], ap, arith, inl, inr, length, map, refl, subst, suc, sym, true, zero}
 use Rattle.std.proofs.Common.{ℕ, ◌+◌, ◌<◌, ◌≤◌, ◌∙◌, ◌∷◌, ◌≡◌, ◌≢◌, ◌⊎◌}
-use Rattle.std.specs.List.{AllByRecursion, filter}
+use Rattle.std.specs.List.{filter}
 use Rattle.std.specs.Prelude.{◌==◌, ◌&&◌, false}
 use Rattle.std.proofs.lemmas.Bool.{cases_eq, cases_lt, eq-eqb, false≢true}
 use Rattle.std.proofs.lemmas.List.{length-map}

@@ -1,10 +1,10 @@
 pub mod Everyone
 pub mod Store
+pub mod Kinds
 pub mod Changed
 pub mod Opening
 pub mod Reached
 pub mod Base
-pub mod Kinds
 pub mod StoreLaw
 pub mod BaseLaw
 pub mod LoadedLaw

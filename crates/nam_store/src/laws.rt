@@ -1,7 +1,6 @@
 //! What a step of a store does, and what holds of every store.
 
 ghost use Rattle.nam_store.specs.BaseLaw.{KeepsLaw, OpensLaw, ReachedLaw};
-ghost use Rattle.nam_store.specs.Kinds.{KindsLaw};
 ghost use Rattle.nam_store.specs.LoadedLaw.{KeysOpenLaw, RowsStandLaw};
 ghost use Rattle.nam_store.specs.StoreLaw.{DoesLaw, OthersLaw, StepByLaw};
 
@@ -21,7 +20,6 @@ pub fn step_by()
 /// A step of any kind changes one client.
 pub fn step_leaves()
     ensures fields { DoesLaw }
-    ensures kinds { KindsLaw }
     ensures clients { OthersLaw }
 {}
 

@@ -9,3 +9,4 @@ pub mod PathLemmas
 pub mod KeysOpen
 pub mod RowsStand
 pub mod ReachedLemmas
+pub mod TurnLemmas

@@ -8,3 +8,4 @@ pub mod Base
 pub mod StoreLaw
 pub mod BaseLaw
 pub mod LoadedLaw
+pub mod Turns

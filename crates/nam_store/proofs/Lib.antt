@@ -9,4 +9,6 @@ pub mod PathLemmas
 pub mod KeysOpen
 pub mod RowsStand
 pub mod ReachedLemmas
+pub mod SettleLemmas
 pub mod TurnLemmas
+pub mod WorldOpens

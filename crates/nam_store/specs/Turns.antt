@@ -1,10 +1,11 @@
 -- A world's turns are steps of its store: of the words, and of its sessions' clients.
 use Rattle.std.specs.List.{AllByRecursion}
-use Rattle.std.specs.Prelude.{◌≡◌, ◌≤◌, ℕ, false, List, length, map, None}
+use Rattle.std.specs.Prelude.{◌≡◌, ◌≤◌, false, List, length, map, None}
 use Rattle.si_model.specs.declared.op.Policy.{Policy}
 use Rattle.si_model.specs.declared.row.Row.{Row}
 use Rattle.nam_catalog.specs.declared.shape.Shape.{Shape}
 use Rattle.nam_catalog.specs.Fits.{FitsLimits}
+use Rattle.nam_protocol.specs.declared.client.ClientState.{ClientState}
 use Rattle.nam_protocol.specs.declared.session.Job.{Job}
 use Rattle.nam_protocol.specs.declared.session.SessionState.{SessionState}
 use Rattle.nam_protocol.specs.Commit.{has_intents}
@@ -22,8 +23,11 @@ module _ (shape : Shape) (first : Store) where
     Stays : StepsOn first
     Goes : (before after : Store) (was : StepsOn before) (goes : StepsTo shape before after) → StepsOn after
 
+abbrev pub client_in : SessionState → ClientState
+client_in session = session.client
+
 abbrev pub store_of : World → Store
-store_of world = record { words = world.words; clients = map (λ (session : SessionState). session.client) world.sessions }
+store_of world = record { words = world.words; clients = map client_in world.sessions }
 
 -- the session fits, a transaction is open exactly for its calls, its jobs bring words, and no medic has begun
 pub record RunsJobs (shape : Shape) (session : SessionState) : Type 0 where

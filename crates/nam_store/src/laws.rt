@@ -3,6 +3,7 @@
 ghost use Rattle.nam_store.specs.BaseLaw.{KeepsLaw, OpensLaw, ReachedLaw};
 ghost use Rattle.nam_store.specs.LoadedLaw.{KeysOpenLaw, RowsStandLaw};
 ghost use Rattle.nam_store.specs.StoreLaw.{DoesLaw, OthersLaw, StepByLaw};
+ghost use Rattle.nam_store.specs.Turns.{WorldOpensLaw, WorldTurnsLaw};
 
 /// A client that has a verb can do it next: on the words of the store, at the address of its field, and the client
 /// takes the word that it finds there.
@@ -40,4 +41,14 @@ pub fn base_law()
 pub fn loaded_law()
     ensures keys { KeysOpenLaw }
     ensures rows { RowsStandLaw }
+{}
+
+/// A world's turns are steps of its store, which has the world's words and its sessions' clients.
+///
+/// The world in which nothing was done yet comes about from the opening by the calls that its drivers ask first. A turn
+/// is the verb of its session's client and the calls that the driver asks then, until one takes a verb; or it is a
+/// stop, in a form without intents. What this needs of the sessions, a new world has, and each such turn keeps.
+pub fn world_law()
+    ensures opening { WorldOpensLaw }
+    ensures turns { WorldTurnsLaw }
 {}

@@ -8,4 +8,4 @@
 
 mod laws;
 
-pub use laws::{base_law, loaded_law, step_by, step_leaves};
+pub use laws::{base_law, loaded_law, step_by, step_leaves, world_law};

@@ -2,7 +2,7 @@
 use Rattle.std.proofs.Common.{List, None, Option, Some, ap, arith, length, refl, subst, suc, sym}
 use Rattle.std.proofs.Common.{zero, ℕ, ◌∙◌, ◌∷◌, ◌≡◌, ◌≤◌, []}
 use Rattle.std.specs.List.{AllByRecursion}
-use Rattle.std.specs.Prelude.{is_some, slice_get, slice_set}
+use Rattle.std.specs.Prelude.{is_some, slice_get}
 use Rattle.si_model.specs.declared.op.Op.{Op}
 use Rattle.si_model.specs.declared.op.Policy.{Policy}
 use Rattle.nam_verbs.specs.declared.now.Now.{Now}
@@ -42,7 +42,7 @@ use Rattle.nam_protocol.proofs.RunsClient.{NowDoes}
 use Rattle.nam_protocol.proofs.StaysLemmas.{IsUncut, asked_stays, still_uncut, word_stays}
 use Rattle.nam_store.specs.Store.{Asks, Store, client_at, with_client}
 use Rattle.nam_store.specs.Turns.{Goes, RunsJobs, StepsOn}
-use Rattle.nam_store.proofs.Lists.{get_set}
+use Rattle.nam_store.proofs.Lists.{get_set, set_twice}
 
 -- 1. What a driver asks brings words
 
@@ -57,11 +57,6 @@ place_asked job nth ToBegin all = tt
 place_asked job nth (ToAsk op) all = op_asked job.ops op all
 place_asked job nth (ToTidy keys key again retry) all = tt
 place_asked job nth (ToCollect bucket keys key retry) all = tt
-
-set_twice : {A : Type 0} (xs : List A) (nth : ℕ) (x y : A) → slice_set (slice_set xs nth x) nth y ≡ slice_set xs nth y
-set_twice [] nth x y = refl
-set_twice (a ∷ xs) zero x y = refl
-set_twice (a ∷ xs) (suc nth) x y = ap (λ l. a ∷ l) (set_twice xs nth x y)
 
 -- 2. Calls that are asked one after another
 

@@ -2,7 +2,7 @@
 use Rattle.std.proofs.Common.{Bool, List, None, Option, Some, ap, false, map, refl, subst, suc, sym}
 use Rattle.std.proofs.Common.{zero, ℕ, ◌-◌, ◌∙◌, ◌∷◌, ◌≡◌, []}
 use Rattle.std.specs.List.{AllByRecursion}
-use Rattle.std.specs.Prelude.{if◌then◌else◌, slice_get, slice_set, ◌||◌}
+use Rattle.std.specs.Prelude.{if◌then◌else◌, slice_get, ◌||◌}
 use Rattle.std.proofs.lemmas.List.{map-set}
 use Rattle.std.proofs.lemmas.Option.{none-some, same_Some}
 use Rattle.nam_verbs.specs.declared.now.Now.TheVariants.{At}
@@ -30,7 +30,7 @@ use Rattle.nam_store.specs.Store.{Cuts, Store, with_client}
 use Rattle.nam_store.specs.Turns.{client_in}
 use Rattle.nam_store.specs.Turns.{Goes, RunsJobs, Stays, StepsOn, WorldRuns, WorldTurnsLaw}
 use Rattle.nam_store.specs.Turns.{store_of}
-use Rattle.nam_store.proofs.Lists.{everyone_put}
+use Rattle.nam_store.proofs.Lists.{everyone_put, set_same}
 use Rattle.nam_store.proofs.StepLemmas.{step_by as step_goes}
 use Rattle.nam_store.proofs.SettleLemmas.{word_along}
 
@@ -41,11 +41,6 @@ get_map : (sessions : List SessionState) (nth : ℕ) (session : SessionState) �
 get_map [] nth session e = absurd (none-some session e)
 get_map (s ∷ sessions) zero session e = ap (λ (x : SessionState). Some x.client) (same_Some s session e)
 get_map (s ∷ sessions) (suc nth) session e = get_map sessions nth session e
-
-pub set_same : {A : Type 0} (xs : List A) (nth : ℕ) (x : A) → slice_get xs nth ≡ Some x → slice_set xs nth x ≡ xs
-set_same [] nth x e = refl
-set_same (a ∷ xs) zero x e = ap (λ (b : _). b ∷ xs) (sym (same_Some a x e))
-set_same (a ∷ xs) (suc nth) x e = ap (λ l. a ∷ l) (set_same xs nth x e)
 
 -- 2. A turn
 
@@ -58,9 +53,7 @@ module _ (shape : Shape) (limits : FitsLimits shape) (world : World) (worker : �
   Turns after = StepsOn shape (store_of world) (store_of after) × WorldRuns shape after
 
   turned : (session later : SessionState) (words : List ℕ) → session_of world worker ≡ Some session
-      → StepsOn shape (store_of world)
-      (with_client (on words) (worker - 1) later.client)
-      → RunsJobs shape later → Turns (with_session (record world { words = words }) worker later)
+      → StepsOn shape (store_of world) (with_client (on words) (worker - 1) later.client) → RunsJobs shape later → Turns (with_session (record world { words = words }) worker later)
   turned session later words here path is = (
     subst (λ clients. StepsOn shape (store_of world) (record { words = words; clients = clients }))
         (sym (map-set client_in world.sessions (worker - 1) later)) path,
@@ -77,16 +70,13 @@ module _ (shape : Shape) (limits : FitsLimits shape) (world : World) (worker : �
       let has = get_map world.sessions (worker - 1) session here in
       let e : client_verb shape session.client ≡ Some verb =
       ap (λ medic. verb_by shape session medic) (sym is.untreated) ∙ stands in
-      let along = word_along shape limits (store_of world)
-      (on words) (worker - 1) session.client has session verb
-      found is e
-      (Goes (store_of world) _ Stays (step_goes shape (store_of world) (worker - 1) session.client verb has e)) in
+      let along = word_along shape limits (store_of world) (on words) (worker - 1) session.client has session verb found
+      is e (Goes (store_of world) _ Stays (step_goes shape (store_of world) (worker - 1) session.client verb has e)) in
       let same : call_taken shape session found ≡ session_after shape session found =
       ap (λ medic. after_by shape session found medic) (sym is.untreated) in
       turned session (session_after shape session found) words here
-      (subst (λ (s : SessionState). StepsOn shape (store_of world)
-      (with_client (on words) (worker - 1) s.client))
-      same along.path)
+      (subst (λ (s : SessionState). StepsOn shape (store_of world) (with_client (on words) (worker - 1) s.client)) same
+      along.path)
       record {
         fits = (session_word shape limits session verb found is.fits stands).0;
         opens = subst OpensAsked same along.opens;
@@ -106,8 +96,7 @@ module _ (shape : Shape) (limits : FitsLimits shape) (world : World) (worker : �
 
   -- stopped, or as it was
   record Left (session : SessionState) : Type 0 where
-    path : StepsOn shape (store_of world)
-        (with_client (on world.words) (worker - 1) session.client)
+    path : StepsOn shape (store_of world) (with_client (on world.words) (worker - 1) session.client)
     opens : OpensAsked session
     words : AllByRecursion JobHolds session.jobs
     untreated : session.client.medic ≡ None

@@ -24,7 +24,7 @@ use Rattle.nam_store.specs.Turns.{RunsJobs, Stays, StepsOn, WorldOpensLaw}
 use Rattle.nam_store.specs.Everyone.{Everyone}
 use Rattle.nam_store.specs.Opening.{new_clients, opening_store}
 use Rattle.nam_store.proofs.SettleLemmas.{new_along}
-use Rattle.nam_store.proofs.TurnLemmas.{set_same}
+use Rattle.nam_store.proofs.Lists.{set_same}
 
 -- 1. Lists of clients
 

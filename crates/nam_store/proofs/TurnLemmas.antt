@@ -53,7 +53,8 @@ module _ (shape : Shape) (limits : FitsLimits shape) (world : World) (worker : �
   Turns after = StepsOn shape (store_of world) (store_of after) × WorldRuns shape after
 
   turned : (session later : SessionState) (words : List ℕ) → session_of world worker ≡ Some session
-      → StepsOn shape (store_of world) (with_client (on words) (worker - 1) later.client) → RunsJobs shape later → Turns (with_session (record world { words = words }) worker later)
+      → StepsOn shape (store_of world) (with_client (on words) (worker - 1) later.client)
+      → RunsJobs shape later → Turns (with_session (record world { words = words }) worker later)
   turned session later words here path is = (
     subst (λ clients. StepsOn shape (store_of world) (record { words = words; clients = clients }))
         (sym (map-set client_in world.sessions (worker - 1) later)) path,

@@ -1,5 +1,5 @@
 -- The verb of each call is the client's.
-use Rattle.std.specs.Prelude.{IfSome, IsSome, None, Option, Some, option_map}
+use Rattle.std.specs.Prelude.{IfSome, IsSome, None, Option, Some, if◌then◌else◌, option_map}
 use Rattle.std.proofs.Common.{Bool, List, [], ap, false, refl, sym, true, ℕ, ◌<◌, ◌∙◌, ◌≡◌}
 use Rattle.std.proofs.lemmas.Bool.{false≢true}
 use Rattle.nam_verbs.specs.declared.now.Now.{Now}
@@ -33,12 +33,15 @@ use Rattle.nam_client.specs.declared.registers.Registers.{Registers}
 use Rattle.nam_client.specs.declared.registers.Step.TheVariants as step
 use Rattle.nam_upkeep.specs.Collector as collection
 use Rattle.nam_protocol.specs.declared.client.Answer.TheVariants.{Collected}
+use Rattle.nam_protocol.specs.declared.client.Answer.{Answer}
+use Rattle.nam_protocol.specs.declared.client.CallPoint.{CallPoint}
 use Rattle.nam_protocol.specs.declared.client.CallPoint.TheVariants.{Collecting}
+use Rattle.nam_protocol.specs.SessionFits.{is_running}
 use Rattle.nam_calls.specs.declared.horizon.CollectPoint.{CollectPoint}
 use Rattle.nam_protocol.specs.Left.{client_left, left_of}
 use Rattle.nam_client.specs.Registers.{client_of, call_of, in_scan, in_txn as txn_call, open_of, runs, seen_in}
 use Rattle.nam_client.specs.Client.{verb_of}
-use Rattle.nam_client.specs.Fits.{HandFits, IsClientOf}
+use Rattle.nam_client.specs.Fits.{HandFits, IsClientOf, IsStanding}
 
 module _ (shape : Shape) (a : Registers) (of : IsClientOf shape a) (uncut : a.is_cut ≡ false) where
   -- the verb is that of the call
@@ -111,3 +114,19 @@ within shape a of verb is = at_field (client_verb shape (client_of a)) refl is
     at_field (Some v) same e =
         let there : verb_there shape v ≡ verb = cc in
         rw (← there) (reached_within shape v (client_fields shape of.limits (client_of a) v of.fits same)).0
+
+-- 6. No verb stands where the client is cut, or no call runs
+
+module _ (a : Registers) where
+  rests_by : (shape : Shape) (cut : Bool) (call : Option (Now CallPoint Answer)) → is_running call ≡ false
+      → None ≡ option_map (verb_there shape) (if cut then None else verb_in shape (client_of a) call)
+  rests_by shape true call rests = refl
+  rests_by shape false None rests = refl
+  rests_by shape false (Some (At at)) rests = absurd (false≢true (sym rests))
+  rests_by shape false (Some (Over end)) rests = refl
+
+  pub none_rests : is_running (client_of a).call ≡ false → IsStanding a None
+  none_rests rests shape of = rests_by shape a.is_cut (call_of a.step a) rests
+
+  pub none_cut : a.is_cut ≡ true → IsStanding a None
+  none_cut cut shape of = rw cut refl

@@ -1,5 +1,6 @@
 -- What holds of a client's registers for the shape of its store.
 use Rattle.std.specs.Prelude.{◌≡◌, ℕ, ◌<◌, List, [], length, Option, Some, None, IsTrue, Bool, true}
+use Rattle.nam_verbs.specs.declared.verb.Verb.{Verb}
 use Rattle.nam_verbs.specs.declared.now.Now.{Now}
 use Rattle.nam_verbs.specs.declared.now.Now.TheVariants.{At, Over}
 use Rattle.nam_catalog.specs.declared.shape.Shape.{Shape}
@@ -18,6 +19,7 @@ use Rattle.nam_scan.specs.Scan.{Scanning as ScanValue, IsScanOf}
 use Rattle.nam_txn.specs.Txn.{IsTxnOf, Transacting}
 use Rattle.nam_client.specs.declared.registers.Registers.{Registers}
 use Rattle.nam_client.specs.Registers.{call_of, client_of}
+use Rattle.nam_client.specs.Client.{verb_of}
 
 -- a transaction that was asked no call yet
 pub record IsFresh (t : Transacting) : Type 0 where
@@ -55,3 +57,7 @@ module _ (shape : Shape) where
     pub fits : ClientFits shape (client_of a)
     pub txn : a.is_open ≡ true → IsTxnOf shape a.txn
     pub hand : HandFits a (call_of a.step a)
+
+-- the verb stands, of whatever store the client is
+abbrev pub IsStanding : Registers → Option Verb → Type 0
+IsStanding a verb = (shape : Shape) → IsClientOf shape a → verb ≡ verb_of shape a

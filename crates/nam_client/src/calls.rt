@@ -1,6 +1,7 @@
 //! Each call is asked of the machine that runs it, and each word handed to it.
 
-ghost use Rattle.std.specs.Prelude.{◌≡◌, ◌<◌, ◌+◌, ◌^◌, IsSome, true};
+ghost use Rattle.std.specs.Prelude.{◌≡◌, ◌<◌, ◌+◌, ◌^◌, IsSome, IfSome, Some, None, true, false};
+ghost use Rattle.nam_verbs.specs.declared.verb.Verb.TheVariants.{Read};
 ghost use Rattle.nam_protocol.specs.Client.{client_ask, client_after};
 ghost use Rattle.nam_protocol.specs.Own.{MayAsk};
 ghost use Rattle.nam_protocol.specs.RoomLaw.{call_room, IsWithin};
@@ -8,16 +9,18 @@ ghost use Rattle.nam_txn.specs.Txn.{IsTxnOf};
 ghost use Rattle.nam_client.specs.Registers.{client_of, call_of};
 ghost use Rattle.nam_client.specs.Client.{spare_of, less_room, verb_of, ops_so_far};
 ghost use Rattle.nam_client.specs.Room.{HasRoom, Holds, StepHolds, TxnRests};
-ghost use Rattle.nam_client.specs.Fits.{IsClientOf, HandFits};
+ghost use Rattle.nam_client.specs.Fits.{IsClientOf, IsStanding, HandFits};
 
 use crate::beginning::{begin, take_begin};
 use crate::collecting::{collect, take_collect, take_snap};
 use crate::registers::{Registers, Step};
 use crate::scanning::{ask_scan, take_scan};
-use crate::tidying::{take_move, take_seek, tidy};
+use crate::tidying::{pass_cell, take_move, take_seek, tidy};
 use crate::transacting::{ask_txn, take_txn};
+use crate::verbs::verb_of;
 use nam_layout::Layout;
 use nam_protocol::Call;
+use nam_verbs::Verb;
 
 /// Asks a call, for which there is room.
 #[tactic(auto, using(crate::proofs::KeptLemmas::rests_call, crate::proofs::KeptLemmas::rests_scan, crate::proofs::KeptLemmas::in_txn_holds, crate::proofs::KeptLemmas::in_txn_calm,))]
@@ -44,10 +47,56 @@ pub fn ask_call(a: &mut Registers, layout: &Layout, call: &Call)
     }
 }
 
+/// Goes on with the word that the verb found, where that is the tag of a cell that a tidying passes: the address of the
+/// next cell's tag, which is read next. Else nothing is done. Most words of a tidying are such tags.
+#[inline]
+pub fn pass_tag(a: &mut Registers, layout: &Layout, found: u64) -> Option<u64>
+    requires of { IsClientOf layout.now a.old }
+    requires holds { Holds a.old }
+    requires stands { IsSome (verb_of layout.now a.old) }
+    ensures none { result ≡ None → a.new ≡ a.old }
+    ensures client { IsSome result → client_of a.new ≡ client_after layout.now (client_of a.old) found }
+    ensures spare { a.new.spare ≡ a.old.spare }
+    ensures closed { IsSome result → a.new.is_open ≡ false }
+    ensures hand { HandFits layout.now a.new (call_of a.new.step a.new) }
+    ensures room { HasRoom a.new }
+    ensures at { StepHolds a.new.step a.new }
+    ensures verb { IfSome result (λ at. IsStanding a.new (Some (Read at))) }
+{
+    match a.step {
+        Step::Moving {
+            table,
+            key,
+            position,
+        } => pass_cell(a, table, key, position, found),
+        _ => None,
+    }
+}
+
+/// Goes on with any other word, and keeps the verb that stands then.
+#[tactic(auto, using(crate::proofs::KeptLemmas::word_holds))]
+#[inline(never)]
+pub fn go_on(a: &mut Registers, standing: &mut Option<Verb>, layout: &Layout, found: u64)
+    requires of { IsClientOf layout.now a.old }
+    requires holds { Holds a.old }
+    requires stands { IsSome (verb_of layout.now a.old) }
+    ensures client { client_of a.new ≡ client_after layout.now (client_of a.old) found }
+    ensures spare { a.new.spare ≡ a.old.spare }
+    ensures txn { a.new.is_open ≡ true → IsTxnOf layout.now a.new.txn }
+    ensures hand { HandFits layout.now a.new (call_of a.new.step a.new) }
+    ensures room { HasRoom a.new }
+    ensures at { StepHolds a.new.step a.new }
+    ensures calm { a.new.is_open ≡ true → TxnRests a.new.step a.new.txn.call }
+    ensures verb { IsStanding a.new standing.new }
+{
+    take_word(a, layout, found);
+    *standing = verb_of(a);
+}
+
 /// Goes on with the word that the verb found.
 #[tactic(auto, using(crate::proofs::KeptLemmas::in_txn_holds, crate::proofs::KeptLemmas::in_txn_calm,))]
 #[inline]
-pub fn take_word(a: &mut Registers, layout: &Layout, found: u64)
+fn take_word(a: &mut Registers, layout: &Layout, found: u64)
     requires of { IsClientOf layout.now a.old }
     requires holds { Holds a.old }
     requires stands { IsSome (verb_of layout.now a.old) }

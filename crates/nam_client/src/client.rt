@@ -21,7 +21,7 @@ ghost use Rattle.nam_client.specs.Client.{CanServe, spare_of, less_room, verb_of
 ghost use Rattle.nam_client.specs.Fits.{IsClientOf};
 
 use crate::answering::{answer_of, is_busy};
-use crate::calls::{ask_call, take_word};
+use crate::calls::{ask_call, go_on, pass_tag};
 use crate::closing::{abandon, into_log};
 use crate::registers::{Registers, Spare, new_registers};
 use crate::room::reserve;
@@ -38,17 +38,20 @@ use std::marker::Model;
 #[derive(Debug, Drop)]
 pub struct Client {
     registers: Registers,
+    /// The verb that stands, which is kept from one word to the next.
+    standing: Option<Verb>,
 }
 
 impl Model for Client {
     ghost use Rattle.nam_client.specs.declared.registers.Registers.{Registers};
     ghost use Rattle.nam_client.specs.Room.{Holds};
+    ghost use Rattle.nam_client.specs.Fits.{IsStanding};
 
     ghost Value = { Registers };
 
     ghost view = { λ a. a.registers };
 
-    ghost invariant = { λ a. Holds a.registers };
+    ghost invariant = { λ a. Holds a.registers × IsStanding a.registers a.standing };
 }
 
 impl Client {
@@ -60,6 +63,7 @@ impl Client {
     {
         Client {
             registers: new_registers(alloc, worker, start),
+            standing: None,
         }
     }
 
@@ -85,7 +89,9 @@ impl Client {
             ops,
             tidies,
         };
-        reserve(&mut self.registers, &asked)
+        let reserved = reserve(&mut self.registers, &asked);
+        self.standing = verb_of(&self.registers);
+        reserved
     }
 
     /// How many begins, operations, and tidyings or collections the client has room for.
@@ -110,6 +116,7 @@ impl Client {
             ≤ call_bound layout.now (client_of self.old) call.now }
     {
         ask_call(&mut self.registers, layout, call);
+        self.standing = verb_of(&self.registers);
     }
 
     #[tactic(auto, using(crate::proofs::VerbLemmas::within))]
@@ -120,7 +127,7 @@ impl Client {
         ensures within { (shape : Shape) → IsClientOf shape self.now
             → IfSome result (λ verb. address_of verb < words_of shape) }
     {
-        verb_of(&self.registers)
+        self.standing
     }
 
     #[tactic(auto, using(crate::proofs::KeptLemmas::word_kept, crate::proofs::KeptLemmas::word_falls, crate::proofs::KeptLemmas::word_holds,))]
@@ -134,7 +141,10 @@ impl Client {
         ensures of { IsClientOf layout.now self.new }
         ensures falls { client_left layout.now (client_of self.new) < client_left layout.now (client_of self.old) }
     {
-        take_word(&mut self.registers, layout, found);
+        match pass_tag(&mut self.registers, layout, found) {
+            Some(at) => self.standing = Some(Verb::Read { at }),
+            None => go_on(&mut self.registers, &mut self.standing, layout, found),
+        }
     }
 
     /// A number of verbs that are to come at the most before the answer. Each word that is taken lowers it, and right
@@ -200,6 +210,7 @@ impl Client {
         }
     }
 
+    #[tactic(auto, using(crate::proofs::VerbLemmas::none_rests))]
     /// Gives the open transaction up, between two calls. Its attempt is listed as left.
     pub fn abandon(&mut self)
         requires opened { IsSome (client_of self.old).txn }
@@ -209,8 +220,10 @@ impl Client {
         ensures of { (shape : Shape) → IsClientOf shape self.old → IsClientOf shape self.new }
     {
         abandon(&mut self.registers);
+        self.standing = None;
     }
 
+    #[tactic(auto, using(crate::proofs::VerbLemmas::none_cut))]
     /// Stops the client for good.
     pub fn cut(&mut self)
         ensures client { client_of self.new ≡ client_cut (client_of self.old) }
@@ -218,6 +231,7 @@ impl Client {
         ensures of { (shape : Shape) → IsClientOf shape self.old → IsClientOf shape self.new }
     {
         self.registers.is_cut = true;
+        self.standing = None;
     }
 
     /// Whether the client was stopped for good.
@@ -227,6 +241,7 @@ impl Client {
         self.registers.is_cut
     }
 
+    #[tactic(auto, using(crate::proofs::VerbLemmas::none_cut))]
     /// Notes how a medic has finished the client, which is cut.
     pub fn finished(&mut self, how: Finish)
         requires cut { (client_of self.old).cut ≡ true }
@@ -237,6 +252,7 @@ impl Client {
         ensures of { (shape : Shape) → IsClientOf shape self.old → IsClientOf shape self.new }
     {
         self.registers.finish = Some(how);
+        self.standing = None;
     }
 
     #[tactic(auto, using(crate::proofs::ClosingLemmas::log_of))]
@@ -246,7 +262,7 @@ impl Client {
         requires { is_running (client_of self).call ≡ true → (client_of self).cut ≡ true }
         ensures { (shape : Shape) → IsClientOf shape self → result ≡ into_log shape (client_of self) }
     {
-        let Client { registers } = self;
+        let Client { registers, .. } = self;
         into_log(registers)
     }
 }

@@ -1,6 +1,7 @@
 //! Tidyings: the key's position is searched, and the version in the slot that its next version needs is moved.
 
-ghost use Rattle.std.specs.Prelude.{◌≡◌, ◌<◌, ◌≤◌, ◌-◌, IsSome, true, false};
+ghost use Rattle.std.specs.Prelude.{◌≡◌, ◌<◌, ◌≤◌, ◌-◌, IsSome, IfSome, Some, None, true, false};
+ghost use Rattle.nam_verbs.specs.declared.verb.Verb.TheVariants.{Read};
 ghost use Rattle.nam_verbs.specs.Running.{next_verb, end_of};
 ghost use Rattle.nam_catalog.specs.declared.shape.Shape.{Shape};
 ghost use Rattle.nam_layout.specs.RowLaw.{IsPosition};
@@ -96,6 +97,28 @@ fn begin_move(a: &mut Registers, layout: &Layout, table: u32, key: u64, position
         key,
         position,
     };
+}
+
+/// Goes on with the tag of a cell that the move passes: the address of the next cell's tag. Else nothing is done.
+#[inline]
+pub fn pass_cell(a: &mut Registers, table: u32, key: u64, position: u32, found: u64) -> Option<u64>
+    requires step { a.old.step ≡ step.Moving table key position }
+    requires closed { a.old.is_open ≡ false }
+    requires room { HasRoom a.old }
+    ensures none { result ≡ None → a.new ≡ a.old }
+    ensures client { IsSome result → (shape : Shape) → a.old.mover.place ≡ place_of shape table position
+        → a.old.mover.cells ≡ cells_by shape a.old.mover.place
+        → client_of a.new ≡ client_after shape (client_of a.old) found }
+    ensures spare { a.new.spare ≡ a.old.spare }
+    ensures hand { (shape : Shape) → HandFits shape a.old (call_of a.old.step a.old)
+        → HandFits shape a.new (call_of a.new.step a.new) }
+    ensures room { HasRoom a.new }
+    ensures closed { a.new.is_open ≡ false }
+    ensures at { StepHolds a.new.step a.new }
+    ensures verb { IfSome result (λ at. Some (Read at) ≡ next_verb (running a.new.mover)) }
+    ensures same { a.new ≡ record a.old { mover = a.new.mover } }
+{
+    a.mover.pass(found)
 }
 
 /// Goes on with a word of the move.

@@ -74,6 +74,8 @@ impl Medic {
     }
 
     /// The verb that stands, and none exactly where the medic has ended.
+    // Sessions rarely have a medic, whose code stays out of their client's way.
+    #[inline(never)]
     pub fn verb(&self) -> Option<Verb>
         ensures { result ≡ self.now.verb }
     {
@@ -81,6 +83,7 @@ impl Medic {
     }
 
     /// Goes on with the word that the verb found.
+    #[inline(never)]
     pub fn take(&mut self, layout: &Layout, found: u64)
         requires serves { Serves layout.now self.old }
         requires stands { IsSome self.old.verb }

@@ -1,7 +1,9 @@
 //! The registers of a move, and its steps.
 
-ghost use Rattle.std.specs.Prelude.{◌≡◌, ◌≢◌, ◌<◌, ℕ, IfSome};
+ghost use Rattle.std.specs.Prelude.{◌≡◌, ◌≢◌, ◌<◌, ◌+◌, ℕ, IfSome, IsSome, Some, None};
+ghost use Rattle.nam_catalog.specs.declared.bounds.TheConstants.{CELL_WORDS};
 ghost use Rattle.nam_verbs.specs.Verb.{address_of};
+ghost use Rattle.nam_verbs.specs.declared.verb.Verb.TheVariants.{Read};
 ghost use Rattle.nam_verbs.specs.Running.{next_verb, end_of, verbs_left};
 ghost use Rattle.nam_layout.specs.PlaceFits.{FitsCells};
 ghost use Rattle.nam_calls.specs.Mover.{on_claim};
@@ -146,6 +148,29 @@ impl MoveRegisters {
         }
     }
 
+    /// Passes the cell whose tag was looked at, where it isn't free and another cell follows: the address of that
+    /// one's tag, which is looked at next. Else nothing is done.
+    #[inline]
+    pub fn pass(&mut self, found: u64) -> Option<u64>
+        requires fits { FitsMove self.old }
+        requires tag { HasTag self.old }
+        ensures none { result ≡ None → self.new ≡ self.old }
+        ensures value { IsSome result → moving_of self.new ≡ moved_by self.old found }
+        ensures verb { IfSome result (λ at. Some (Read at) ≡ next_verb (running (moving_of self.new))) }
+        ensures tag { HasTag self.new }
+    {
+        match self.step {
+            MoveStep::Look => {
+                if Tag(found).is_free() || self.cell + 1 == self.cells.cells {
+                    return None;
+                }
+                self.advance();
+                Some(self.tag_at)
+            }
+            _ => None,
+        }
+    }
+
     #[inline]
     fn look(&mut self, found: u64)
         requires step { self.old.step ≡ step.Look }
@@ -160,6 +185,21 @@ impl MoveRegisters {
         } else {
             self.next_cell();
         }
+    }
+
+    // The next cell is at hand.
+    #[inline]
+    fn advance(&mut self)
+        requires cell { self.old.cell + 1 < self.old.cells.cells }
+        requires fits { FitsCells self.old.cells }
+        requires tag { HasTag self.old }
+        ensures { self.new ≡ record self.old {
+          cell = self.old.cell + 1;
+          tag_at = self.old.tag_at + CELL_WORDS;
+        } }
+    {
+        self.cell += 1;
+        self.tag_at += CELL_WORDS;
     }
 
     // On to the next cell, if there is one.
@@ -177,8 +217,7 @@ impl MoveRegisters {
         if self.cell + 1 == self.cells.cells {
             self.step = MoveStep::NoRoom;
         } else {
-            self.cell += 1;
-            self.tag_at += CELL_WORDS;
+            self.advance();
             self.step = MoveStep::Look;
         }
     }

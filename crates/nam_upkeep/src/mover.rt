@@ -1,7 +1,8 @@
 //! Moves of old versions, in registers.
 
-ghost use Rattle.std.specs.Prelude.{◌≡◌, ◌<◌, ◌+◌, ◌*◌, IsSome, IfSome};
+ghost use Rattle.std.specs.Prelude.{◌≡◌, ◌<◌, ◌+◌, ◌*◌, IsSome, IfSome, Some, None};
 ghost use Rattle.nam_verbs.specs.Verb.{address_of};
+ghost use Rattle.nam_verbs.specs.declared.verb.Verb.TheVariants.{Read};
 ghost use Rattle.nam_verbs.specs.Running.{next_verb, after_found, end_of, verbs_left};
 ghost use Rattle.nam_layout.specs.PlaceFits.{FitsPlace, FitsCells};
 ghost use Rattle.nam_upkeep.specs.Move.{moving, running, claimed_now};
@@ -90,6 +91,20 @@ impl Mover {
         ensures falls { verbs_left (running self.new) < verbs_left (running self.old) }
     {
         self.registers.take(found);
+    }
+
+    /// Goes on with the word that the verb found, where that is the tag of a cell that isn't free, and another cell
+    /// follows: the address of that one's tag, which is looked at next. Else nothing is done. Most words of a move are
+    /// such tags.
+    #[inline]
+    pub fn pass(&mut self, found: u64) -> Option<u64>
+        ensures none { result ≡ None → self.new ≡ self.old }
+        ensures value { IsSome result
+            → self.new ≡ record self.old { state = (after_found (running self.old) found).state } }
+        ensures stood { IsSome result → IsSome (next_verb (running self.old)) }
+        ensures verb { IfSome result (λ at. Some (Read at) ≡ next_verb (running self.new)) }
+    {
+        self.registers.pass(found)
     }
 
     /// A number of verbs that are to come at the most. Each word that is taken lowers it.

@@ -1,9 +1,9 @@
 -- The calls of a session's driver are asked of its client, for which there is room.
 use Rattle.std.proofs.Common.{◌≡◌, ◌≤◌, ◌<◌, ◌+◌, ◌-◌, ◌^◌, ℕ, suc, zero, List, Option, Some, None}
-use Rattle.std.proofs.Common.{refl, sym, ap, subst, ◌∙◌, arith}
-use Rattle.std.specs.Prelude.{slice_get, IsSome}
+use Rattle.std.proofs.Common.{Bool, true, false, refl, sym, ap, subst, ◌∙◌, arith}
+use Rattle.std.specs.Prelude.{slice_get, IsSome, if◌then◌else◌, option_map}
 use Rattle.nam_verbs.specs.declared.now.Now.{Now}
-use Rattle.nam_verbs.specs.declared.now.Now.TheVariants.{Over}
+use Rattle.nam_verbs.specs.declared.now.Now.TheVariants.{At, Over}
 use Rattle.nam_verbs.specs.VerbAt.{VerbAt}
 use Rattle.nam_catalog.specs.declared.shape.Shape.{Shape}
 use Rattle.nam_layout.specs.declared.field.Field.{Field}
@@ -18,24 +18,26 @@ use Rattle.nam_protocol.specs.declared.session.DriverState.{DriverState}
 use Rattle.nam_protocol.specs.declared.session.Job.{Job}
 use Rattle.nam_protocol.specs.declared.session.SessionState.{SessionState}
 use Rattle.nam_protocol.specs.AskedLaw.{call_at}
-use Rattle.nam_protocol.specs.Client.{client_after, client_ask, client_verb}
+use Rattle.nam_calls.specs.Memory.{verb_there}
+use Rattle.nam_protocol.specs.Client.{client_after, client_ask, client_verb, verb_of as verb_in}
 use Rattle.nam_protocol.specs.Driver.{driver_next, driver_take, job_call, place_call}
 use Rattle.nam_protocol.specs.Left.{Room}
 use Rattle.nam_protocol.specs.Own.{MayAsk}
 use Rattle.nam_protocol.specs.RoomLaw.{DriverCounts, IsWithin, PlaceCounts, both_rooms, call_room, room_left}
-use Rattle.nam_protocol.specs.Session.{answer_now, calls_at_most, settle, settled, taken}
+use Rattle.nam_protocol.specs.Session.{answer_now, call_taken, calls_at_most, settle, settled, taken}
 use Rattle.nam_protocol.specs.SessionFits.{DriverFits, DriverPointFits, ops_of}
 use Rattle.nam_protocol.proofs.AskedSession.{AsksSo, NowOf}
 use Rattle.nam_protocol.proofs.EndsSession.{IsReady, takes_word}
 use Rattle.nam_protocol.proofs.RoomDriver.{room_suffices}
 use Rattle.nam_protocol.proofs.StaysLemmas.{still_uncut as same_uncut, word_stays}
 use Rattle.nam_client.specs.declared.registers.Registers.{Registers}
-use Rattle.nam_client.specs.Client.{less_room, ops_so_far, spare_of}
+use Rattle.nam_client.specs.Client.{less_room, ops_so_far, spare_of, verb_of}
 use Rattle.nam_client.specs.Fits.{IsClientOf}
-use Rattle.nam_client.specs.Registers.{client_of}
+use Rattle.nam_client.specs.Registers.{call_of, client_of}
 use Rattle.nam_worker.specs.Answering.{AnswersNext, AreJobs, IsAnswerTo}
 use Rattle.nam_worker.specs.CallAnswers.{AnswersAs, NowAnswers}
-use Rattle.nam_worker.specs.Session.{CanAskNext, HasRoomAfter, IsUncut, Occurs, after_word, asking, at_once}
+use Rattle.nam_worker.specs.Session.{CanAskNext, HasRoomAfter, IsUncut, MayTakeAnswer, Occurs, after_word, asking}
+use Rattle.nam_worker.specs.Session.{answered, at_once}
 use Rattle.nam_worker.proofs.CallAnswers.{ask_answers, word_answers}
 use Rattle.nam_worker.proofs.OpsCounted.{asked_ops, asked_worker, word_ops, word_worker}
 use Rattle.nam_worker.proofs.SessionLemmas.{asked_uncut}
@@ -331,3 +333,40 @@ module _ (shape : Shape) (client : Registers) (driver : DriverState) (jobs : Lis
       counted = rw is (word_counted end next_stands);
       jobs_are = are;
     }
+
+  pub may_take_answer : (client_of client).medic ≡ None → AreJobs jobs → IsClientOf shape after
+      → MayTakeAnswer shape after driver jobs
+  may_take_answer none are of_after = record {
+    of = of_after;
+    room = word_room;
+    uncut = word_uncut;
+    jobs_are = are;
+    answers = word_answers_next;
+    next = λ end answered driver_after is. word_next end answered none are of_after driver_after is;
+  }
+
+-- 5. A call that has a verb isn't answered
+
+module _ (shape : Shape) (a : Registers) where
+  running : (call : Option (Now CallPoint Answer))
+      → IsSome (option_map (verb_there shape) (verb_in shape (client_of a) call)) → answer_now call ≡ None
+  running None some = refl
+  running (Some (At at)) some = refl
+  running (Some (Over end)) some = absurd (cc)
+
+  running_unless : (cut : Bool) → (call : Option (Now CallPoint Answer))
+      → IsSome (option_map (verb_there shape) (if cut then None else verb_in shape (client_of a) call))
+      → answer_now call ≡ None
+  running_unless true call some = absurd (cc)
+  running_unless false call some = running call some
+
+  pub unanswered : IsSome (verb_of shape a) → answer_now (client_of a).call ≡ None
+  unanswered some = running_unless a.is_cut (call_of a.step a) some
+
+-- 6. A word was taken, and then its answer
+
+pub word_taken : (shape : Shape) (client after : ClientState) (driver : DriverState) (jobs : List Job) (found : ℕ)
+    → after ≡ client_after shape client found
+    → answered shape (record { client = after; driver = driver; jobs = jobs })
+    ≡ call_taken shape (record { client = client; driver = driver; jobs = jobs }) found
+word_taken shape client after driver jobs found is = rw is refl

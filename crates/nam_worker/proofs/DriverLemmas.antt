@@ -1,18 +1,23 @@
 -- Where a driver stands that has a next call.
-use Rattle.std.proofs.Common.{◌≡◌, ℕ, ◌<◌, ◌+◌, ◌^◌, List, length, true, refl, arith, Option, Some, None}
-use Rattle.std.proofs.Common.{subst}
+use Rattle.std.proofs.Common.{◌≡◌, ℕ, ◌<◌, ◌+◌, ◌^◌, List, [], length, true, refl, arith, Option, Some, None}
+use Rattle.std.proofs.Common.{subst, sym}
 use Rattle.std.specs.Prelude.{slice_get}
 use Rattle.std.specs.List.{AllByRecursion}
 use Rattle.std.proofs.lemmas.Option.{slice_get_within}
 use Rattle.std.proofs.lemmas.Bool.{false≢true}
 use Rattle.si_model.specs.declared.op.Op.{Op}
+use Rattle.nam_catalog.specs.declared.form.Form.TheVariants.{Narrow}
+use Rattle.nam_catalog.specs.declared.shape.Shape.{Shape}
+use Rattle.nam_protocol.specs.declared.client.Call.{Call}
 use Rattle.nam_protocol.specs.declared.txn.TxnAnswer.{TxnAnswer}
 use Rattle.nam_protocol.specs.declared.client.Answer.{Answer}
 use Rattle.nam_protocol.specs.declared.session.Job.{Job}
 use Rattle.nam_protocol.specs.declared.session.DriverState.{DriverState}
 use Rattle.nam_protocol.specs.declared.session.DriverPoint.TheVariants.{ToAsk}
 use Rattle.nam_protocol.proofs.EndsSession.{nth_holds}
-use Rattle.nam_protocol.specs.Driver.{driver_next, job_call, op_call, place_call}
+use Rattle.nam_protocol.specs.Driver.{driver_next, driver_take, job_call, op_call, place_call}
+use Rattle.nam_protocol.specs.RoomLaw.{DriverCounts}
+use Rattle.nam_protocol.proofs.RoomDriver.{room_suffices}
 use Rattle.nam_protocol.specs.AttemptLaw.{has_passed}
 use Rattle.nam_worker.specs.Answering.{AnswersNext, IsAnswerTo, IsJob, goes_on, ends_commit}
 use Rattle.nam_protocol.specs.declared.txn.TxnAnswer.TheVariants as txn_answer
@@ -59,3 +64,19 @@ pub more_follow : (jobs : List Job) (driver : DriverState) (nth : ℕ) (end : An
     → goes_on end ≡ true → nth + 1 < 2 ^ 32
 more_follow jobs driver nth end stands all asked more =
     more_at jobs driver nth (slice_get jobs driver.job) end refl stands all asked more
+
+-- the counts of a driver are those of some room, whatever the shape is
+some_shape : Shape
+some_shape = record { form = Narrow; workers = 1; tables = []; buckets = 1; cells = 1; start = 0 }
+
+counts_by : (jobs : List Job) (driver : DriverState) (end : Answer) (next : Option Call)
+    → driver_next jobs driver ≡ next → DriverCounts driver → AnswersNext next end
+    → DriverCounts (driver_take jobs driver end)
+counts_by jobs driver end None is counts asked = absurd asked
+counts_by jobs driver end (Some call) is counts asked =
+    ((room_suffices some_shape).1 jobs driver call end counts is).0
+
+pub counts_taken : (jobs : List Job) (driver after : DriverState) (end : Answer) → DriverCounts driver
+    → AnswersNext (driver_next jobs driver) end → after ≡ driver_take jobs driver end → DriverCounts after
+counts_taken jobs driver after end counts asked is =
+    subst DriverCounts (sym is) (counts_by jobs driver end (driver_next jobs driver) refl counts asked)

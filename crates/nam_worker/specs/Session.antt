@@ -26,7 +26,7 @@ use Rattle.nam_protocol.specs.Driver.{new_driver, driver_next, driver_take}
 use Rattle.nam_protocol.specs.EventsLaw.{IsReached}
 use Rattle.nam_protocol.specs.Left.{client_left, room_for}
 use Rattle.nam_protocol.specs.RoomLaw.{IsWithin, room_left}
-use Rattle.nam_protocol.specs.Session.{answer_now, jobs_over, taken}
+use Rattle.nam_protocol.specs.Session.{answer_now, jobs_over, settled, taken}
 use Rattle.nam_protocol.specs.SessionFits.{JobFits}
 use Rattle.nam_protocol.specs.Telling.{new_client}
 use Rattle.nam_medic.specs.Medic.{Finishing, Serves}
@@ -34,7 +34,7 @@ use Rattle.nam_client.specs.declared.registers.Registers.{Registers}
 use Rattle.nam_client.specs.Client.{ops_so_far, spare_of}
 use Rattle.nam_client.specs.Fits.{IsClientOf}
 use Rattle.nam_client.specs.Registers.{client_of}
-use Rattle.nam_worker.specs.Answering.{AreJobs}
+use Rattle.nam_worker.specs.Answering.{AnswersNext, AreJobs}
 use Rattle.nam_worker.specs.Needs.{IsSmall}
 
 -- 1. The session that its parts are
@@ -117,6 +117,24 @@ module _ (shape : Shape) where
         → IsWithin (room_left shape jobs (driver_take jobs driver end)) (spare_of client)
     pub counted : (end : Answer) → IsSome (driver_next jobs driver)
         → ops_so_far (client_of client).txn + (room_left shape jobs (driver_take jobs driver end)).ops < 2 ^ 32
+
+  -- the driver may take the client's answer, if there is one, and then the next call may be asked
+  pub record MayTakeAnswer (client : Registers) (driver : DriverState) (jobs : List Job) : Type 0 where
+    pub of : IsClientOf shape client
+    pub room : HasRoomAfter client driver jobs
+    pub uncut : IsUncut (client_of client)
+    pub jobs_are : AreJobs jobs
+    pub answers : (end : Answer) → answer_now (client_of client).call ≡ Some end
+        → AnswersNext (driver_next jobs driver) end
+    pub next : (end : Answer) → answer_now (client_of client).call ≡ Some end → (after : DriverState)
+        → after ≡ driver_take jobs driver end → CanAskNext client after jobs
+
+  -- the session after that
+  abbrev pub answered : SessionState → SessionState
+  answered session = elim (answer_now session.client.call) [
+    | None ↦ session
+    | Some answer ↦ settled shape (taken session session.client answer)
+  ]
 
   -- 4. The medic, of the form that has intents
 

@@ -6,7 +6,7 @@ ghost use Rattle.nam_protocol.specs.Session.{settled, call_taken};
 ghost use Rattle.nam_client.specs.Fits.{IsClientOf};
 ghost use Rattle.nam_client.specs.Registers.{client_of};
 ghost use Rattle.nam_worker.specs.Answering.{AreJobs};
-ghost use Rattle.nam_worker.specs.Session.{asking, CanAskNext, HasRoomAfter, IsUncut, Occurs};
+ghost use Rattle.nam_worker.specs.Session.{asking, answered, CanAskNext, HasRoomAfter, IsUncut, MayTakeAnswer, Occurs};
 
 use crate::driver::Driver;
 use nam_client::Client;
@@ -32,7 +32,25 @@ pub fn settle(client: &mut Client, driver: &mut Driver, jobs: &[Job], layout: &L
     }
 }
 
+/// The driver takes the client's answer, if there is one, and the next call is asked.
+#[inline(never)]
+fn take_answer(client: &mut Client, driver: &mut Driver, jobs: &[Job], layout: &Layout)
+    requires { MayTakeAnswer layout.now client.old driver.old jobs.now }
+    ensures value { asking client.new driver.new jobs.now
+        ≡ answered layout.now (asking client.old driver.old jobs.now) }
+    ensures of { IsClientOf layout.now client.new }
+    ensures room { HasRoomAfter layout.now client.new driver.new jobs.now }
+    ensures uncut { IsUncut (client_of client.new) }
+    ensures worker { (client_of client.new).worker ≡ (client_of client.old).worker }
+{
+    if let Some(answer) = client.answer() {
+        driver.take(jobs, &answer);
+        settle(client, driver, jobs, layout);
+    }
+}
+
 /// The client takes a word. Where that answers its call, the driver takes the answer, and the next call is asked.
+#[inline]
 pub fn take_word(
     client: &mut Client,
     driver: &mut Driver,
@@ -54,11 +72,7 @@ pub fn take_word(
     ensures worker { (client_of client.new).worker ≡ (client_of client.old).worker }
 {
     client.take(layout, found);
-    if client.is_busy() {
-        return;
-    }
-    if let Some(answer) = client.answer() {
-        driver.take(jobs, &answer);
-        settle(client, driver, jobs, layout);
+    if client.verb().is_none() {
+        take_answer(client, driver, jobs, layout);
     }
 }

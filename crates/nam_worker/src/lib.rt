@@ -9,6 +9,7 @@
 mod answering;
 mod asking;
 mod driver;
+mod driving;
 mod gate;
 mod keys;
 mod laws;

@@ -28,11 +28,12 @@ use Rattle.nam_protocol.proofs.FieldLemmas.{client_fields, reached_within}
 use Rattle.nam_index.specs.Path.{path_address}
 use Rattle.nam_index.proofs.PathLemmas.{stands}
 use Rattle.nam_scan.specs.Scan.{Scanning as ScanValue, running}
-use Rattle.nam_txn.specs.Txn.{Transacting, next_verb}
+use Rattle.nam_txn.specs.Txn.{Transacting, answer_in, next_verb}
 use Rattle.nam_client.specs.declared.registers.Registers.{Registers}
 use Rattle.nam_client.specs.declared.registers.Step.TheVariants as step
 use Rattle.nam_upkeep.specs.Collector as collection
-use Rattle.nam_protocol.specs.declared.client.Answer.TheVariants.{Collected}
+use Rattle.nam_protocol.specs.declared.client.Answer.TheVariants.{Collected, Txn}
+use Rattle.nam_protocol.specs.Session.{answer_now}
 use Rattle.nam_protocol.specs.declared.client.Answer.{Answer}
 use Rattle.nam_protocol.specs.declared.client.CallPoint.{CallPoint}
 use Rattle.nam_protocol.specs.declared.client.CallPoint.TheVariants.{Collecting}
@@ -130,3 +131,15 @@ module _ (a : Registers) where
 
   pub none_cut : a.is_cut ≡ true → IsStanding a None
   none_cut cut shape of = rw cut refl
+
+-- 7. What the transaction answered is the client's answer
+
+answered_by : (call : Option (Now TxnPoint TxnAnswer)) (end : TxnAnswer) → answer_in call ≡ Some end
+    → answer_now (txn_call call) ≡ Some (Txn end)
+answered_by None end is = absurd (cc)
+answered_by (Some (At at)) end is = absurd (cc)
+answered_by (Some (Over end)) end' is = ap (λ (o : Option TxnAnswer). option_map Txn o) is
+
+pub txn_answered : (a : Registers) (end : TxnAnswer) → a.step ≡ step.InTxn → answer_in a.txn.call ≡ Some end
+    → answer_now (client_of a).call ≡ Some (Txn end)
+txn_answered a end at is = rw at (answered_by a.txn.call end is)

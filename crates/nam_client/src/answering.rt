@@ -71,6 +71,15 @@ pub fn answer_of(a: &Registers) -> Option<Answer>
     requires { StepHolds a.now.step a.now }
     ensures { result ≡ answer_now (call_of a.now.step a.now) }
 {
+    if is_busy(a) { None } else { told_by(a) }
+}
+
+// The same, where its size costs.
+#[inline(never)]
+fn told_by(a: &Registers) -> Option<Answer>
+    requires { StepHolds a.now.step a.now }
+    ensures { result ≡ answer_now (call_of a.now.step a.now) }
+{
     match a.step {
         Step::Resting | Step::Seeking { .. } | Step::Scanning => None,
         Step::Beginning { .. } => begun_now(&a.snapper, a.attempt.prefix),

@@ -17,7 +17,7 @@ use crate::registers::{Registers, Step};
 use crate::scanning::{ask_scan, take_scan};
 use crate::tidying::{pass_cell, take_move, take_seek, tidy};
 use crate::transacting::{ask_txn, take_txn};
-use crate::verbs::verb_of;
+use crate::verbs::keep_verb;
 use nam_layout::Layout;
 use nam_protocol::Call;
 use nam_verbs::Verb;
@@ -90,7 +90,7 @@ pub fn go_on(a: &mut Registers, standing: &mut Option<Verb>, layout: &Layout, fo
     ensures verb { IsStanding a.new standing.new }
 {
     take_word(a, layout, found);
-    *standing = verb_of(a);
+    keep_verb(a, standing);
 }
 
 /// Goes on with the word that the verb found.

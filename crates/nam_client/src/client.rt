@@ -7,6 +7,7 @@ ghost use Rattle.nam_verbs.specs.Verb.{address_of};
 ghost use Rattle.nam_verbs.specs.declared.now.Now.TheVariants.{Over};
 ghost use Rattle.nam_catalog.specs.declared.shape.Shape.{Shape};
 ghost use Rattle.nam_catalog.specs.Words.{words_of};
+ghost use Rattle.nam_protocol.specs.declared.client.Answer.TheVariants.{Txn};
 ghost use Rattle.nam_protocol.specs.Client.{client_ask, client_after, client_abandon};
 ghost use Rattle.nam_protocol.specs.ClientFits.{call_bound};
 ghost use Rattle.nam_protocol.specs.CutClient.{client_cut, client_treated, into_log};
@@ -23,11 +24,11 @@ ghost use Rattle.nam_client.specs.Fits.{IsClientOf};
 use crate::answering::{answer_of, is_busy};
 use crate::calls::{ask_call, go_on, pass_tag};
 use crate::closing::{abandon, into_log};
-use crate::registers::{Registers, Spare, new_registers};
+use crate::registers::{Registers, Spare, Step, new_registers};
 use crate::room::reserve;
-use crate::verbs::{verb_of, verbs_left};
+use crate::verbs::{keep_verb, verbs_left};
 use nam_layout::Layout;
-use nam_protocol::{Answer, Call};
+use nam_protocol::{Answer, Call, TxnAnswer};
 use nam_verbs::Verb;
 use si_model::{Finish, Log};
 use std::alloc::{AllocError, Global};
@@ -90,7 +91,7 @@ impl Client {
             tidies,
         };
         let reserved = reserve(&mut self.registers, &asked);
-        self.standing = verb_of(&self.registers);
+        keep_verb(&self.registers, &mut self.standing);
         reserved
     }
 
@@ -116,7 +117,7 @@ impl Client {
             ≤ call_bound layout.now (client_of self.old) call.now }
     {
         ask_call(&mut self.registers, layout, call);
-        self.standing = verb_of(&self.registers);
+        keep_verb(&self.registers, &mut self.standing);
     }
 
     #[tactic(auto, using(crate::proofs::VerbLemmas::within))]
@@ -160,6 +161,18 @@ impl Client {
         ensures { result ≡ answer_now (client_of self.now).call }
     {
         answer_of(&self.registers)
+    }
+
+    #[tactic(auto, using(crate::proofs::VerbLemmas::txn_answered))]
+    /// The answer to the last call where it was one of the transaction, and stands there: without a copy.
+    #[inline]
+    pub fn txn_answer(&self) -> Option<&TxnAnswer>
+        ensures { IfSome result (λ end. answer_now (client_of self.now).call ≡ Some (Txn end.now)) }
+    {
+        match self.registers.step {
+            Step::InTxn => self.registers.txn.answered(),
+            _ => None,
+        }
     }
 
     /// Whether a call runs.

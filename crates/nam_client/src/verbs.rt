@@ -6,17 +6,17 @@ ghost use Rattle.nam_protocol.specs.Left.{client_left};
 ghost use Rattle.nam_client.specs.Registers.{client_of};
 ghost use Rattle.nam_client.specs.Room.{Holds};
 ghost use Rattle.nam_client.specs.Client.{verb_of};
-ghost use Rattle.nam_client.specs.Fits.{IsClientOf};
+ghost use Rattle.nam_client.specs.Fits.{IsClientOf, IsStanding};
 
 use crate::registers::{Registers, Step};
 use nam_index::{find_left, find_verb};
 use nam_scan::Scan;
 use nam_verbs::Verb;
 
-/// The verb that stands, and none where no call runs or the client is cut.
+// The verb that stands, and none where no call runs or the client is cut.
 #[tactic(auto, using(crate::proofs::VerbLemmas::in_txn, crate::proofs::VerbLemmas::seeking, crate::proofs::VerbLemmas::scanning,))]
 #[inline]
-pub fn verb_of(a: &Registers) -> Option<Verb>
+fn verb_of(a: &Registers) -> Option<Verb>
     requires { Holds a.now }
     ensures { (shape : Shape) → IsClientOf shape a.now → result ≡ verb_of shape a.now }
 {
@@ -35,6 +35,15 @@ pub fn verb_of(a: &Registers) -> Option<Verb>
         Step::Collecting { .. } => a.collector.verb(a.snapper.seen()),
         Step::Resting | Step::Answered(_) => None,
     }
+}
+
+/// Keeps the verb that stands.
+#[inline(never)]
+pub fn keep_verb(a: &Registers, standing: &mut Option<Verb>)
+    requires { Holds a.now }
+    ensures { IsStanding a.now standing.new }
+{
+    *standing = verb_of(a);
 }
 
 /// How many verbs are to come at the most, and none where no call runs or the client is cut.

@@ -70,6 +70,12 @@ session_of a = record {
 abbrev pub IsUncut : ClientState → Type 0
 IsUncut client = (client.cut ≡ false) × (client.medic ≡ None)
 
+-- the driver has taken the client's answer
+pub record HasTaken (client : Registers) (jobs : List Job) (driver after : DriverState) : Type 0 where
+  pub end : Answer
+  pub answered : answer_now (client_of client).call ≡ Some end
+  pub taken : after ≡ driver_take jobs driver end
+
 module _ (shape : Shape) where
   -- 2. Between two calls
 

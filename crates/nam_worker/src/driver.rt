@@ -1,15 +1,16 @@
 //! The retry policy as a value.
 
 ghost use Rattle.std.specs.Prelude.{◌≡◌, ◌↔◌, ◌≤◌, length, slice_get, IsNone, is_some, not};
+ghost use Rattle.nam_protocol.specs.declared.client.Answer.TheVariants.{Txn};
 ghost use Rattle.nam_protocol.specs.declared.client.Call.TheVariants.{Tidy};
 ghost use Rattle.nam_protocol.specs.Driver.{new_driver, call_of, op_call, key_number, place_call, driver_next};
 ghost use Rattle.nam_protocol.specs.Driver.{driver_take};
 ghost use Rattle.nam_worker.specs.Answering.{AnswersNext, AreJobs};
 ghost use Rattle.nam_worker.specs.Driving.{point_of};
 
-use crate::driving::{Registers, Step, take};
+use crate::driving::{Registers, Step, take, take_end};
 use lists::ShortList;
-use nam_protocol::{Answer, Call, Job, TxnCall};
+use nam_protocol::{Answer, Call, Job, TxnAnswer, TxnCall};
 use si_model::{Key, Op, Policy};
 use std::marker::Model;
 
@@ -174,5 +175,14 @@ impl Driver {
         ensures { self.new ≡ driver_take jobs.now self.old answer.now }
     {
         take(&mut self.registers, jobs, answer);
+    }
+
+    /// Takes the answer of the open transaction to the next call: as `take` does, without a copy of it.
+    pub fn take_txn(&mut self, jobs: &[Job], end: &TxnAnswer)
+        requires asked { AnswersNext (driver_next jobs.now self.old) (Txn end.now) }
+        requires jobs { AreJobs jobs.now }
+        ensures { self.new ≡ driver_take jobs.now self.old (Txn end.now) }
+    {
+        take_end(&mut self.registers, jobs, end);
     }
 }

@@ -2,6 +2,7 @@
 
 ghost use Rattle.std.specs.Prelude.{◌≡◌, ◌≤◌, ◌<◌, ◌+◌, ◌^◌, true, slice_get};
 ghost use Rattle.std.specs.List.{AllByRecursion};
+ghost use Rattle.nam_protocol.specs.declared.client.Answer.TheVariants.{Txn};
 ghost use Rattle.nam_protocol.specs.AttemptLaw.{has_passed};
 ghost use Rattle.nam_protocol.specs.Driver.{next_job, next_try, retried, tidying, on_full, on_commit};
 ghost use Rattle.nam_protocol.specs.Driver.{on_txn, on_begin, on_ask, on_tidy, keys_of_job, driver_next, driver_take};
@@ -221,4 +222,29 @@ pub fn take(a: &mut Registers, jobs: &[Job], answer: &Answer)
             };
         }
     }
+}
+
+/// Takes the answer of the transaction to the next call.
+#[tactic(auto, using(crate::proofs::DriverLemmas::job_follows, crate::proofs::DriverLemmas::more_follow))]
+pub fn take_end(a: &mut Registers, jobs: &[Job], end: &TxnAnswer)
+    requires counts { DriverCounts (driver_of a.old) }
+    requires asked { AnswersNext (driver_next jobs.now (driver_of a.old)) (Txn end.now) }
+    requires jobs { AreJobs jobs.now }
+    ensures { driver_of a.new ≡ driver_take jobs.now (driver_of a.old) (Txn end.now) }
+{
+    match a.step {
+        Step::Ask { nth } => on_txn(a, jobs, nth, end),
+        _ => take_other(a, jobs, end),
+    }
+}
+
+// The same where no operation or commit was asked.
+#[inline(never)]
+fn take_other(a: &mut Registers, jobs: &[Job], end: &TxnAnswer)
+    requires counts { DriverCounts (driver_of a.old) }
+    requires asked { AnswersNext (driver_next jobs.now (driver_of a.old)) (Txn end.now) }
+    requires jobs { AreJobs jobs.now }
+    ensures { driver_of a.new ≡ driver_take jobs.now (driver_of a.old) (Txn end.now) }
+{
+    take(a, jobs, &Answer::Txn(end.copy()));
 }

@@ -1,4 +1,6 @@
-use Rattle.std.proofs.Common.{sym, ◌∙◌}
+use Rattle.std.proofs.Common.{ap, subst, sym, ◌∙◌}
+use Rattle.nam_protocol.specs.declared.session.DriverState.{DriverState}
+use Rattle.nam_worker.specs.Session.{HasRoomAfter, asking}
 use Rattle.nam_worker.proofs.AskingLemmas.{answers, calls_fall, has_room, is_counted, may_be_asked, over_room}
 use Rattle.nam_worker.proofs.AskingLemmas.{room_after, settled_here, settled_over, settles_first, settles_on}
 use Rattle.nam_worker.proofs.AskingLemmas.{still_uncut, uncut_here, worker_here}
@@ -22,45 +24,49 @@ ask-requires-clause-counted c =
     is_counted c.args.layout.now c.loop-call.client c.loop-call.driver c.args.jobs.now c.loop-call.invariant.can
     c.in-Some.call (sym c.next.ensures.call ∙ c.in-Some.is)
 
-pub returns-in_default-answer-clause-value : goal.returns-in_default-answer-clause-value
-returns-in_default-answer-clause-value c =
-    settled_here c.args.layout.now c.args.jobs.now _ c.loop-call.client c.loop-call.driver c.loop-call.invariant
-    c.in-Some.call (sym c.next.ensures.call ∙ c.in-Some.is) c.ask.new.self c.ask.ensures.client c.ask.ensures.spare
-    (sym c.answer.ensures ∙ c.in_default-answer.is)
-
-pub returns-in_default-answer-clause-room : goal.returns-in_default-answer-clause-room
-returns-in_default-answer-clause-room c =
-    room_after c.args.layout.now c.loop-call.client c.loop-call.driver c.args.jobs.now c.loop-call.invariant.can
+pub hand_answer-requires-clause-answers : goal.hand_answer-requires-clause-answers
+hand_answer-requires-clause-answers c =
+    answers c.args.layout.now c.loop-call.client c.loop-call.driver c.args.jobs.now c.loop-call.invariant.can
     c.in-Some.call (sym c.next.ensures.call ∙ c.in-Some.is) c.ask.new.self c.ask.ensures.client c.ask.ensures.spare
 
-pub returns-in_default-answer-clause-uncut : goal.returns-in_default-answer-clause-uncut
-returns-in_default-answer-clause-uncut c =
+pub returns-then-not-hand_answer-clause-value : goal.returns-then-not-hand_answer-clause-value
+returns-then-not-hand_answer-clause-value c =
+    let none = c.hand_answer.ensures.none c.if-not-hand_answer.true in
+    ap (λ (d : DriverState). asking c.ask.new.self d c.args.jobs.now) none.1
+    ∙ settled_here c.args.layout.now c.args.jobs.now _ c.loop-call.client c.loop-call.driver c.loop-call.invariant
+    c.in-Some.call (sym c.next.ensures.call ∙ c.in-Some.is) c.ask.new.self c.ask.ensures.client c.ask.ensures.spare
+    none.0
+
+pub returns-then-not-hand_answer-clause-room : goal.returns-then-not-hand_answer-clause-room
+returns-then-not-hand_answer-clause-room c =
+    let none = c.hand_answer.ensures.none c.if-not-hand_answer.true in
+    subst (λ (d : DriverState). HasRoomAfter c.args.layout.now c.ask.new.self d c.args.jobs.now) (sym none.1)
+    (room_after c.args.layout.now c.loop-call.client c.loop-call.driver c.args.jobs.now c.loop-call.invariant.can
+    c.in-Some.call (sym c.next.ensures.call ∙ c.in-Some.is) c.ask.new.self c.ask.ensures.client c.ask.ensures.spare)
+
+pub returns-then-not-hand_answer-clause-uncut : goal.returns-then-not-hand_answer-clause-uncut
+returns-then-not-hand_answer-clause-uncut c =
     uncut_here c.args.layout.now c.args.jobs.now _ c.loop-call.client c.loop-call.driver c.loop-call.invariant
     c.in-Some.call (sym c.next.ensures.call ∙ c.in-Some.is) c.ask.new.self c.ask.ensures.client c.ask.ensures.spare
 
-pub returns-in_default-answer-clause-worker : goal.returns-in_default-answer-clause-worker
-returns-in_default-answer-clause-worker c =
+pub returns-then-not-hand_answer-clause-worker : goal.returns-then-not-hand_answer-clause-worker
+returns-then-not-hand_answer-clause-worker c =
     worker_here c.args.layout.now c.args.jobs.now _ c.loop-call.client c.loop-call.driver c.loop-call.invariant
     c.in-Some.call (sym c.next.ensures.call ∙ c.in-Some.is) c.ask.new.self c.ask.ensures.client c.ask.ensures.spare
 
-pub take-requires-clause-asked : goal.take-requires-clause-asked
-take-requires-clause-asked c =
-    answers c.args.layout.now c.loop-call.client c.loop-call.driver c.args.jobs.now c.loop-call.invariant.can
-    c.in-Some.call (sym c.next.ensures.call ∙ c.in-Some.is) c.ask.new.self c.ask.ensures.client c.ask.ensures.spare
-    c.in-Some-answer.answer (sym c.answer.ensures ∙ c.in-Some-answer.is)
-
 pub loop-call-smaller : goal.loop-call-smaller
 loop-call-smaller c =
+    let has = c.hand_answer.ensures.some c.if-not-hand_answer.false in
     calls_fall c.args.layout.now c.args.jobs.now _ c.loop-call.client c.loop-call.driver c.loop-call.invariant
     c.in-Some.call (sym c.next.ensures.call ∙ c.in-Some.is) c.ask.new.self c.ask.ensures.client c.ask.ensures.spare
-    c.in-Some-answer.answer (sym c.answer.ensures ∙ c.in-Some-answer.is) c.take.new.self c.take.ensures
+    has.end has.answered c.hand_answer.new.driver has.taken
 
 pub loop-call-preserved : goal.loop-call-preserved
 loop-call-preserved c =
+    let has = c.hand_answer.ensures.some c.if-not-hand_answer.false in
     settles_on c.args.layout.now c.args.jobs.now _ c.loop-call.client c.loop-call.driver c.loop-call.invariant
     c.in-Some.call (sym c.next.ensures.call ∙ c.in-Some.is) c.ask.new.self c.ask.ensures.client c.ask.ensures.spare
-    c.in-Some-answer.answer (sym c.answer.ensures ∙ c.in-Some-answer.is) c.take.new.self c.take.ensures
-    c.ask.ensures.of
+    has.end has.answered c.hand_answer.new.driver has.taken c.ask.ensures.of
 
 pub returns-clause-value : goal.returns-clause-value
 returns-clause-value c =

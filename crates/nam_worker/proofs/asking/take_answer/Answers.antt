@@ -1,9 +1,10 @@
-use Rattle.std.proofs.Common.{sym, ◌∙◌}
+use Rattle.std.proofs.Common.{subst, sym}
 use Rattle.nam_worker.proofs.asking.take_answer.Goals as goal
 
-pub take-requires-clause-jobs : goal.take-requires-clause-jobs
-take-requires-clause-jobs c = c.requires.jobs_are
+pub hand_answer-requires-clause-answers : goal.hand_answer-requires-clause-answers
+hand_answer-requires-clause-answers c = c.requires.answers
 
 pub settle-requires : goal.settle-requires
 settle-requires c =
-    c.requires.next c.in-Some.answer (sym c.answer.ensures ∙ c.in-Some.is) c.take.new.self c.take.ensures
+    let has = c.hand_answer.ensures.some c.if-hand_answer.true in
+    c.requires.next has.end has.answered c.hand_answer.new.driver has.taken

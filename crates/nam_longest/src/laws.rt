@@ -1,0 +1,11 @@
+//! The longest calls of a client.
+
+ghost use Rattle.nam_longest.specs.LongestLaw.{ToComeLaw, AskedLaw, LongestLaw};
+
+/// A call of a client that fits takes no more verbs than its longest, whatever words it finds: each word leaves fewer
+/// verbs to come at the very most, and right after the ask as many as the longest are to come, or fewer.
+pub fn longest_calls()
+    ensures falls { ToComeLaw }
+    ensures begins { AskedLaw }
+    ensures longest { LongestLaw }
+{}

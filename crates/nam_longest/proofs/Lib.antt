@@ -1,1 +1,5 @@
 pub mod LongestExample
+pub mod ReadToCome
+pub mod TxnToCome
+pub mod ScanToCome
+pub mod ClientToCome

@@ -5,7 +5,7 @@ use Rattle.nam_catalog.specs.declared.form.Form.TheVariants.{Narrow, Held}
 use Rattle.nam_catalog.specs.declared.shape.Shape.{Shape}
 use Rattle.nam_layout.specs.Rows.{row_of}
 use Rattle.nam_calls.specs.Words.{width_of, capacity_of, ring_of}
-use Rattle.nam_protocol.specs.declared.txn.TxnCall.TheVariants.{Get, Put, Add, Del, Need, Guard, Commit}
+use Rattle.nam_protocol.specs.declared.txn.TxnCall.TheVariants.{Get, Put, Add, Del, Need, Guard}
 use Rattle.nam_protocol.specs.declared.client.Call.{Call}
 use Rattle.nam_protocol.specs.declared.client.Call.TheVariants.{Begin, Txn, Scan}
 use Rattle.nam_protocol.specs.declared.client.ClientState.{ClientState}

@@ -3,11 +3,12 @@ use Rattle.std.proofs.Common.{◌≡◌, ℕ, ◌+◌, ◌-◌, ◌*◌, Bool, t
 use Rattle.std.specs.Prelude.{zero, suc, replicate, ◌==◌}
 use Rattle.nam_catalog.specs.declared.form.Form.TheVariants.{Narrow, Held}
 use Rattle.nam_catalog.specs.declared.shape.Shape.{Shape}
+use Rattle.nam_header.specs.Stamp.{stamp_word}
 use Rattle.nam_layout.specs.Rows.{row_of}
 use Rattle.nam_calls.specs.Words.{width_of, capacity_of, ring_of}
-use Rattle.nam_protocol.specs.declared.txn.TxnCall.TheVariants.{Get, Put, Add, Del, Need, Guard}
+use Rattle.nam_protocol.specs.declared.txn.TxnCall.TheVariants.{Get, Put, Add, Del, Need, Guard, Commit}
 use Rattle.nam_protocol.specs.declared.client.Call.{Call}
-use Rattle.nam_protocol.specs.declared.client.Call.TheVariants.{Begin, Txn, Scan}
+use Rattle.nam_protocol.specs.declared.client.Call.TheVariants.{Begin, Txn, Scan, Tidy, Collect}
 use Rattle.nam_protocol.specs.declared.client.ClientState.{ClientState}
 use Rattle.nam_protocol.specs.Bound.{find_bound, claim_bound, scan_bound}
 use Rattle.nam_protocol.specs.Client.{client_ask, client_verb, client_after}
@@ -32,10 +33,13 @@ module _ (shape : Shape) where
   abbrev reader : ClientState
   reader = after_words (client_ask shape (new_client 1 0) (Begin 1 1)) (replicate (2 * shape.workers) 0)
 
-  -- the call takes these words, and they are as many as its longest
+  -- the client's call takes these words, and they are as many as its longest
+  abbrev is_longest_of : ClientState → Call → List ℕ → Bool
+  is_longest_of client call words =
+      takes_all (client_ask shape client call) words && (length words == call_longest shape client call)
+
   abbrev is_longest : Call → List ℕ → Bool
-  is_longest call words =
-      takes_all (client_ask shape reader call) words && (length words == call_longest shape reader call)
+  is_longest call words = is_longest_of reader call words
 
 -- 2. The words of a read
 
@@ -110,6 +114,18 @@ module _ (shape : Shape) (table : ℕ) where
   abbrev whole_scan : List ℕ
   whole_scan = scan_words (capacity_of shape table) 0
 
+  -- each cell but the last is lost to another exchange, and the version is moved to the last one
+  abbrev tidy_words : List ℕ
+  tidy_words =
+      found_last ++ 0 ∷ seen ∷ unseen ∷ times (shape.cells - 1) (0 ∷ 4 ∷ []) ++ 0 ∷ 0 ∷ value
+      ++ replicate (width_of shape table + 3) 0 ++ 0 ∷ 0 ∷ 0 ∷ []
+
+-- each entry of the horizon is raised, and each cell set free
+abbrev collect_words : Shape → List ℕ
+collect_words shape =
+    replicate (2 * shape.workers) 1 ++ replicate (2 * shape.workers) 0
+    ++ times shape.cells (full ∷ stamp_word shape.form (record { thread = 1; number = 1 }) ∷ full ∷ [])
+
 -- a table of two positions
 abbrev small : Shape
 small = shape Narrow 2 (table 1 2 1 ∷ []) 1 2 0
@@ -158,8 +174,29 @@ large_scan = refl
 lone_scan : is_longest lone (Scan 0 0 9) (whole_scan lone 0) ≡ true
 lone_scan = refl
 
-large_begin : is_longest large (Begin 1 2) (replicate 6 0) ≡ true
+large_begin : is_longest_of large (new_client 1 0) (Begin 1 1) (replicate 6 0) ≡ true
 large_begin = refl
+
+large_tidy : is_longest_of large (new_client 1 0) (Tidy 1 0) (tidy_words large 1) ≡ true
+large_tidy = refl
+
+large_collect : is_longest_of large (new_client 1 0) (Collect 1) (collect_words large) ≡ true
+large_collect = refl
+
+-- a key is written and another one guarded
+abbrev writer : Shape → ClientState
+writer shape =
+    let wrote = after_words shape (client_ask shape (reader shape) (Txn (Put 0 0 (7 ∷ [])))) (1 ∷ []) in
+    after_words shape (client_ask shape wrote (Txn (Guard 0 1))) (0 ∷ 2 ∷ [])
+
+-- in form Held the intent is listed first, and counted and decided after the locks and the slot
+small_commit : is_longest_of small (writer small) (Txn Commit)
+    (replicate 4 0 ++ 0 ∷ 4 ∷ replicate 10 0) ≡ true
+small_commit = refl
+
+large_commit : is_longest_of large (writer large) (Txn Commit)
+    (replicate 7 0 ++ replicate 4 0 ++ 0 ∷ 4 ∷ replicate 13 0) ≡ true
+large_commit = refl
 
 -- 4. How far below their bounds they are
 

@@ -1,3 +1,6 @@
+pub mod LastsMachines
+pub mod LastsRead
+pub mod LastsTxn
 pub mod LongestExample
 pub mod ReadToCome
 pub mod TxnToCome

@@ -1,9 +1,13 @@
 -- No words make a call of a client take more verbs than its longest.
-use Rattle.std.specs.Prelude.{◌≡◌, ℕ, ◌<◌, ◌≤◌, false, List, [], ◌∷◌, length, Some, IsSome}
+use Rattle.std.specs.Prelude.{◌≡◌, ℕ, ◌<◌, ◌≤◌, false, List, [], ◌∷◌, length, Option, Some, None, IsSome}
+use Rattle.si_model.specs.Rows.{key_at, writes_key}
 use Rattle.nam_verbs.specs.declared.now.Now.TheVariants.{At}
 use Rattle.nam_catalog.specs.declared.shape.Shape.{Shape}
 use Rattle.nam_catalog.specs.Fits.{FitsLimits}
+use Rattle.nam_protocol.specs.declared.txn.TxnCall.TheVariants.{Get, Put, Del, Need, Guard}
 use Rattle.nam_protocol.specs.declared.client.Call.{Call}
+use Rattle.nam_protocol.specs.declared.client.Call.TheVariants.{Txn, Scan}
+use Rattle.nam_protocol.specs.declared.client.Open.{Open}
 use Rattle.nam_protocol.specs.declared.client.CallPoint.{CallPoint}
 use Rattle.nam_protocol.specs.declared.client.ClientState.{ClientState}
 use Rattle.nam_protocol.specs.Client.{client_ask, client_verb, client_after}
@@ -35,3 +39,29 @@ LongestLaw = (shape : Shape) → FitsLimits shape → (client : ClientState) (ca
     → CallStands shape client.txn call
     → (words : List ℕ) → TakesWords shape (client_ask shape client call) words
     → length words ≤ call_longest shape client call
+
+-- the words that a call takes may be so many
+abbrev pub LastsWords : Shape → ClientState → ℕ → Type 0
+LastsWords shape client n = (words : List ℕ) × TakesWords shape client words × (length words ≡ n)
+
+-- the transaction that is open writes another key than this one, whose operation takes no verb
+abbrev pub Unwritten : Option Open → ℕ → ℕ → Type 0
+Unwritten None table key = ⊥
+Unwritten (Some attempt) table key = writes_key attempt.state.writes (key_at table key) ≡ false
+
+-- Calls that may last as long as their longest: a get or another operation but an add, of a key that isn't written, and a
+-- scan of a range that has such a key
+abbrev pub MayLast : Option Open → Call → Type 0
+MayLast opened (Txn (Get t k)) = Unwritten opened t k
+MayLast opened (Txn (Put t k v)) = Unwritten opened t k
+MayLast opened (Txn (Del t k)) = Unwritten opened t k
+MayLast opened (Txn (Need t k f least)) = Unwritten opened t k
+MayLast opened (Txn (Guard t k)) = Unwritten opened t k
+MayLast opened (Scan table low high) = (key : ℕ) × (low ≤ key) × (key ≤ high) × Unwritten opened table key
+MayLast opened call = ⊥
+
+-- some words make the call last as long as its longest
+abbrev pub ReachedLaw : Type 0
+ReachedLaw = (shape : Shape) → FitsLimits shape → (client : ClientState) (call : Call) → ClientFits shape client
+    → CallStands shape client.txn call → client.cut ≡ false → MayLast client.txn call
+    → LastsWords shape (client_ask shape client call) (call_longest shape client call)

@@ -1,0 +1,105 @@
+-- Words that make a call of a transaction last as long as it can.
+use Rattle.std.proofs.Common.{◌≡◌, ℕ, suc, ◌+◌, ◌-◌, ◌*◌, ◌<◌, ◌≤◌, List, [], ◌∷◌, ◌++◌, length, refl, arith, Bool}
+use Rattle.std.proofs.Common.{true, false, Option, Some, None}
+use Rattle.std.specs.Prelude.{if◌then◌else◌, max, IsSome}
+use Rattle.si_model.specs.Rows.{key_at, writes_key}
+use Rattle.si_model.specs.Evaluation.{op_key}
+use Rattle.si_model.specs.declared.op.Op.{Op}
+use Rattle.si_model.specs.declared.op.Op.TheVariants as op
+use Rattle.nam_verbs.specs.declared.now.Now.{Now}
+use Rattle.nam_verbs.specs.declared.now.Now.TheVariants.{At, Over}
+use Rattle.nam_catalog.specs.declared.shape.Shape.{Shape}
+use Rattle.nam_catalog.specs.Fits.{FitsLimits}
+use Rattle.nam_calls.specs.Words.{capacity_of}
+use Rattle.nam_calls.specs.Index.{find_begin, claim_key_begin, nth_position}
+use Rattle.nam_calls.specs.Reading.{sight_of, read_begin, read_left, read_most}
+use Rattle.nam_calls.specs.Fits.{IsTableOf}
+use Rattle.nam_calls.proofs.FallsTables.{has_capacity, sight_fits, read_figure}
+use Rattle.nam_protocol.specs.declared.txn.TxnState.{TxnState}
+use Rattle.nam_protocol.specs.declared.txn.TxnPoint.{TxnPoint}
+use Rattle.nam_protocol.specs.declared.txn.TxnPoint.TheVariants.{Finding, Reading, Claiming}
+use Rattle.nam_protocol.specs.declared.txn.TxnAnswer.{TxnAnswer}
+use Rattle.nam_protocol.specs.declared.txn.TxnAnswer.TheVariants.{NoSpace, Astray}
+use Rattle.nam_protocol.specs.declared.client.CallPoint.TheVariants.{InTxn}
+use Rattle.nam_protocol.specs.declared.client.Open.{Open}
+use Rattle.nam_protocol.specs.declared.client.ClientState.{ClientState}
+use Rattle.nam_protocol.specs.Operations.{op_path, read_of}
+use Rattle.nam_protocol.specs.Txn.{Stepped, at, over, on_find, on_read, on_claim, on_value}
+use Rattle.nam_protocol.specs.TxnCalls.{txn_after, taken_at}
+use Rattle.nam_protocol.specs.Log.{with_locks}
+use Rattle.nam_protocol.specs.Telling.{go, new_locks, stepped}
+use Rattle.nam_protocol.specs.Client.{client_verb, client_after}
+use Rattle.nam_longest.specs.Longest.{value_longest}
+use Rattle.nam_longest.specs.LongestLaw.{LastsWords}
+use Rattle.nam_longest.proofs.LastsMachines.{find_lasts, claim_lasts}
+use Rattle.nam_longest.proofs.LastsRead.{goes_astray, finds_last}
+
+module _ (shape : Shape) where
+  -- a word before the others
+  pub word_first : (client : ClientState) (found n m : ℕ) → m ≡ n + 1 → IsSome (client_verb shape client)
+      → LastsWords shape (client_after shape client found) n → LastsWords shape client m
+  word_first client found n m e some h = let l = h.2 in (found ∷ h.0, (some, h.1), omega arith)
+
+  -- each client whose transaction has stepped so lasts as long
+  abbrev pub TxnLasts : Stepped → ℕ → Type 0
+  TxnLasts step n = (client : ClientState) (attempt : Open) (before : ℕ) → client.cut ≡ false
+      → LastsWords shape (stepped client attempt before step) n
+
+  over_lasts : (state : TxnState) (answer : TxnAnswer) → TxnLasts (over state answer) 0
+  over_lasts state answer client attempt before runs = ([], tt, refl)
+
+  at_lasts : (state : TxnState) (place : TxnPoint) (found n m : ℕ) → m ≡ n + 1
+      → TxnLasts (txn_after shape state place found) n → TxnLasts (at state place) m
+  at_lasts state place found n m e h client attempt before runs =
+      let locks = new_locks state before (taken_at state place) in
+      let later = record client { log = with_locks client.log locks } in
+      let now = record attempt { locks = attempt.locks + length locks; state = state } in
+      let there = go (record later { txn = Some now }) (InTxn place) in
+      word_first there found n m e (rw runs refl) (h there now (length (taken_at state place)) runs)
+
+  module _ (limits : FitsLimits shape) (op : Op) (is : IsTableOf shape (op_key op).table) where
+    abbrev table : ℕ
+    table = (op_key op).table
+
+    least : 1 ≤ capacity_of shape table
+    least = has_capacity shape limits table is
+
+    -- the key is at the last position of its path
+    found_at : (state : TxnState) (n m : ℕ) → m ≡ n + capacity_of shape table
+        → ((position : ℕ) → position < capacity_of shape table → TxnLasts (at state (Reading op position read_begin)) n)
+        → TxnLasts (at state (Finding op find_begin)) m
+    found_at state n m e all =
+        let c = least in
+        find_lasts (op_path shape op) (λ now n. TxnLasts (on_find shape state op now) n)
+        (λ passed. at_lasts state (Finding op passed)) (capacity_of shape table - 1) 0 n m (omega arith) (omega arith)
+        (λ last l. all (nth_position (op_path shape op) last) (omega arith))
+
+    pub claimed_last : (state : TxnState) → TxnLasts (at state (Claiming op claim_key_begin)) (2 * capacity_of shape table)
+    claimed_last state =
+        let c = least in
+        claim_lasts (op_path shape op) (λ now n. TxnLasts (on_claim shape state op now) n)
+        (λ at. at_lasts state (Claiming op at)) (capacity_of shape table - 1) 0 0 _ (omega arith) (omega arith)
+        (over_lasts state (NoSpace table))
+
+    -- the read looks at everything, and ends without a value
+    pub astray_last : (state : TxnState)
+        → TxnLasts (at state (Finding op find_begin)) (capacity_of shape table + read_most shape table - 1)
+    astray_last state =
+        found_at state (read_most shape table - 1) _ (omega arith)
+        (λ position l.
+        let f = read_figure shape limits table position is l in
+        goes_astray (sight_of shape table position) (sight_fits shape limits table position is l) state.seen 0
+        (λ value. Unit {0}) tt (λ got q. tt) (λ now n. TxnLasts (on_read shape state op position now) n)
+        (λ at. at_lasts state (Reading op position at)) 0 _ (omega arith) (over_lasts state Astray))
+
+    -- the read finds a value at the very last
+    pub valued_last : (state : TxnState) (n m : ℕ) → m ≡ n + capacity_of shape table + value_longest shape table
+        → ((value : List ℕ) → TxnLasts (on_value shape state op (Some value)) n)
+        → TxnLasts (at state (Finding op find_begin)) m
+    valued_last state n m e found =
+        found_at state (n + value_longest shape table) m (omega arith)
+        (λ position l.
+        let f = read_figure shape limits table position is l in
+        finds_last (sight_of shape table position) (sight_fits shape limits table position is l) state.seen 0
+        (λ value. Unit {0}) tt (λ got q. tt) (λ now n. TxnLasts (on_read shape state op position now) n)
+        (λ at. at_lasts state (Reading op position at)) n _ (omega arith) (λ value wide q. found value))

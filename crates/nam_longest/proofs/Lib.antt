@@ -1,6 +1,7 @@
 pub mod LastsMachines
 pub mod LastsRead
 pub mod LastsTxn
+pub mod LastsClient
 pub mod LongestExample
 pub mod ReadToCome
 pub mod TxnToCome

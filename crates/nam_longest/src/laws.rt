@@ -1,6 +1,6 @@
 //! The longest calls of a client.
 
-ghost use Rattle.nam_longest.specs.LongestLaw.{ToComeLaw, AskedLaw, LongestLaw};
+ghost use Rattle.nam_longest.specs.LongestLaw.{ToComeLaw, AskedLaw, LongestLaw, ReachedLaw};
 
 /// A call of a client that fits takes no more verbs than its longest, whatever words it finds: each word leaves fewer
 /// verbs to come at the very most, and right after the ask as many as the longest are to come, or fewer.
@@ -8,4 +8,5 @@ pub fn longest_calls()
     ensures falls { ToComeLaw }
     ensures begins { AskedLaw }
     ensures longest { LongestLaw }
+    ensures reached { ReachedLaw }
 {}

@@ -14,7 +14,8 @@ use Rattle.nam_verbs.specs.declared.now.Now.{Now}
 use Rattle.nam_verbs.specs.declared.now.Now.TheVariants.{At, Over}
 use Rattle.nam_catalog.specs.declared.shape.Shape.{Shape}
 use Rattle.nam_catalog.specs.Fits.{FitsLimits}
-use Rattle.nam_calls.specs.Words.{capacity_of}
+use Rattle.nam_calls.specs.Holds.{IsWord}
+use Rattle.nam_calls.specs.Words.{capacity_of, key_word}
 use Rattle.nam_calls.specs.Index.{find_begin, claim_key_begin}
 use Rattle.nam_calls.specs.Reading.{sight_of, read_begin, read_most}
 use Rattle.nam_calls.specs.Fits.{IsTableOf}
@@ -47,24 +48,25 @@ use Rattle.nam_longest.specs.Longest.{call_longest}
 use Rattle.nam_longest.specs.LongestLaw.{LastsWords, Unwritten, MayLast}
 use Rattle.nam_longest.proofs.LastsMachines.{on_true, on_false}
 use Rattle.nam_longest.proofs.LastsRead.{goes_astray, finds_last}
-use Rattle.nam_longest.proofs.LastsTxn.{word_first, TxnLasts, claimed_last, astray_last, valued_last}
+use Rattle.nam_longest.proofs.LastsTxn.{row_word, word_first, TxnLasts, claimed_last, astray_last, valued_last}
 
 -- 1. A scan
 
 module _ (shape : Shape) (limits : FitsLimits shape) (table low high : ℕ) (is : IsTableOf shape table)
     (attempt : Open) (key : ℕ) (above : low ≤ key) (below : key ≤ high)
+    (word : IsWord (key_word key))
     (unwritten : writes_key attempt.state.writes (key_at table key) ≡ false) where
   -- each client of the transaction whose scan has stepped so, at this position, lasts as long
   abbrev ScanLasts : ℕ → Now ScanPoint ScanAnswer → ℕ → Type 0
   ScanLasts position now n = (client : ClientState) → client.cut ≡ false → client.txn ≡ Some attempt
       → LastsWords shape (on_scan shape client attempt table low high position now) n
 
-  scan_lasts_more : (position : ℕ) (place : ScanPoint) (found n m : ℕ) → m ≡ n + 1
+  scan_lasts_more : (position : ℕ) (place : ScanPoint) (found n m : ℕ) → IsWord found → m ≡ n + 1
       → ScanLasts (position_of place) (scan_after shape table low high attempt.state.seen place found) n
       → ScanLasts position (At place) m
-  scan_lasts_more position place found n m e h client runs opened =
+  scan_lasts_more position place found n m is e h client runs opened =
       let there = go client (Scanning table low high place) in
-      word_first shape there found n m e (rw runs refl)
+      word_first shape there found n m is e (rw runs refl)
       (subst (λ (txn : Option Open). LastsWords shape (take_scan shape there table low high place txn found) n)
       (sym opened) (h there runs opened))
 
@@ -73,7 +75,7 @@ module _ (shape : Shape) (limits : FitsLimits shape) (table low high : ℕ) (is 
       → ScanLasts position (At (ScanKey position)) m
   key_lasts position n m e h =
       let same : key + 1 - 1 ≡ key = omega arith in
-      scan_lasts_more position (ScanKey position) (key + 1) n m e
+      scan_lasts_more position (ScanKey position) (key + 1) n m word e
       (on_true (λ now. ScanLasts position now n) (in_range low high (key + 1)) (Over (Key (key + 1 - 1)))
       (scan_skip shape table position) (grind (arith, nat_tests))
       (rw same (λ client runs opened. on_false (λ after. LastsWords shape after n)
@@ -87,19 +89,19 @@ module _ (shape : Shape) (limits : FitsLimits shape) (table low high : ℕ) (is 
       let l : position < capacity_of shape table = omega arith in
       let r = read_figure shape limits table position is l in
       key_lasts position (read_most shape table - 1) m (omega arith)
-      (goes_astray (sight_of shape table position) (sight_fits shape limits table position is l) attempt.state.seen 0
-      (λ value. Unit {0}) tt (λ got q. tt)
+      (goes_astray (sight_of shape table position) (sight_fits shape limits table position is l) attempt.state.seen
+      (row_word shape limits table position is l) 0 (omega arith) (λ value. Unit {0}) tt (λ got q. tt)
       (λ now n. ScanLasts position (on_scan_read table position key now) n)
       (λ at. scan_lasts_more position (ScanRead position key at)) 0 _ (omega arith)
-      (λ client runs opened. ([], tt, refl)))
+      (λ client runs opened. ([], tt, tt, refl)))
   positions_last (suc rest) position m e f =
       let l : position < capacity_of shape table = omega arith in
       let r = read_figure shape limits table position is l in
       let k = rest * (1 + value_longest shape table) + read_most shape table in
       let t = suc-mul rest (1 + value_longest shape table) in
       key_lasts position (k + value_longest shape table) m (omega arith)
-      (finds_last (sight_of shape table position) (sight_fits shape limits table position is l) attempt.state.seen 0
-      (λ value. Unit {0}) tt (λ got q. tt)
+      (finds_last (sight_of shape table position) (sight_fits shape limits table position is l) attempt.state.seen
+      (row_word shape limits table position is l) 0 (omega arith) (λ value. Unit {0}) tt (λ got q. tt)
       (λ now n. ScanLasts position (on_scan_read table position key now) n)
       (λ at. scan_lasts_more position (ScanRead position key at)) k _ (omega arith)
       (λ value wide q client runs opened.
@@ -145,17 +147,17 @@ module _ (shape : Shape) (limits : FitsLimits shape) where
         on_false (λ step. TxnLasts shape step n) (writes_key state.writes (op_key op)) _ _ unwritten
         (on_false (λ step. TxnLasts shape step n) (op_reads op) _ _ reads h)
 
-  guard_lasts : (t k : ℕ) (state : TxnState) → IsTableOf shape t
+  guard_lasts : (t k : ℕ) (state : TxnState) → IsTableOf shape t → IsWord (key_word k)
       → TxnLasts shape (at state (Finding (op.Guard t k) find_begin)) (guard_longest shape t)
-  guard_lasts t k state is =
+  guard_lasts t k state is word =
       let of = op.Guard t k in
       larger (λ n. TxnLasts shape (at state (Finding of find_begin))
       (capacity_of shape t + value_longest shape t + n)) (claim_bound shape t) shape.workers
-      (valued_last shape limits of is state (claim_bound shape t) _ (omega arith)
-      (λ value. claimed_last shape limits of is (record state { read = read_of of (Some value) })))
+      (valued_last shape limits of is word state (claim_bound shape t) _ (omega arith)
+      (λ value. claimed_last shape limits of is word (record state { read = read_of of (Some value) })))
       (let same : capacity_of shape t + read_most shape t - 1
       ≡ capacity_of shape t + value_longest shape t + shape.workers = omega arith in
-      subst (TxnLasts shape (at state (Finding of find_begin))) same (astray_last shape limits of is state))
+      subst (TxnLasts shape (at state (Finding of find_begin))) same (astray_last shape limits of is word state))
 
   pub op_reached : (client : ClientState) (opened : Option Open) (call : TxnCall) → client.cut ≡ false
       → OpenCallFits shape opened call → MayLast opened (Txn call)
@@ -163,43 +165,44 @@ module _ (shape : Shape) (limits : FitsLimits shape) where
   op_reached client None call runs stands may = absurd stands
   op_reached client (Some attempt) (Get t k) runs stands may =
       reads_lasts (op.Get t k) attempt.state may (get_longest shape t) refl
-      (astray_last shape limits (op.Get t k) (op_table shape limits attempt.state.claims (op.Get t k) stands)
+      (astray_last shape limits (op.Get t k) (op_table shape limits attempt.state.claims (op.Get t k) stands) stands.2
       (record attempt.state { read = None }))
       client (with_call attempt (Get t k)) 0 runs
   op_reached client (Some attempt) (Put t k v) runs stands may =
       claims_last (op.Put t k v) attempt.state may (claim_bound shape t) refl
-      (claimed_last shape limits (op.Put t k v) (op_table shape limits attempt.state.claims (op.Put t k v) stands)
+      (claimed_last shape limits (op.Put t k v) (op_table shape limits attempt.state.claims (op.Put t k v) stands) stands.2
       (record attempt.state { read = None }))
       client (with_call attempt (Put t k v)) 0 runs
   op_reached client (Some attempt) (Add t k f up by) runs stands may = absurd may
   op_reached client (Some attempt) (Del t k) runs stands may =
       claims_last (op.Del t k) attempt.state may (claim_bound shape t) refl
-      (claimed_last shape limits (op.Del t k) (op_table shape limits attempt.state.claims (op.Del t k) stands)
+      (claimed_last shape limits (op.Del t k) (op_table shape limits attempt.state.claims (op.Del t k) stands) stands.2
       (record attempt.state { read = None }))
       client (with_call attempt (Del t k)) 0 runs
   op_reached client (Some attempt) (Need t k f least) runs stands may =
       reads_lasts (op.Need t k f least) attempt.state may (get_longest shape t) refl
       (astray_last shape limits (op.Need t k f least)
-      (op_table shape limits attempt.state.claims (op.Need t k f least) stands)
+      (op_table shape limits attempt.state.claims (op.Need t k f least) stands) stands.2
       (record attempt.state { read = None }))
       client (with_call attempt (Need t k f least)) 0 runs
   op_reached client (Some attempt) (Guard t k) runs stands may =
       reads_lasts (op.Guard t k) attempt.state may (guard_longest shape t) refl
       (guard_lasts t k (record attempt.state { read = None })
-      (op_table shape limits attempt.state.claims (op.Guard t k) stands))
+      (op_table shape limits attempt.state.claims (op.Guard t k) stands) stands.2)
       client (with_call attempt (Guard t k)) 0 runs
   op_reached client (Some attempt) Commit runs stands may = absurd may
 
   -- 3. A scan, and each call
 
   scan_reached : (client : ClientState) (opened : Option Open) (table low high key : ℕ) → client.cut ≡ false
-      → IsSome opened → IsTableOf shape table → low ≤ key → key ≤ high → Unwritten opened table key
+      → IsSome opened → IsTableOf shape table → low ≤ key → key ≤ high
+      → IsWord (key_word key) → Unwritten opened table key
       → LastsWords shape (ask_scan shape client table low high opened) (scan_longest shape table)
-  scan_reached client None table low high key runs some is above below may = absurd (cc)
-  scan_reached client (Some attempt) table low high key runs some is above below may =
+  scan_reached client None table low high key runs some is above below word may = absurd (cc)
+  scan_reached client (Some attempt) table low high key runs some is above below word may =
       let with_scan =
       record attempt { ops = attempt.ops + 1; ops_so_far = attempt.ops_so_far + capacity_of shape table } in
-      whole_lasts shape limits table low high is with_scan key above below may
+      whole_lasts shape limits table low high is with_scan key above below word may
       (record client { txn = Some with_scan; scanned = [] }) runs refl
 
   pub reached : (client : ClientState) (call : Call) → ClientFits shape client → CallStands shape client.txn call
@@ -208,6 +211,6 @@ module _ (shape : Shape) (limits : FitsLimits shape) where
   reached client (Begin txn nth) fits stands runs may = absurd may
   reached client (Txn call) fits stands runs may = op_reached client client.txn call runs stands may
   reached client (Scan table low high) fits stands runs may =
-      scan_reached client client.txn table low high may.0 runs stands.0 stands.1 may.1 may.2 may.3
+      scan_reached client client.txn table low high may.0 runs stands.0 stands.1 may.1 may.2 may.3 may.4
   reached client (Tidy table key) fits stands runs may = absurd may
   reached client (Collect bucket) fits stands runs may = absurd may

@@ -6,6 +6,7 @@ use Rattle.std.proofs.Math.Nat.{suc-mul}
 use Rattle.std.specs.Prelude.{if◌then◌else◌, ◌==◌, nat_lt, slice_index}
 use Rattle.std.proofs.lemmas.Bool.{eq-eqb}
 use Rattle.std.proofs.lemmas.Bool.Decides.{nat_tests}
+use Rattle.nam_verbs.proofs.TestLemmas.{by_test}
 use Rattle.nam_verbs.specs.Until.{until}
 use Rattle.nam_verbs.specs.declared.now.Now.{Now}
 use Rattle.nam_verbs.specs.declared.now.Now.TheVariants.{At, Over}
@@ -36,6 +37,7 @@ use Rattle.nam_calls.specs.declared.overflow.CellPoint.TheVariants.{CellTag, Cel
 use Rattle.nam_calls.specs.declared.overflow.CellPoint.TheVariants.{CellWords, CellAgain}
 use Rattle.nam_calls.specs.declared.horizon.OldEnd.{OldEnd}
 use Rattle.nam_calls.specs.declared.horizon.OldEnd.TheVariants.{TooOld, NotPassed}
+use Rattle.nam_calls.specs.Holds.{IsWord}
 use Rattle.nam_calls.specs.Words.{key_word}
 use Rattle.nam_calls.specs.Index.{nth_position, find_after, claim_key_after}
 use Rattle.nam_calls.specs.Record.{current_after}
@@ -85,32 +87,32 @@ other_8 Held = refl
 
 -- before a word that leads on it lasts one verb more
 abbrev pub LastsMore : {P E : Type 0} → (Now P E → ℕ → Type 0) → (P → ℕ → Now P E) → Type 0
-LastsMore {P = P} Lasts after = (at : P) (found n m : ℕ) → m ≡ n + 1 → Lasts (after at found) n → Lasts (At at) m
+LastsMore {P = P} Lasts after = (at : P) (found n m : ℕ) → IsWord found → m ≡ n + 1 → Lasts (after at found) n → Lasts (At at) m
 
 -- 2. Words one after another
 
 -- a word is read so many times; what holds of the words so far may hold of all
-words_last : {P E : Type 0} (Lasts : Now P E → ℕ → Type 0) (word : ℕ) (Q : List ℕ → Type 0) (width : ℕ) (more done : List ℕ → P)
-    → ((got : List ℕ) (found n m : ℕ) → m ≡ n + 1 → Lasts (At (until width (got ++ found ∷ []) more done)) n
+words_last : {P E : Type 0} (Lasts : Now P E → ℕ → Type 0) (word : ℕ) (is : IsWord word) (Q : List ℕ → Type 0) (width : ℕ) (more done : List ℕ → P)
+    → ((got : List ℕ) (found n m : ℕ) → IsWord found → m ≡ n + 1 → Lasts (At (until width (got ++ found ∷ []) more done)) n
     → Lasts (At (more got)) m)
     → ((got : List ℕ) → Q got → Q (got ++ word ∷ []))
     → (rest : ℕ) (got : List ℕ) (n m : ℕ) → Q got → length got + suc rest ≡ width → m ≡ n + suc rest
     → ((value : List ℕ) → length value ≡ width → Q value → Lasts (At (done value)) n)
     → Lasts (At (more got)) m
-words_last Lasts word Q width more done step grows zero got n m q e f all =
-    step got word n m (omega arith)
+words_last Lasts word is Q width more done step grows zero got n m q e f all =
+    step got word n m is (omega arith)
     (one_more (λ at. Lasts (At at) n) width got word more done (omega arith) (λ a b. absurd (omega arith))
     (λ a b. all (got ++ word ∷ []) b (grows got q)))
-words_last Lasts word Q width more done step grows (suc rest) got n m q e f all =
-    step got word (n + suc rest) m (omega arith)
+words_last Lasts word is Q width more done step grows (suc rest) got n m q e f all =
+    step got word (n + suc rest) m is (omega arith)
     (one_more (λ at. Lasts (At at) (n + suc rest)) width got word more done (omega arith)
-    (λ a b. words_last Lasts word Q width more done step grows rest (got ++ word ∷ []) n (n + suc rest) (grows got q)
+    (λ a b. words_last Lasts word is Q width more done step grows rest (got ++ word ∷ []) n (n + suc rest) (grows got q)
     (omega arith) refl all)
     (λ a b. absurd (omega arith)))
 
 -- 3. A position's words
 
-module _ (place : Place) (fits : FitsPlace place) (seen : List ℕ) (word : ℕ) (Q : List ℕ → Type 0) (none : Q [])
+module _ (place : Place) (fits : FitsPlace place) (seen : List ℕ) (word : ℕ) (is : IsWord word) (Q : List ℕ → Type 0) (none : Q [])
     (grows : (got : List ℕ) → Q got → Q (got ++ word ∷ [])) where
   module _ (Lasts : Now CurrentPoint CurrentEnd → ℕ → Type 0) (step : LastsMore Lasts (current_after place seen)) where
     -- a version that the snapshot sees, locked once its words are read
@@ -119,12 +121,12 @@ module _ (place : Place) (fits : FitsPlace place) (seen : List ℕ) (word : ℕ)
         → Lasts (At CurrentHead) m
     current_lasts n m e all =
         let w = fits.least_width in
-        step CurrentHead 0 (n + (place.width + 1)) m (omega arith)
+        step CurrentHead 0 (n + (place.width + 1)) m (omega arith) (omega arith)
         (on_true (λ now. Lasts now (n + (place.width + 1))) _ _ (Over current.GoOld) (sees_0 place.form seen)
         (on_false (λ now. Lasts now (n + (place.width + 1))) _ (Over (current.Found None)) _ (kept_0 place.form)
-        (words_last Lasts word Q place.width (CurrentWords 0) (CurrentAgain 0) (λ got. step (CurrentWords 0 got)) grows
+        (words_last Lasts word is Q place.width (CurrentWords 0) (CurrentAgain 0) (λ got. step (CurrentWords 0 got)) grows
         (place.width - 1) [] (n + 1) (n + (place.width + 1)) none (omega arith) (omega arith)
-        (λ value wide q. step (CurrentAgain 0 value) 1 n (n + 1) refl
+        (λ value wide q. step (CurrentAgain 0 value) 1 n (n + 1) (omega arith) refl
         (on_true (λ now. Lasts now n) _ _ (Over current.GoOld) (same_1 place.form)
         (on_true (λ now. Lasts now n) (is_locked place.form 0 || is_locked place.form 1) (Over (Unsure value 0))
         (Over (current.Found (Some value)))
@@ -140,14 +142,14 @@ module _ (place : Place) (fits : FitsPlace place) (seen : List ℕ) (word : ℕ)
         → Lasts (At (SlotHead slot)) m
     lost_slot slot n m e next =
         let w = fits.least_width in
-        step (SlotHead slot) 0 (n + (place.width + 2)) m (omega arith)
+        step (SlotHead slot) 0 (n + (place.width + 2)) m (omega arith) (omega arith)
         (on_false (λ now. Lasts now (n + (place.width + 2))) (not (sees place.form seen 0)) _ _
         (rw (sees_0 place.form seen) refl)
-        (step (SlotEnding slot 0) 8 (n + (place.width + 1)) _ (omega arith)
+        (step (SlotEnding slot 0) 8 (n + (place.width + 1)) _ (omega arith) (omega arith)
         (on_false (λ now. Lasts now (n + (place.width + 1))) _ _ _ (sees_not_8 place.form seen)
-        (words_last Lasts word Q place.width (SlotWords slot 0) (SlotAgain slot 0) (λ got. step (SlotWords slot 0 got)) grows
+        (words_last Lasts word is Q place.width (SlotWords slot 0) (SlotAgain slot 0) (λ got. step (SlotWords slot 0 got)) grows
         (place.width - 1) [] (n + 1) (n + (place.width + 1)) none (omega arith) (omega arith)
-        (λ value wide q. step (SlotAgain slot 0 value) 8 n (n + 1) refl
+        (λ value wide q. step (SlotAgain slot 0 value) 8 n (n + 1) (omega arith) refl
         (on_false (λ now. Lasts now n) (same_stamp place.form 8 0 && true) _ _ (rw (other_8 place.form) refl) next))))))
 
     lost_slots : (rest slot n m : ℕ) → slot + suc rest ≡ place.ring → m ≡ n + suc rest * (place.width + 3)
@@ -170,7 +172,7 @@ module _ (place : Place) (fits : FitsPlace place) (seen : List ℕ) (word : ℕ)
 
   -- 4. The cells
 
-  module _ (cells : Cells) (Lasts : Now CellPoint SearchEnd → ℕ → Type 0)
+  module _ (row : IsWord place.row) (cells : Cells) (Lasts : Now CellPoint SearchEnd → ℕ → Type 0)
       (step : LastsMore Lasts (cell_after cells place seen)) where
     -- a full cell of the row, up to its last word
     filled_cell : (cell n m : ℕ) → m ≡ n + (place.width + 4)
@@ -178,31 +180,31 @@ module _ (place : Place) (fits : FitsPlace place) (seen : List ℕ) (word : ℕ)
         → Lasts (At (CellTag cell)) m
     filled_cell cell n m e all =
         let w = fits.least_width in
-        step (CellTag cell) 2 (n + (place.width + 3)) m (omega arith)
-        (step (CellOwner cell 2) place.row (n + (place.width + 2)) _ (omega arith)
+        step (CellTag cell) 2 (n + (place.width + 3)) m (omega arith) (omega arith)
+        (step (CellOwner cell 2) place.row (n + (place.width + 2)) _ row (omega arith)
         (on_true (λ now. Lasts now (n + (place.width + 2))) (place.row == place.row) (At (CellBegin cell 2))
         (next_cell cells cell) (eq-eqb place.row place.row refl)
-        (step (CellBegin cell 2) 0 (n + (place.width + 1)) _ (omega arith)
+        (step (CellBegin cell 2) 0 (n + (place.width + 1)) _ (omega arith) (omega arith)
         (on_true (λ now. Lasts now (n + (place.width + 1))) _ (At (CellEnding cell 2 0)) (next_cell cells cell)
         (sees_0 place.form seen)
-        (step (CellEnding cell 2 0) 8 (n + place.width) _ (omega arith)
+        (step (CellEnding cell 2 0) 8 (n + place.width) _ (omega arith) (omega arith)
         (on_false (λ now. Lasts now (n + place.width)) _ (next_cell cells cell) (At (CellWords cell 2 0 []))
         (sees_not_8 place.form seen)
-        (words_last Lasts word Q place.width (CellWords cell 2 0) (CellAgain cell 2 0) (λ got. step (CellWords cell 2 0 got))
+        (words_last Lasts word is Q place.width (CellWords cell 2 0) (CellAgain cell 2 0) (λ got. step (CellWords cell 2 0 got))
         grows (place.width - 1) [] n (n + place.width) none (omega arith) (omega arith) all)))))))
 
     -- it is lost by then, or it is there and the version is found
     pub lost_cell : (cell n m : ℕ) → m ≡ n + (place.width + 5) → Lasts (next_cell cells cell) n
         → Lasts (At (CellTag cell)) m
     lost_cell cell n m e next =
-        filled_cell cell (n + 1) m (omega arith) (λ value wide q. step (CellAgain cell 2 0 value) 8 n (n + 1) refl next)
+        filled_cell cell (n + 1) m (omega arith) (λ value wide q. step (CellAgain cell 2 0 value) 8 n (n + 1) (omega arith) refl next)
 
     pub found_cell : (cell n m : ℕ) → m ≡ n + (place.width + 5)
         → ((value : List ℕ) → length value ≡ place.width → Q value → Lasts (Over (Found (Some value))) n)
         → Lasts (At (CellTag cell)) m
     found_cell cell n m e found =
         filled_cell cell (n + 1) m (omega arith)
-        (λ value wide q. step (CellAgain cell 2 0 value) 2 n (n + 1) refl
+        (λ value wide q. step (CellAgain cell 2 0 value) 2 n (n + 1) (omega arith) refl
         (on_false (λ value. Lasts (Over (Found value)) n) _ None (Some value) (kept_0 place.form) (found value wide q)))
 
     -- each cell but the last is lost
@@ -223,14 +225,14 @@ pub entries_last : (workers : ℕ) (seen : List ℕ) (Lasts : Now ℕ OldEnd →
     → (rest worker n m : ℕ) → worker + rest ≡ workers → m ≡ n + suc rest → Lasts (Over NotPassed) n
     → Lasts (At worker) m
 entries_last workers seen Lasts step zero worker n m e f last =
-    step worker 0 n m (omega arith)
+    step worker 0 n m (omega arith) (omega arith)
     (on_false (λ now. Lasts now n) (nat_lt (slice_index seen (worker - 1)) 0)
     (Over (TooOld worker (slice_index seen (worker - 1)) 0))
     (if worker == workers then Over NotPassed else At (worker + 1)) (grind (arith, nat_tests))
     (on_true (λ now. Lasts now n) (worker == workers) (Over NotPassed) (At (worker + 1))
     (eq-eqb worker workers (omega arith)) last))
 entries_last workers seen Lasts step (suc rest) worker n m e f last =
-    step worker 0 (n + suc rest) m (omega arith)
+    step worker 0 (n + suc rest) m (omega arith) (omega arith)
     (on_false (λ now. Lasts now (n + suc rest)) (nat_lt (slice_index seen (worker - 1)) 0)
     (Over (TooOld worker (slice_index seen (worker - 1)) 0))
     (if worker == workers then Over NotPassed else At (worker + 1)) (grind (arith, nat_tests))
@@ -240,9 +242,21 @@ entries_last workers seen Lasts step (suc rest) worker n m e f last =
 
 -- 6. The index
 
-module _ (path : Path) where
-  differs : (key : ℕ) → (key + 2 == key_word key) ≡ false
-  differs key = grind (arith, nat_tests)
+module _ (path : Path) (is : IsWord (key_word path.key)) where
+  -- the word of another key
+  abbrev other : ℕ
+  other = if path.key == 0 then 2 else 1
+
+  other_is : IsWord other
+  other_is = by_test (λ word. IsWord word) (path.key == 0) 2 1 (λ e. omega arith) (λ e. omega arith)
+
+  other_differs : (other == key_word path.key) ≡ false
+  other_differs =
+      by_test (λ word. (word == key_word path.key) ≡ false) (path.key == 0) 2 1 (λ e. grind (arith, nat_tests))
+      (λ e. grind (arith, nat_tests))
+
+  other_some : (other == 0) ≡ false
+  other_some = by_test (λ word. (word == 0) ≡ false) (path.key == 0) 2 1 (λ e. refl) (λ e. refl)
 
   -- each position but the last has another key
   pub find_lasts : (Lasts : Now ℕ FindEnd → ℕ → Type 0) → LastsMore Lasts (find_after path)
@@ -250,17 +264,17 @@ module _ (path : Path) where
       → ((last : ℕ) → last < path.capacity → Lasts (Over (found_key.At (nth_position path last))) n)
       → Lasts (At passed) m
   find_lasts Lasts step zero passed n m e f found =
-      step passed (path.key + 1) n m (omega arith)
+      step passed (path.key + 1) n m is (omega arith)
       (on_true (λ now. Lasts now n) (path.key + 1 == key_word path.key) (Over (found_key.At (nth_position path passed)))
       _ (eq-eqb (path.key + 1) (path.key + 1) refl) (found passed (omega arith)))
   find_lasts Lasts step (suc rest) passed n m e f found =
-      step passed (path.key + 2) (n + suc rest) m (omega arith)
-      (on_false (λ now. Lasts now (n + suc rest)) (path.key + 2 == key_word path.key)
+      step passed other (n + suc rest) m other_is (omega arith)
+      (on_false (λ now. Lasts now (n + suc rest)) (other == key_word path.key)
       (Over (found_key.At (nth_position path passed)))
-      (if (path.key + 2 == 0) || (passed + 1 == path.capacity) then Over found_key.Absent else At (passed + 1))
-      (differs path.key)
-      (on_false (λ now. Lasts now (n + suc rest)) ((path.key + 2 == 0) || (passed + 1 == path.capacity))
-      (Over found_key.Absent) (At (passed + 1)) (grind (arith, nat_tests))
+      (if (other == 0) || (passed + 1 == path.capacity) then Over found_key.Absent else At (passed + 1))
+      other_differs
+      (on_false (λ now. Lasts now (n + suc rest)) ((other == 0) || (passed + 1 == path.capacity))
+      (Over found_key.Absent) (At (passed + 1)) (rw other_some (grind (arith, nat_tests)))
       (find_lasts Lasts step rest (passed + 1) n (n + suc rest) (omega arith) refl found)))
 
   -- each position is free, and another client has claimed it by then
@@ -268,20 +282,20 @@ module _ (path : Path) where
       → (rest passed n m : ℕ) → passed + suc rest ≡ path.capacity → m ≡ n + 2 * suc rest
       → Lasts (Over NoSpace) n → Lasts (At (KeyLook passed)) m
   claim_lasts Lasts step zero passed n m e f last =
-      step (KeyLook passed) 0 (n + 1) m (omega arith)
+      step (KeyLook passed) 0 (n + 1) m (omega arith) (omega arith)
       (on_false (λ now. Lasts now (n + 1)) (0 == key_word path.key) _ (At (KeyTake passed)) (grind (arith, nat_tests))
-      (step (KeyTake passed) (path.key + 2) n (n + 1) refl
-      (on_false (λ now. Lasts now n) ((path.key + 2 == 0) || (path.key + 2 == key_word path.key)) _ _
-      (grind (arith, nat_tests))
+      (step (KeyTake passed) other n (n + 1) other_is refl
+      (on_false (λ now. Lasts now n) ((other == 0) || (other == key_word path.key)) _ _
+      (rw (other_some, other_differs) refl)
       (or_last (λ now. Lasts now n) path.capacity passed (Over NoSpace) (At (KeyLook (passed + 1))) (omega arith)
       (λ t. last) (λ t. absurd (omega arith))))))
   claim_lasts Lasts step (suc rest) passed n m e f last =
-      step (KeyLook passed) 0 (n + 2 * suc rest + 1) m (omega arith)
+      step (KeyLook passed) 0 (n + 2 * suc rest + 1) m (omega arith) (omega arith)
       (on_false (λ now. Lasts now (n + 2 * suc rest + 1)) (0 == key_word path.key) _ (At (KeyTake passed))
       (grind (arith, nat_tests))
-      (step (KeyTake passed) (path.key + 2) (n + 2 * suc rest) (n + 2 * suc rest + 1) refl
-      (on_false (λ now. Lasts now (n + 2 * suc rest)) ((path.key + 2 == 0) || (path.key + 2 == key_word path.key)) _ _
-      (grind (arith, nat_tests))
+      (step (KeyTake passed) other (n + 2 * suc rest) (n + 2 * suc rest + 1) other_is refl
+      (on_false (λ now. Lasts now (n + 2 * suc rest)) ((other == 0) || (other == key_word path.key)) _ _
+      (rw (other_some, other_differs) refl)
       (or_last (λ now. Lasts now (n + 2 * suc rest)) path.capacity passed (Over NoSpace) (At (KeyLook (passed + 1)))
       (omega arith) (λ t. absurd (omega arith))
       (λ t. claim_lasts Lasts step rest (passed + 1) n (n + 2 * suc rest) (omega arith) refl last)))))

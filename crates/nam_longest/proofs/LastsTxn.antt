@@ -10,7 +10,11 @@ use Rattle.nam_verbs.specs.declared.now.Now.{Now}
 use Rattle.nam_verbs.specs.declared.now.Now.TheVariants.{At, Over}
 use Rattle.nam_catalog.specs.declared.shape.Shape.{Shape}
 use Rattle.nam_catalog.specs.Fits.{FitsLimits}
-use Rattle.nam_calls.specs.Words.{capacity_of}
+use Rattle.nam_calls.specs.Holds.{IsWord}
+use Rattle.nam_calls.specs.Words.{capacity_of, key_word}
+use Rattle.nam_layout.specs.Place.{place_of}
+use Rattle.nam_layout.proofs.ExtentLemmas.{rows_le}
+use Rattle.nam_layout.proofs.PositionLemmas.{position_is_row}
 use Rattle.nam_calls.specs.Index.{find_begin, claim_key_begin, nth_position}
 use Rattle.nam_calls.specs.Reading.{sight_of, read_begin, read_left, read_most}
 use Rattle.nam_calls.specs.Fits.{IsTableOf}
@@ -34,11 +38,21 @@ use Rattle.nam_longest.specs.LongestLaw.{LastsWords}
 use Rattle.nam_longest.proofs.LastsMachines.{find_lasts, claim_lasts}
 use Rattle.nam_longest.proofs.LastsRead.{goes_astray, finds_last}
 
+-- the row of a position is a word
+pub row_word : (shape : Shape) → FitsLimits shape → (table position : ℕ) → IsTableOf shape table
+    → position < capacity_of shape table
+    → IsWord (place_of shape table position).row
+row_word shape limits table position is l =
+    let r = (position_is_row shape.tables table position (is, l)).within in
+    let n = rows_le shape.tables in
+    let w = limits.words in
+    omega arith
+
 module _ (shape : Shape) where
   -- a word before the others
-  pub word_first : (client : ClientState) (found n m : ℕ) → m ≡ n + 1 → IsSome (client_verb shape client)
+  pub word_first : (client : ClientState) (found n m : ℕ) → IsWord found → m ≡ n + 1 → IsSome (client_verb shape client)
       → LastsWords shape (client_after shape client found) n → LastsWords shape client m
-  word_first client found n m e some h = let l = h.2 in (found ∷ h.0, (some, h.1), omega arith)
+  word_first client found n m is e some h = let l = h.3 in (found ∷ h.0, (is, h.1), (some, h.2), omega arith)
 
   -- each client whose transaction has stepped so lasts as long
   abbrev pub TxnLasts : Stepped → ℕ → Type 0
@@ -46,18 +60,19 @@ module _ (shape : Shape) where
       → LastsWords shape (stepped client attempt before step) n
 
   over_lasts : (state : TxnState) (answer : TxnAnswer) → TxnLasts (over state answer) 0
-  over_lasts state answer client attempt before runs = ([], tt, refl)
+  over_lasts state answer client attempt before runs = ([], tt, tt, refl)
 
-  at_lasts : (state : TxnState) (place : TxnPoint) (found n m : ℕ) → m ≡ n + 1
+  at_lasts : (state : TxnState) (place : TxnPoint) (found n m : ℕ) → IsWord found → m ≡ n + 1
       → TxnLasts (txn_after shape state place found) n → TxnLasts (at state place) m
-  at_lasts state place found n m e h client attempt before runs =
+  at_lasts state place found n m is e h client attempt before runs =
       let locks = new_locks state before (taken_at state place) in
       let later = record client { log = with_locks client.log locks } in
       let now = record attempt { locks = attempt.locks + length locks; state = state } in
       let there = go (record later { txn = Some now }) (InTxn place) in
-      word_first there found n m e (rw runs refl) (h there now (length (taken_at state place)) runs)
+      word_first there found n m is e (rw runs refl) (h there now (length (taken_at state place)) runs)
 
-  module _ (limits : FitsLimits shape) (op : Op) (is : IsTableOf shape (op_key op).table) where
+  module _ (limits : FitsLimits shape) (op : Op) (is : IsTableOf shape (op_key op).table)
+      (word : IsWord (key_word (op_key op).key)) where
     abbrev table : ℕ
     table = (op_key op).table
 
@@ -70,14 +85,14 @@ module _ (shape : Shape) where
         → TxnLasts (at state (Finding op find_begin)) m
     found_at state n m e all =
         let c = least in
-        find_lasts (op_path shape op) (λ now n. TxnLasts (on_find shape state op now) n)
+        find_lasts (op_path shape op) word (λ now n. TxnLasts (on_find shape state op now) n)
         (λ passed. at_lasts state (Finding op passed)) (capacity_of shape table - 1) 0 n m (omega arith) (omega arith)
         (λ last l. all (nth_position (op_path shape op) last) (omega arith))
 
     pub claimed_last : (state : TxnState) → TxnLasts (at state (Claiming op claim_key_begin)) (2 * capacity_of shape table)
     claimed_last state =
         let c = least in
-        claim_lasts (op_path shape op) (λ now n. TxnLasts (on_claim shape state op now) n)
+        claim_lasts (op_path shape op) word (λ now n. TxnLasts (on_claim shape state op now) n)
         (λ at. at_lasts state (Claiming op at)) (capacity_of shape table - 1) 0 0 _ (omega arith) (omega arith)
         (over_lasts state (NoSpace table))
 
@@ -88,8 +103,8 @@ module _ (shape : Shape) where
         found_at state (read_most shape table - 1) _ (omega arith)
         (λ position l.
         let f = read_figure shape limits table position is l in
-        goes_astray (sight_of shape table position) (sight_fits shape limits table position is l) state.seen 0
-        (λ value. Unit {0}) tt (λ got q. tt) (λ now n. TxnLasts (on_read shape state op position now) n)
+        goes_astray (sight_of shape table position) (sight_fits shape limits table position is l) state.seen
+        (row_word shape limits table position is l) 0 (omega arith) (λ value. Unit {0}) tt (λ got q. tt) (λ now n. TxnLasts (on_read shape state op position now) n)
         (λ at. at_lasts state (Reading op position at)) 0 _ (omega arith) (over_lasts state Astray))
 
     -- the read finds a value at the very last
@@ -100,6 +115,6 @@ module _ (shape : Shape) where
         found_at state (n + value_longest shape table) m (omega arith)
         (λ position l.
         let f = read_figure shape limits table position is l in
-        finds_last (sight_of shape table position) (sight_fits shape limits table position is l) state.seen 0
-        (λ value. Unit {0}) tt (λ got q. tt) (λ now n. TxnLasts (on_read shape state op position now) n)
+        finds_last (sight_of shape table position) (sight_fits shape limits table position is l) state.seen
+        (row_word shape limits table position is l) 0 (omega arith) (λ value. Unit {0}) tt (λ got q. tt) (λ now n. TxnLasts (on_read shape state op position now) n)
         (λ at. at_lasts state (Reading op position at)) n _ (omega arith) (λ value wide q. found value))

@@ -4,6 +4,8 @@ use Rattle.si_model.specs.Rows.{key_at, writes_key}
 use Rattle.nam_verbs.specs.declared.now.Now.TheVariants.{At}
 use Rattle.nam_catalog.specs.declared.shape.Shape.{Shape}
 use Rattle.nam_catalog.specs.Fits.{FitsLimits}
+use Rattle.nam_calls.specs.Holds.{IsWord, AreWords}
+use Rattle.nam_calls.specs.Words.{key_word}
 use Rattle.nam_protocol.specs.declared.txn.TxnCall.TheVariants.{Get, Put, Del, Need, Guard}
 use Rattle.nam_protocol.specs.declared.client.Call.{Call}
 use Rattle.nam_protocol.specs.declared.client.Call.TheVariants.{Txn, Scan}
@@ -40,9 +42,10 @@ LongestLaw = (shape : Shape) → FitsLimits shape → (client : ClientState) (ca
     → (words : List ℕ) → TakesWords shape (client_ask shape client call) words
     → length words ≤ call_longest shape client call
 
--- the words that a call takes may be so many
+-- the call takes so many words of some that are below 2^64
 abbrev pub LastsWords : Shape → ClientState → ℕ → Type 0
-LastsWords shape client n = (words : List ℕ) × TakesWords shape client words × (length words ≡ n)
+LastsWords shape client n =
+    (words : List ℕ) × AreWords words × TakesWords shape client words × (length words ≡ n)
 
 -- the transaction that is open writes another key than this one, whose operation takes no verb
 abbrev pub Unwritten : Option Open → ℕ → ℕ → Type 0
@@ -57,7 +60,8 @@ MayLast opened (Txn (Put t k v)) = Unwritten opened t k
 MayLast opened (Txn (Del t k)) = Unwritten opened t k
 MayLast opened (Txn (Need t k f least)) = Unwritten opened t k
 MayLast opened (Txn (Guard t k)) = Unwritten opened t k
-MayLast opened (Scan table low high) = (key : ℕ) × (low ≤ key) × (key ≤ high) × Unwritten opened table key
+MayLast opened (Scan table low high) = 
+    (key : ℕ) × (low ≤ key) × (key ≤ high) × IsWord (key_word key) × Unwritten opened table key
 MayLast opened call = ⊥
 
 -- some words make the call last as long as its longest

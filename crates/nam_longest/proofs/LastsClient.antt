@@ -3,9 +3,9 @@ use Rattle.std.proofs.Common.{◌≡◌, ℕ, zero, suc, ◌+◌, ◌-◌, ◌*�
 use Rattle.std.proofs.Common.{arith, Bool, true, false, not, ◌&&◌, Option, Some, None}
 use Rattle.std.proofs.Math.Nat.{suc-mul}
 use Rattle.std.proofs.lemmas.Bool.Decides.{nat_tests}
-use Rattle.std.specs.Prelude.{if◌then◌else◌, max, nat_le, IsSome}
+use Rattle.std.specs.Prelude.{if◌then◌else◌, max, nat_le, slice_index, IsSome}
 use Rattle.si_model.specs.Rows.{key_at, item_at, writes_key}
-use Rattle.si_model.specs.Evaluation.{op_key}
+use Rattle.si_model.specs.Evaluation.{passes, can_change, op_key}
 use Rattle.si_model.specs.Operations.{op_reads}
 use Rattle.si_model.specs.declared.op.Op.{Op}
 use Rattle.si_model.specs.declared.op.Op.TheVariants as op
@@ -15,7 +15,7 @@ use Rattle.nam_verbs.specs.declared.now.Now.TheVariants.{At, Over}
 use Rattle.nam_catalog.specs.declared.shape.Shape.{Shape}
 use Rattle.nam_catalog.specs.Fits.{FitsLimits}
 use Rattle.nam_calls.specs.Holds.{IsWord}
-use Rattle.nam_calls.specs.Words.{capacity_of, key_word}
+use Rattle.nam_calls.specs.Words.{width_of, capacity_of, key_word}
 use Rattle.nam_calls.specs.Index.{find_begin, claim_key_begin}
 use Rattle.nam_calls.specs.Reading.{sight_of, read_begin, read_most}
 use Rattle.nam_calls.specs.Fits.{IsTableOf}
@@ -34,7 +34,7 @@ use Rattle.nam_protocol.specs.declared.client.Call.TheVariants.{Begin, Txn, Scan
 use Rattle.nam_protocol.specs.declared.client.CallPoint.TheVariants.{Scanning}
 use Rattle.nam_protocol.specs.declared.client.Open.{Open}
 use Rattle.nam_protocol.specs.declared.client.ClientState.{ClientState}
-use Rattle.nam_protocol.specs.Operations.{read_of}
+use Rattle.nam_protocol.specs.Operations.{holding, read_of}
 use Rattle.nam_protocol.specs.Txn.{at, ask_op}
 use Rattle.nam_protocol.specs.Bound.{claim_bound}
 use Rattle.nam_protocol.specs.Scan.{in_range, scan_begin, scan_skip, on_scan_read, scan_after, position_of}
@@ -90,7 +90,7 @@ module _ (shape : Shape) (limits : FitsLimits shape) (table low high : ℕ) (is 
       let r = read_figure shape limits table position is l in
       key_lasts position (read_most shape table - 1) m (omega arith)
       (goes_astray (sight_of shape table position) (sight_fits shape limits table position is l) attempt.state.seen
-      (row_word shape limits table position is l) 0 (omega arith) (λ value. Unit {0}) tt (λ got q. tt)
+      (row_word shape limits table position is l) 0 (omega arith)
       (λ now n. ScanLasts position (on_scan_read table position key now) n)
       (λ at. scan_lasts_more position (ScanRead position key at)) 0 _ (omega arith)
       (λ client runs opened. ([], tt, tt, refl)))
@@ -101,7 +101,7 @@ module _ (shape : Shape) (limits : FitsLimits shape) (table low high : ℕ) (is 
       let t = suc-mul rest (1 + value_longest shape table) in
       key_lasts position (k + value_longest shape table) m (omega arith)
       (finds_last (sight_of shape table position) (sight_fits shape limits table position is l) attempt.state.seen
-      (row_word shape limits table position is l) 0 (omega arith) (λ value. Unit {0}) tt (λ got q. tt)
+      (row_word shape limits table position is l) 0 (omega arith)
       (λ now n. ScanLasts position (on_scan_read table position key now) n)
       (λ at. scan_lasts_more position (ScanRead position key at)) k _ (omega arith)
       (λ value wide q client runs opened.
@@ -153,11 +153,36 @@ module _ (shape : Shape) (limits : FitsLimits shape) where
       let of = op.Guard t k in
       larger (λ n. TxnLasts shape (at state (Finding of find_begin))
       (capacity_of shape t + value_longest shape t + n)) (claim_bound shape t) shape.workers
-      (valued_last shape limits of is word state (claim_bound shape t) _ (omega arith)
-      (λ value. claimed_last shape limits of is word (record state { read = read_of of (Some value) })))
+      (valued_last shape limits of is word state 0 (claim_bound shape t) _ (omega arith) (omega arith)
+      (λ value wide all. claimed_last shape limits of is word (record state { read = read_of of (Some value) })))
       (let same : capacity_of shape t + read_most shape t - 1
       ≡ capacity_of shape t + value_longest shape t + shape.workers = omega arith in
       subst (TxnLasts shape (at state (Finding of find_begin))) same (astray_last shape limits of is word state))
+
+  -- an add that finds 0 in each field, or what it takes away
+  add_lasts : (t k f : ℕ) (up : Bool) (by : ℕ) (state : TxnState) → IsTableOf shape t → IsWord (key_word k)
+      → 1 ≤ f → f ≤ width_of shape t → IsWord by
+      → TxnLasts shape (at state (Finding (op.Add t k f up by) find_begin)) (guard_longest shape t)
+  add_lasts t k f up by state is word first last amount =
+      let of = op.Add t k f up by in
+      let each = if up then 0 else by in
+      larger (λ n. TxnLasts shape (at state (Finding of find_begin))
+      (capacity_of shape t + value_longest shape t + n)) (claim_bound shape t) shape.workers
+      (valued_last shape limits of is word state each (claim_bound shape t) _
+      (by_test (λ word. IsWord word) up 0 by (λ e. omega arith) (λ e. amount)) (omega arith)
+      (λ value wide all.
+      let number : slice_index value (f - 1) ≡ each = all (f - 1) (omega arith) in
+      let read = record state { read = read_of of (Some value) } in
+      on_false (λ step. TxnLasts shape step (claim_bound shape t)) (not (passes of (holding (Some value)))) _ _
+      (rw number (can up by amount))
+      (claimed_last shape limits of is word read)))
+      (let same : capacity_of shape t + read_most shape t - 1
+      ≡ capacity_of shape t + value_longest shape t + shape.workers = omega arith in
+      subst (TxnLasts shape (at state (Finding of find_begin))) same (astray_last shape limits of is word state))
+    where
+    can : (up : Bool) (by : ℕ) → IsWord by → not (can_change up (if up then 0 else by) by) ≡ false
+    can true by amount = grind (arith, nat_tests)
+    can false by amount = grind (arith, nat_tests)
 
   pub op_reached : (client : ClientState) (opened : Option Open) (call : TxnCall) → client.cut ≡ false
       → OpenCallFits shape opened call → MayLast opened (Txn call)
@@ -173,7 +198,11 @@ module _ (shape : Shape) (limits : FitsLimits shape) where
       (claimed_last shape limits (op.Put t k v) (op_table shape limits attempt.state.claims (op.Put t k v) stands) stands.2
       (record attempt.state { read = None }))
       client (with_call attempt (Put t k v)) 0 runs
-  op_reached client (Some attempt) (Add t k f up by) runs stands may = absurd may
+  op_reached client (Some attempt) (Add t k f up by) runs stands may =
+      reads_lasts (op.Add t k f up by) attempt.state may.0 (guard_longest shape t) refl
+      (add_lasts t k f up by (record attempt.state { read = None })
+      (op_table shape limits attempt.state.claims (op.Add t k f up by) stands) stands.2 stands.0.1.0 stands.0.1.1 may.1)
+      client (with_call attempt (Add t k f up by)) 0 runs
   op_reached client (Some attempt) (Del t k) runs stands may =
       claims_last (op.Del t k) attempt.state may (claim_bound shape t) refl
       (claimed_last shape limits (op.Del t k) (op_table shape limits attempt.state.claims (op.Del t k) stands) stands.2

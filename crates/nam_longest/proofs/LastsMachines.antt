@@ -1,10 +1,12 @@
 -- Words that make each machine last as long as it can. What lasts so many verbs may be anything that lasts one more
 -- before each word that it takes.
 use Rattle.std.proofs.Common.{◌≡◌, ℕ, zero, suc, ◌+◌, ◌-◌, ◌*◌, ◌<◌, ◌≤◌, List, [], ◌∷◌, ◌++◌, length, refl, arith, Bool}
-use Rattle.std.proofs.Common.{true, false, Some, None, not, ◌&&◌, ◌||◌}
+use Rattle.std.proofs.Common.{true, false, Some, None, not, ◌&&◌, ◌||◌, ◌∙◌, inl, inr, length-append}
 use Rattle.std.proofs.Math.Nat.{suc-mul}
 use Rattle.std.specs.Prelude.{if◌then◌else◌, ◌==◌, nat_lt, slice_index}
-use Rattle.std.proofs.lemmas.Bool.{eq-eqb}
+use Rattle.std.proofs.lemmas.Bool.{eq-eqb, cases_lt}
+use Rattle.std.proofs.lemmas.List.{get_or_append_left}
+use Rattle.std.proofs.Math.Seq.{get_or-append_seam}
 use Rattle.std.proofs.lemmas.Bool.Decides.{nat_tests}
 use Rattle.nam_verbs.proofs.TestLemmas.{by_test}
 use Rattle.nam_verbs.specs.Until.{until}
@@ -91,29 +93,42 @@ LastsMore {P = P} Lasts after = (at : P) (found n m : ℕ) → IsWord found → 
 
 -- 2. Words one after another
 
--- a word is read so many times; what holds of the words so far may hold of all
-words_last : {P E : Type 0} (Lasts : Now P E → ℕ → Type 0) (word : ℕ) (is : IsWord word) (Q : List ℕ → Type 0) (width : ℕ) (more done : List ℕ → P)
+-- each of the words is this one
+abbrev pub AreAll : ℕ → List ℕ → Type 0
+AreAll word words = (nth : ℕ) → nth < length words → slice_index words nth ≡ word
+
+pub all_none : (word : ℕ) → AreAll word []
+all_none word nth l = absurd (omega arith)
+
+pub all_more : (word : ℕ) (words : List ℕ) → AreAll word words → AreAll word (words ++ word ∷ [])
+all_more word words all nth l =
+    let e : length (words ++ word ∷ []) ≡ length words + 1 = length-append words (word ∷ []) in
+    elim (cases_lt nth (length words)) [
+      | inl less ↦ get_or_append_left words (word ∷ []) 0 nth less ∙ all nth less
+      | inr not_less ↦ (let same : nth ≡ length words = omega arith in rw same (get_or-append_seam words word [] 0))
+    ]
+
+-- a word is read so many times
+pub words_last : {P E : Type 0} (Lasts : Now P E → ℕ → Type 0) (word : ℕ) (is : IsWord word) (width : ℕ) (more done : List ℕ → P)
     → ((got : List ℕ) (found n m : ℕ) → IsWord found → m ≡ n + 1 → Lasts (At (until width (got ++ found ∷ []) more done)) n
     → Lasts (At (more got)) m)
-    → ((got : List ℕ) → Q got → Q (got ++ word ∷ []))
-    → (rest : ℕ) (got : List ℕ) (n m : ℕ) → Q got → length got + suc rest ≡ width → m ≡ n + suc rest
-    → ((value : List ℕ) → length value ≡ width → Q value → Lasts (At (done value)) n)
+    → (rest : ℕ) (got : List ℕ) (n m : ℕ) → AreAll word got → length got + suc rest ≡ width → m ≡ n + suc rest
+    → ((value : List ℕ) → length value ≡ width → AreAll word value → Lasts (At (done value)) n)
     → Lasts (At (more got)) m
-words_last Lasts word is Q width more done step grows zero got n m q e f all =
+words_last Lasts word is width more done step zero got n m q e f all =
     step got word n m is (omega arith)
     (one_more (λ at. Lasts (At at) n) width got word more done (omega arith) (λ a b. absurd (omega arith))
-    (λ a b. all (got ++ word ∷ []) b (grows got q)))
-words_last Lasts word is Q width more done step grows (suc rest) got n m q e f all =
+    (λ a b. all (got ++ word ∷ []) b (all_more word got q)))
+words_last Lasts word is width more done step (suc rest) got n m q e f all =
     step got word (n + suc rest) m is (omega arith)
     (one_more (λ at. Lasts (At at) (n + suc rest)) width got word more done (omega arith)
-    (λ a b. words_last Lasts word is Q width more done step grows rest (got ++ word ∷ []) n (n + suc rest) (grows got q)
+    (λ a b. words_last Lasts word is width more done step rest (got ++ word ∷ []) n (n + suc rest) (all_more word got q)
     (omega arith) refl all)
     (λ a b. absurd (omega arith)))
 
 -- 3. A position's words
 
-module _ (place : Place) (fits : FitsPlace place) (seen : List ℕ) (word : ℕ) (is : IsWord word) (Q : List ℕ → Type 0) (none : Q [])
-    (grows : (got : List ℕ) → Q got → Q (got ++ word ∷ [])) where
+module _ (place : Place) (fits : FitsPlace place) (seen : List ℕ) (word : ℕ) (is : IsWord word) where
   module _ (Lasts : Now CurrentPoint CurrentEnd → ℕ → Type 0) (step : LastsMore Lasts (current_after place seen)) where
     -- a version that the snapshot sees, locked once its words are read
     pub current_lasts : (n m : ℕ) → m ≡ n + (place.width + 2)
@@ -124,8 +139,8 @@ module _ (place : Place) (fits : FitsPlace place) (seen : List ℕ) (word : ℕ)
         step CurrentHead 0 (n + (place.width + 1)) m (omega arith) (omega arith)
         (on_true (λ now. Lasts now (n + (place.width + 1))) _ _ (Over current.GoOld) (sees_0 place.form seen)
         (on_false (λ now. Lasts now (n + (place.width + 1))) _ (Over (current.Found None)) _ (kept_0 place.form)
-        (words_last Lasts word is Q place.width (CurrentWords 0) (CurrentAgain 0) (λ got. step (CurrentWords 0 got)) grows
-        (place.width - 1) [] (n + 1) (n + (place.width + 1)) none (omega arith) (omega arith)
+        (words_last Lasts word is place.width (CurrentWords 0) (CurrentAgain 0) (λ got. step (CurrentWords 0 got))
+        (place.width - 1) [] (n + 1) (n + (place.width + 1)) (all_none word) (omega arith) (omega arith)
         (λ value wide q. step (CurrentAgain 0 value) 1 n (n + 1) (omega arith) refl
         (on_true (λ now. Lasts now n) _ _ (Over current.GoOld) (same_1 place.form)
         (on_true (λ now. Lasts now n) (is_locked place.form 0 || is_locked place.form 1) (Over (Unsure value 0))
@@ -147,8 +162,8 @@ module _ (place : Place) (fits : FitsPlace place) (seen : List ℕ) (word : ℕ)
         (rw (sees_0 place.form seen) refl)
         (step (SlotEnding slot 0) 8 (n + (place.width + 1)) _ (omega arith) (omega arith)
         (on_false (λ now. Lasts now (n + (place.width + 1))) _ _ _ (sees_not_8 place.form seen)
-        (words_last Lasts word is Q place.width (SlotWords slot 0) (SlotAgain slot 0) (λ got. step (SlotWords slot 0 got)) grows
-        (place.width - 1) [] (n + 1) (n + (place.width + 1)) none (omega arith) (omega arith)
+        (words_last Lasts word is place.width (SlotWords slot 0) (SlotAgain slot 0) (λ got. step (SlotWords slot 0 got))
+        (place.width - 1) [] (n + 1) (n + (place.width + 1)) (all_none word) (omega arith) (omega arith)
         (λ value wide q. step (SlotAgain slot 0 value) 8 n (n + 1) (omega arith) refl
         (on_false (λ now. Lasts now n) (same_stamp place.form 8 0 && true) _ _ (rw (other_8 place.form) refl) next))))))
 
@@ -176,7 +191,7 @@ module _ (place : Place) (fits : FitsPlace place) (seen : List ℕ) (word : ℕ)
       (step : LastsMore Lasts (cell_after cells place seen)) where
     -- a full cell of the row, up to its last word
     filled_cell : (cell n m : ℕ) → m ≡ n + (place.width + 4)
-        → ((value : List ℕ) → length value ≡ place.width → Q value → Lasts (At (CellAgain cell 2 0 value)) n)
+        → ((value : List ℕ) → length value ≡ place.width → AreAll word value → Lasts (At (CellAgain cell 2 0 value)) n)
         → Lasts (At (CellTag cell)) m
     filled_cell cell n m e all =
         let w = fits.least_width in
@@ -190,8 +205,8 @@ module _ (place : Place) (fits : FitsPlace place) (seen : List ℕ) (word : ℕ)
         (step (CellEnding cell 2 0) 8 (n + place.width) _ (omega arith) (omega arith)
         (on_false (λ now. Lasts now (n + place.width)) _ (next_cell cells cell) (At (CellWords cell 2 0 []))
         (sees_not_8 place.form seen)
-        (words_last Lasts word is Q place.width (CellWords cell 2 0) (CellAgain cell 2 0) (λ got. step (CellWords cell 2 0 got))
-        grows (place.width - 1) [] n (n + place.width) none (omega arith) (omega arith) all)))))))
+        (words_last Lasts word is place.width (CellWords cell 2 0) (CellAgain cell 2 0) (λ got. step (CellWords cell 2 0 got))
+        (place.width - 1) [] n (n + place.width) (all_none word) (omega arith) (omega arith) all)))))))
 
     -- it is lost by then, or it is there and the version is found
     pub lost_cell : (cell n m : ℕ) → m ≡ n + (place.width + 5) → Lasts (next_cell cells cell) n
@@ -200,7 +215,7 @@ module _ (place : Place) (fits : FitsPlace place) (seen : List ℕ) (word : ℕ)
         filled_cell cell (n + 1) m (omega arith) (λ value wide q. step (CellAgain cell 2 0 value) 8 n (n + 1) (omega arith) refl next)
 
     pub found_cell : (cell n m : ℕ) → m ≡ n + (place.width + 5)
-        → ((value : List ℕ) → length value ≡ place.width → Q value → Lasts (Over (Found (Some value))) n)
+        → ((value : List ℕ) → length value ≡ place.width → AreAll word value → Lasts (Over (Found (Some value))) n)
         → Lasts (At (CellTag cell)) m
     found_cell cell n m e found =
         filled_cell cell (n + 1) m (omega arith)

@@ -18,27 +18,26 @@ use Rattle.nam_calls.specs.Reading.{ring_whole, cells_whole, read_left}
 use Rattle.nam_calls.specs.Holds.{IsWord}
 use Rattle.nam_calls.specs.Fits.{SightFits}
 use Rattle.nam_calls.proofs.FallsTests.{or_last}
-use Rattle.nam_longest.proofs.LastsMachines.{LastsMore, on_false, other_8, current_lasts, ring_lasts, lost_cell}
+use Rattle.nam_longest.proofs.LastsMachines.{AreAll, LastsMore, on_false, other_8, current_lasts, ring_lasts, lost_cell}
 use Rattle.nam_longest.proofs.LastsMachines.{found_cell, to_last_cell, entries_last}
 use Rattle.std.proofs.Math.Nat.{suc-mul}
 
 module _ (sight : Sight) (fits : SightFits sight) (seen : List ℕ) (row : IsWord sight.place.row)
-    (word : ℕ) (is : IsWord word) (Q : List ℕ → Type 0) (none : Q [])
-    (grows : (got : List ℕ) → Q got → Q (got ++ word ∷ []))
+    (word : ℕ) (is : IsWord word)
     (Lasts : Now ReadPoint ReadingEnd → ℕ → Type 0) (step : LastsMore Lasts (read_after sight seen)) where
   -- up to the cells
   to_cells : (n m : ℕ) → m ≡ n + (sight.place.width + 3 + 2 * ring_whole sight)
       → Lasts (At (ReadCells (CellTag 0))) n → Lasts (At read_begin) m
   to_cells n m e last =
       let r = ring_whole sight in
-      current_lasts sight.place fits.place seen word is Q none grows (λ now n. Lasts (on_current now) n)
+      current_lasts sight.place fits.place seen word is (λ now n. Lasts (on_current now) n)
       (λ at. step (ReadCurrent at)) (n + (r + 1 + r)) m (omega arith)
-      (λ value wide. ring_lasts sight.place fits.place seen word is Q none grows (λ now n. Lasts (on_unsure value 0 now) n)
+      (λ value wide. ring_lasts sight.place fits.place seen word is (λ now n. Lasts (on_unsure value 0 now) n)
       (λ at. step (ReadUnsure value 0 at)) (n + (r + 1)) (n + (r + 1 + r)) (omega arith)
       (step (ReadRecheck value 0) 8 (n + r) (n + (r + 1)) (omega arith) (omega arith)
       (on_false (λ now. Lasts now (n + r)) (same_stamp sight.place.form 8 0) (Over (Got (Some value)))
       (At (ReadRing ring_begin)) (other_8 sight.place.form)
-      (ring_lasts sight.place fits.place seen word is Q none grows (λ now n. Lasts (on_ring now) n)
+      (ring_lasts sight.place fits.place seen word is (λ now n. Lasts (on_ring now) n)
       (λ at. step (ReadRing at)) n (n + r) refl last))))
 
   -- up to the last cell
@@ -49,7 +48,7 @@ module _ (sight : Sight) (fits : SightFits sight) (seen : List ℕ) (row : IsWor
       let k = n + (sight.cells.cells - 1) * (sight.place.width + 5) in
       let rows = all_cells sight.cells.cells (sight.cells.cells - 1) (sight.place.width + 5) (omega arith) in
       to_cells k m (omega arith)
-      (to_last_cell sight.place fits.place seen word is Q none grows row sight.cells (λ now n. Lasts (on_cells now) n)
+      (to_last_cell sight.place fits.place seen word is row sight.cells (λ now n. Lasts (on_cells now) n)
       (λ at. step (ReadCells at)) (sight.cells.cells - 1) 0 n k (omega arith) refl last)
     where
     all_cells : (r m k : ℕ) → r ≡ suc m → r * k ≡ m * k + k
@@ -60,7 +59,7 @@ module _ (sight : Sight) (fits : SightFits sight) (seen : List ℕ) (row : IsWor
   goes_astray n m e end =
       let w = fits.workers in
       to_last (n + sight.workers + (sight.place.width + 5)) m (omega arith)
-      (λ last l. lost_cell sight.place fits.place seen word is Q none grows row sight.cells (λ now n. Lasts (on_cells now) n)
+      (λ last l. lost_cell sight.place fits.place seen word is row sight.cells (λ now n. Lasts (on_cells now) n)
       (λ at. step (ReadCells at)) last (n + sight.workers) _ refl
       (or_last (λ now. Lasts (on_cells now) (n + sight.workers)) sight.cells.cells last (Over NotThere)
       (At (CellTag (last + 1))) (omega arith)
@@ -70,9 +69,9 @@ module _ (sight : Sight) (fits : SightFits sight) (seen : List ℕ) (row : IsWor
 
   -- the last cell has the version
   pub finds_last : (n m : ℕ) → m + sight.workers ≡ n + read_left sight read_begin
-      → ((value : List ℕ) → length value ≡ sight.place.width → Q value → Lasts (Over (Got (Some value))) n)
+      → ((value : List ℕ) → length value ≡ sight.place.width → AreAll word value → Lasts (Over (Got (Some value))) n)
       → Lasts (At read_begin) m
   finds_last n m e found =
       to_last (n + (sight.place.width + 5)) m (omega arith)
-      (λ last l. found_cell sight.place fits.place seen word is Q none grows row sight.cells (λ now n. Lasts (on_cells now) n)
+      (λ last l. found_cell sight.place fits.place seen word is row sight.cells (λ now n. Lasts (on_cells now) n)
       (λ at. step (ReadCells at)) last n _ refl found)

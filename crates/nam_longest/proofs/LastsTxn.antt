@@ -1,6 +1,6 @@
 -- Words that make a call of a transaction last as long as it can.
 use Rattle.std.proofs.Common.{◌≡◌, ℕ, suc, ◌+◌, ◌-◌, ◌*◌, ◌<◌, ◌≤◌, List, [], ◌∷◌, ◌++◌, length, refl, arith, Bool}
-use Rattle.std.proofs.Common.{true, false, Option, Some, None}
+use Rattle.std.proofs.Common.{◌∙◌, false, Option, Some}
 use Rattle.std.specs.Prelude.{if◌then◌else◌, max, IsSome}
 use Rattle.si_model.specs.Rows.{key_at, writes_key}
 use Rattle.si_model.specs.Evaluation.{op_key}
@@ -11,14 +11,14 @@ use Rattle.nam_verbs.specs.declared.now.Now.TheVariants.{At, Over}
 use Rattle.nam_catalog.specs.declared.shape.Shape.{Shape}
 use Rattle.nam_catalog.specs.Fits.{FitsLimits}
 use Rattle.nam_calls.specs.Holds.{IsWord}
-use Rattle.nam_calls.specs.Words.{capacity_of, key_word}
+use Rattle.nam_calls.specs.Words.{width_of, capacity_of, key_word}
 use Rattle.nam_layout.specs.Place.{place_of}
 use Rattle.nam_layout.proofs.ExtentLemmas.{rows_le}
 use Rattle.nam_layout.proofs.PositionLemmas.{position_is_row}
 use Rattle.nam_calls.specs.Index.{find_begin, claim_key_begin, nth_position}
 use Rattle.nam_calls.specs.Reading.{sight_of, read_begin, read_left, read_most}
 use Rattle.nam_calls.specs.Fits.{IsTableOf}
-use Rattle.nam_calls.proofs.FallsTables.{has_capacity, sight_fits, read_figure}
+use Rattle.nam_calls.proofs.FallsTables.{has_capacity, width_is, sight_fits, read_figure}
 use Rattle.nam_protocol.specs.declared.txn.TxnState.{TxnState}
 use Rattle.nam_protocol.specs.declared.txn.TxnPoint.{TxnPoint}
 use Rattle.nam_protocol.specs.declared.txn.TxnPoint.TheVariants.{Finding, Reading, Claiming}
@@ -35,7 +35,7 @@ use Rattle.nam_protocol.specs.Telling.{go, new_locks, stepped}
 use Rattle.nam_protocol.specs.Client.{client_verb, client_after}
 use Rattle.nam_longest.specs.Longest.{value_longest}
 use Rattle.nam_longest.specs.LongestLaw.{LastsWords}
-use Rattle.nam_longest.proofs.LastsMachines.{find_lasts, claim_lasts}
+use Rattle.nam_longest.proofs.LastsMachines.{AreAll, find_lasts, claim_lasts}
 use Rattle.nam_longest.proofs.LastsRead.{goes_astray, finds_last}
 
 -- the row of a position is a word
@@ -104,17 +104,22 @@ module _ (shape : Shape) where
         (λ position l.
         let f = read_figure shape limits table position is l in
         goes_astray (sight_of shape table position) (sight_fits shape limits table position is l) state.seen
-        (row_word shape limits table position is l) 0 (omega arith) (λ value. Unit {0}) tt (λ got q. tt) (λ now n. TxnLasts (on_read shape state op position now) n)
+        (row_word shape limits table position is l) 0 (omega arith) (λ now n. TxnLasts (on_read shape state op position now) n)
         (λ at. at_lasts state (Reading op position at)) 0 _ (omega arith) (over_lasts state Astray))
 
-    -- the read finds a value at the very last
-    pub valued_last : (state : TxnState) (n m : ℕ) → m ≡ n + capacity_of shape table + value_longest shape table
-        → ((value : List ℕ) → TxnLasts (on_value shape state op (Some value)) n)
+    -- the read finds a value at the very last, whose words are all this one
+    pub valued_last : (state : TxnState) (each n m : ℕ) → IsWord each
+        → m ≡ n + capacity_of shape table + value_longest shape table
+        → ((value : List ℕ) → length value ≡ width_of shape table → AreAll each value
+        → TxnLasts (on_value shape state op (Some value)) n)
         → TxnLasts (at state (Finding op find_begin)) m
-    valued_last state n m e found =
+    valued_last state each n m each_is e found =
         found_at state (n + value_longest shape table) m (omega arith)
         (λ position l.
         let f = read_figure shape limits table position is l in
+        let w = width_is shape limits table position is l in
         finds_last (sight_of shape table position) (sight_fits shape limits table position is l) state.seen
-        (row_word shape limits table position is l) 0 (omega arith) (λ value. Unit {0}) tt (λ got q. tt) (λ now n. TxnLasts (on_read shape state op position now) n)
-        (λ at. at_lasts state (Reading op position at)) n _ (omega arith) (λ value wide q. found value))
+        (row_word shape limits table position is l) each each_is
+        (λ now n. TxnLasts (on_read shape state op position now) n)
+        (λ at. at_lasts state (Reading op position at)) n _ (omega arith)
+        (λ value wide all. found value (wide ∙ w) all))

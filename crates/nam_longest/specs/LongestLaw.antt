@@ -6,7 +6,7 @@ use Rattle.nam_catalog.specs.declared.shape.Shape.{Shape}
 use Rattle.nam_catalog.specs.Fits.{FitsLimits}
 use Rattle.nam_calls.specs.Holds.{IsWord, AreWords}
 use Rattle.nam_calls.specs.Words.{key_word}
-use Rattle.nam_protocol.specs.declared.txn.TxnCall.TheVariants.{Get, Put, Del, Need, Guard}
+use Rattle.nam_protocol.specs.declared.txn.TxnCall.TheVariants.{Get, Put, Add, Del, Need, Guard}
 use Rattle.nam_protocol.specs.declared.client.Call.{Call}
 use Rattle.nam_protocol.specs.declared.client.Call.TheVariants.{Txn, Scan}
 use Rattle.nam_protocol.specs.declared.client.Open.{Open}
@@ -57,6 +57,7 @@ Unwritten (Some attempt) table key = writes_key attempt.state.writes (key_at tab
 abbrev pub MayLast : Option Open → Call → Type 0
 MayLast opened (Txn (Get t k)) = Unwritten opened t k
 MayLast opened (Txn (Put t k v)) = Unwritten opened t k
+MayLast opened (Txn (Add t k f up by)) = Unwritten opened t k × IsWord by
 MayLast opened (Txn (Del t k)) = Unwritten opened t k
 MayLast opened (Txn (Need t k f least)) = Unwritten opened t k
 MayLast opened (Txn (Guard t k)) = Unwritten opened t k

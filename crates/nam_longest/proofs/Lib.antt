@@ -1,4 +1,5 @@
 pub mod LastsMachines
+pub mod LastsUpkeep
 pub mod LastsRead
 pub mod LastsTxn
 pub mod LastsClient

@@ -1,10 +1,10 @@
 -- Words that make a client's call last as long as its longest.
-use Rattle.std.proofs.Common.{◌≡◌, ℕ, zero, suc, ◌+◌, ◌-◌, ◌*◌, ◌<◌, ◌≤◌, List, [], ◌∷◌, ◌++◌, length, refl, sym, subst}
-use Rattle.std.proofs.Common.{arith, Bool, true, false, not, ◌&&◌, Option, Some, None}
+use Rattle.std.proofs.Common.{◌≡◌, ℕ, zero, suc, ◌+◌, ◌-◌, ◌*◌, ◌<◌, ◌≤◌, [], ◌∷◌, ◌++◌, refl, sym, subst}
+use Rattle.std.proofs.Common.{arith, Bool, true, false, not, Option, Some, None}
 use Rattle.std.proofs.Math.Nat.{suc-mul}
 use Rattle.std.proofs.lemmas.Bool.Decides.{nat_tests}
 use Rattle.std.specs.Prelude.{if◌then◌else◌, max, nat_le, slice_index, IsSome}
-use Rattle.si_model.specs.Rows.{key_at, item_at, writes_key}
+use Rattle.si_model.specs.Rows.{key_at, writes_key}
 use Rattle.si_model.specs.Evaluation.{passes, can_change, op_key}
 use Rattle.si_model.specs.Operations.{op_reads}
 use Rattle.si_model.specs.declared.op.Op.{Op}
@@ -28,7 +28,7 @@ use Rattle.nam_protocol.specs.declared.txn.TxnPoint.TheVariants.{Finding, Claimi
 use Rattle.nam_protocol.specs.declared.scan.ScanPoint.{ScanPoint}
 use Rattle.nam_protocol.specs.declared.scan.ScanPoint.TheVariants.{ScanKey, ScanRead}
 use Rattle.nam_protocol.specs.declared.scan.ScanAnswer.{ScanAnswer}
-use Rattle.nam_protocol.specs.declared.scan.ScanAnswer.TheVariants.{Key, Row, Done, Astray}
+use Rattle.nam_protocol.specs.declared.scan.ScanAnswer.TheVariants.{Key, Done}
 use Rattle.nam_protocol.specs.declared.client.Call.{Call}
 use Rattle.nam_protocol.specs.declared.client.Call.TheVariants.{Begin, Txn, Scan, Tidy, Collect}
 use Rattle.nam_protocol.specs.declared.client.CallPoint.TheVariants.{Scanning}
@@ -48,6 +48,7 @@ use Rattle.nam_longest.specs.Longest.{call_longest}
 use Rattle.nam_longest.specs.LongestLaw.{LastsWords, Unwritten, MayLast}
 use Rattle.nam_longest.proofs.LastsMachines.{on_true, on_false}
 use Rattle.nam_longest.proofs.LastsRead.{goes_astray, finds_last}
+use Rattle.nam_longest.proofs.LastsBeside.{begin_lasts, tidy_lasts, collection_lasts}
 use Rattle.nam_longest.proofs.LastsTxn.{row_word, word_first, TxnLasts, claimed_last, astray_last, valued_last}
 
 -- 1. A scan
@@ -105,8 +106,10 @@ module _ (shape : Shape) (limits : FitsLimits shape) (table low high : ℕ) (is 
       (λ now n. ScanLasts position (on_scan_read table position key now) n)
       (λ at. scan_lasts_more position (ScanRead position key at)) k _ (omega arith)
       (λ value wide q client runs opened.
-      let later = record client { scanned = client.scanned ++ record { position = position; key = key; value = value }
-      ∷ [] } in
+      let later = record client {
+        scanned = client.scanned ++ record { position = position; key = key; value = value }
+            ∷ [];
+      } in
       or_last (λ now. LastsWords shape (on_skip later attempt table low high now) k) (capacity_of shape table) position
       (Over Done) (At (ScanKey (position + 1))) l (λ last. absurd (omega arith))
       (λ next. positions_last rest (position + 1) k (omega arith) refl later runs opened)))
@@ -118,8 +121,8 @@ module _ (shape : Shape) (limits : FitsLimits shape) (table low high : ℕ) (is 
       (omega arith) in
       positions_last (capacity_of shape table - 1) 0 _ (omega arith) (omega arith)
     where
-    whole : (r m k : ℕ) → r ≡ suc m → r * k ≡ m * k + k
-    whole r m k e = rw (e, suc-mul) refl
+      whole : (r m k : ℕ) → r ≡ suc m → r * k ≡ m * k + k
+      whole r m k e = rw (e, suc-mul) refl
 
 -- 2. An operation on a key that isn't written
 
@@ -128,8 +131,8 @@ larger : (P : ℕ → Type 0) (a b : ℕ) → P a → P b → P (max a b)
 larger P a b p q = by_test (λ (n : ℕ). n ≡ max a b → P (max a b)) (nat_le a b) b a
     (λ e same. subst P same q) (λ e same. subst P same p) (greater a b)
   where
-  greater : (a b : ℕ) → (if nat_le a b then b else a) ≡ max a b
-  greater a b = by_test (λ n. n ≡ max a b) (nat_le a b) b a (λ e. grind (arith, nat_tests)) (λ e. grind (arith, nat_tests))
+    greater : (a b : ℕ) → (if nat_le a b then b else a) ≡ max a b
+    greater a b = by_test (λ n. n ≡ max a b) (nat_le a b) b a (λ e. grind (arith, nat_tests)) (λ e. grind (arith, nat_tests))
 
 module _ (shape : Shape) (limits : FitsLimits shape) where
   module _ (op : Op) (state : TxnState) (unwritten : writes_key state.writes (op_key op) ≡ false) where
@@ -180,9 +183,9 @@ module _ (shape : Shape) (limits : FitsLimits shape) where
       ≡ capacity_of shape t + value_longest shape t + shape.workers = omega arith in
       subst (TxnLasts shape (at state (Finding of find_begin))) same (astray_last shape limits of is word state))
     where
-    can : (up : Bool) (by : ℕ) → IsWord by → not (can_change up (if up then 0 else by) by) ≡ false
-    can true by amount = grind (arith, nat_tests)
-    can false by amount = grind (arith, nat_tests)
+      can : (up : Bool) (by : ℕ) → IsWord by → not (can_change up (if up then 0 else by) by) ≡ false
+      can true by amount = grind (arith, nat_tests)
+      can false by amount = grind (arith, nat_tests)
 
   pub op_reached : (client : ClientState) (opened : Option Open) (call : TxnCall) → client.cut ≡ false
       → OpenCallFits shape opened call → MayLast opened (Txn call)
@@ -237,9 +240,10 @@ module _ (shape : Shape) (limits : FitsLimits shape) where
   pub reached : (client : ClientState) (call : Call) → ClientFits shape client → CallStands shape client.txn call
       → client.cut ≡ false → MayLast client.txn call
       → LastsWords shape (client_ask shape client call) (call_longest shape client call)
-  reached client (Begin txn nth) fits stands runs may = absurd may
+  reached client (Begin txn nth) fits stands runs may = begin_lasts shape limits txn nth client runs
   reached client (Txn call) fits stands runs may = op_reached client client.txn call runs stands may
   reached client (Scan table low high) fits stands runs may =
       scan_reached client client.txn table low high may.0 runs stands.0 stands.1 may.1 may.2 may.3 may.4
-  reached client (Tidy table key) fits stands runs may = absurd may
-  reached client (Collect bucket) fits stands runs may = absurd may
+  reached client (Tidy table key) fits stands runs may =
+      tidy_lasts shape limits table key stands.0 stands.1 client runs
+  reached client (Collect bucket) fits stands runs may = collection_lasts shape limits bucket stands client runs

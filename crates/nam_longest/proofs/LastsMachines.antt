@@ -1,6 +1,6 @@
 -- Words that make each machine last as long as it can. What lasts so many verbs may be anything that lasts one more
 -- before each word that it takes.
-use Rattle.std.proofs.Common.{◌≡◌, ℕ, zero, suc, ◌+◌, ◌-◌, ◌*◌, ◌<◌, ◌≤◌, List, [], ◌∷◌, ◌++◌, length, refl, arith, Bool}
+use Rattle.std.proofs.Common.{◌≡◌, ℕ, zero, suc, ◌+◌, ◌-◌, ◌*◌, ◌<◌, List, [], ◌∷◌, ◌++◌, length, refl, arith, Bool}
 use Rattle.std.proofs.Common.{true, false, Some, None, not, ◌&&◌, ◌||◌, ◌∙◌, inl, inr, length-append}
 use Rattle.std.proofs.Math.Nat.{suc-mul}
 use Rattle.std.specs.Prelude.{if◌then◌else◌, ◌==◌, nat_lt, slice_index}
@@ -147,9 +147,9 @@ module _ (place : Place) (fits : FitsPlace place) (seen : List ℕ) (word : ℕ)
         (Over (current.Found (Some value)))
         (either_locked (is_locked place.form 0) (is_locked place.form 1) (locked_1 place.form)) (all value wide)))))))
       where
-      either_locked : (a b : Bool) → b ≡ true → (a || b) ≡ true
-      either_locked true b e = refl
-      either_locked false b e = e
+        either_locked : (a b : Bool) → b ≡ true → (a || b) ≡ true
+        either_locked true b e = refl
+        either_locked false b e = e
 
   module _ (Lasts : Now RingPoint SearchEnd → ℕ → Type 0) (step : LastsMore Lasts (ring_after place seen)) where
     -- a version that isn't there any more once its words are read

@@ -1,6 +1,5 @@
 -- Words that make a read last as long as it can: it looks at everything, or it finds a value at the very last.
-use Rattle.std.proofs.Common.{◌≡◌, ℕ, suc, ◌+◌, ◌-◌, ◌*◌, ◌<◌, ◌≤◌, List, [], ◌∷◌, ◌++◌, length, refl, arith, Some}
-use Rattle.std.specs.Prelude.{if◌then◌else◌}
+use Rattle.std.proofs.Common.{◌≡◌, ℕ, suc, ◌+◌, ◌-◌, ◌*◌, List, length, refl, arith, Some}
 use Rattle.nam_verbs.specs.declared.now.Now.{Now}
 use Rattle.nam_verbs.specs.declared.now.Now.TheVariants.{At, Over}
 use Rattle.nam_header.specs.Stamp.{same_stamp}
@@ -51,8 +50,8 @@ module _ (sight : Sight) (fits : SightFits sight) (seen : List ℕ) (row : IsWor
       (to_last_cell sight.place fits.place seen word is row sight.cells (λ now n. Lasts (on_cells now) n)
       (λ at. step (ReadCells at)) (sight.cells.cells - 1) 0 n k (omega arith) refl last)
     where
-    all_cells : (r m k : ℕ) → r ≡ suc m → r * k ≡ m * k + k
-    all_cells r m k e = rw (e, suc-mul) refl
+      all_cells : (r m k : ℕ) → r ≡ suc m → r * k ≡ m * k + k
+      all_cells r m k e = rw (e, suc-mul) refl
 
   -- each cell is lost, and no entry of the horizon is above the snapshot's
   pub goes_astray : (n m : ℕ) → m ≡ n + read_left sight read_begin → Lasts (Over Astray) n → Lasts (At read_begin) m

@@ -1,13 +1,9 @@
 -- Words that make a call of a transaction last as long as it can.
-use Rattle.std.proofs.Common.{◌≡◌, ℕ, suc, ◌+◌, ◌-◌, ◌*◌, ◌<◌, ◌≤◌, List, [], ◌∷◌, ◌++◌, length, refl, arith, Bool}
-use Rattle.std.proofs.Common.{◌∙◌, false, Option, Some}
-use Rattle.std.specs.Prelude.{if◌then◌else◌, max, IsSome}
-use Rattle.si_model.specs.Rows.{key_at, writes_key}
+use Rattle.std.proofs.Common.{◌≡◌, ℕ, ◌+◌, ◌-◌, ◌*◌, ◌<◌, ◌≤◌, List, [], ◌∷◌, length, refl, arith}
+use Rattle.std.proofs.Common.{◌∙◌, false, Some}
+use Rattle.std.specs.Prelude.{IsSome}
 use Rattle.si_model.specs.Evaluation.{op_key}
 use Rattle.si_model.specs.declared.op.Op.{Op}
-use Rattle.si_model.specs.declared.op.Op.TheVariants as op
-use Rattle.nam_verbs.specs.declared.now.Now.{Now}
-use Rattle.nam_verbs.specs.declared.now.Now.TheVariants.{At, Over}
 use Rattle.nam_catalog.specs.declared.shape.Shape.{Shape}
 use Rattle.nam_catalog.specs.Fits.{FitsLimits}
 use Rattle.nam_calls.specs.Holds.{IsWord}
@@ -16,7 +12,7 @@ use Rattle.nam_layout.specs.Place.{place_of}
 use Rattle.nam_layout.proofs.ExtentLemmas.{rows_le}
 use Rattle.nam_layout.proofs.PositionLemmas.{position_is_row}
 use Rattle.nam_calls.specs.Index.{find_begin, claim_key_begin, nth_position}
-use Rattle.nam_calls.specs.Reading.{sight_of, read_begin, read_left, read_most}
+use Rattle.nam_calls.specs.Reading.{sight_of, read_begin, read_most}
 use Rattle.nam_calls.specs.Fits.{IsTableOf}
 use Rattle.nam_calls.proofs.FallsTables.{has_capacity, width_is, sight_fits, read_figure}
 use Rattle.nam_protocol.specs.declared.txn.TxnState.{TxnState}
@@ -27,7 +23,7 @@ use Rattle.nam_protocol.specs.declared.txn.TxnAnswer.TheVariants.{NoSpace, Astra
 use Rattle.nam_protocol.specs.declared.client.CallPoint.TheVariants.{InTxn}
 use Rattle.nam_protocol.specs.declared.client.Open.{Open}
 use Rattle.nam_protocol.specs.declared.client.ClientState.{ClientState}
-use Rattle.nam_protocol.specs.Operations.{op_path, read_of}
+use Rattle.nam_protocol.specs.Operations.{op_path}
 use Rattle.nam_protocol.specs.Txn.{Stepped, at, over, on_find, on_read, on_claim, on_value}
 use Rattle.nam_protocol.specs.TxnCalls.{txn_after, taken_at}
 use Rattle.nam_protocol.specs.Log.{with_locks}

@@ -1,9 +1,9 @@
 -- Words that make a snapshot, a move and a collection last as long as they can.
-use Rattle.std.proofs.Common.{◌≡◌, ℕ, zero, suc, ◌+◌, ◌-◌, ◌*◌, ◌<◌, ◌≤◌, List, [], ◌∷◌, ◌++◌, length, refl, arith, Bool}
-use Rattle.std.proofs.Common.{true, false, not, ◌&&◌}
+use Rattle.std.proofs.Common.{◌≡◌, ℕ, zero, suc, ◌+◌, ◌-◌, ◌*◌, ◌<◌, ◌≤◌, List, [], ◌∷◌, ◌++◌, length, refl, arith}
+use Rattle.std.proofs.Common.{true, false, ◌&&◌}
 use Rattle.std.proofs.lemmas.Bool.{eq-eqb}
 use Rattle.std.proofs.lemmas.Bool.Decides.{nat_tests}
-use Rattle.std.specs.Prelude.{if◌then◌else◌, ◌==◌, nat_lt, slice_index}
+use Rattle.std.specs.Prelude.{◌==◌, nat_lt, slice_index}
 use Rattle.nam_verbs.specs.Until.{until}
 use Rattle.nam_verbs.specs.declared.now.Now.{Now}
 use Rattle.nam_verbs.specs.declared.now.Now.TheVariants.{At, Over}
@@ -27,17 +27,15 @@ use Rattle.nam_calls.specs.declared.overflow.ClaimPoint.{ClaimPoint}
 use Rattle.nam_calls.specs.declared.overflow.ClaimPoint.TheVariants.{ClaimLook, ClaimTake}
 use Rattle.nam_calls.specs.declared.overflow.ClaimEnd.{ClaimEnd}
 use Rattle.nam_calls.specs.declared.overflow.ClaimEnd.TheVariants.{Claimed, NoRoom}
-use Rattle.nam_calls.specs.declared.overflow.FillPoint.{FillPoint}
 use Rattle.nam_calls.specs.declared.overflow.FillPoint.TheVariants.{FillOwner, FillBegin, FillEnding, FillWord}
 use Rattle.nam_calls.specs.declared.overflow.Version.{Version}
 use Rattle.nam_calls.specs.declared.mover.MovePoint.{MovePoint}
 use Rattle.nam_calls.specs.declared.mover.MovePoint.TheVariants.{MoveCount, MoveHead, MoveEnding, MoveClaim}
 use Rattle.nam_calls.specs.declared.mover.MovePoint.TheVariants.{MoveWords, MoveFill, MoveAgain, MoveFull, MoveFlag}
-use Rattle.nam_calls.specs.declared.mover.MovePoint.TheVariants.{MoveBack}
 use Rattle.nam_calls.specs.declared.mover.MoveAnswer.{MoveAnswer}
-use Rattle.nam_calls.specs.declared.mover.MoveAnswer.TheVariants.{Moved, Nothing}
+use Rattle.nam_calls.specs.declared.mover.MoveAnswer.TheVariants.{Nothing}
 use Rattle.nam_calls.specs.Holds.{IsWord}
-use Rattle.nam_calls.specs.Overflow.{claim_after, claim_next, fill_begin, fill_after}
+use Rattle.nam_calls.specs.Overflow.{fill_begin}
 use Rattle.nam_calls.specs.Mover.{on_claim, on_fill, move_after}
 use Rattle.nam_calls.specs.Horizon.{collect_begin, collect_after, collect_next}
 use Rattle.nam_calls.proofs.FallsTests.{or_last, one_more}

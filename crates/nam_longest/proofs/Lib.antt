@@ -2,6 +2,7 @@ pub mod LastsMachines
 pub mod LastsUpkeep
 pub mod LastsRead
 pub mod LastsTxn
+pub mod LastsBeside
 pub mod LastsClient
 pub mod LongestExample
 pub mod ReadToCome

@@ -6,9 +6,9 @@ use Rattle.nam_catalog.specs.declared.shape.Shape.{Shape}
 use Rattle.nam_catalog.specs.Fits.{FitsLimits}
 use Rattle.nam_calls.specs.Holds.{IsWord, AreWords}
 use Rattle.nam_calls.specs.Words.{key_word}
-use Rattle.nam_protocol.specs.declared.txn.TxnCall.TheVariants.{Get, Put, Add, Del, Need, Guard}
+use Rattle.nam_protocol.specs.declared.txn.TxnCall.TheVariants.{Get, Put, Add, Del, Need, Guard, Commit}
 use Rattle.nam_protocol.specs.declared.client.Call.{Call}
-use Rattle.nam_protocol.specs.declared.client.Call.TheVariants.{Txn, Scan}
+use Rattle.nam_protocol.specs.declared.client.Call.TheVariants.{Begin, Txn, Scan, Tidy, Collect}
 use Rattle.nam_protocol.specs.declared.client.Open.{Open}
 use Rattle.nam_protocol.specs.declared.client.CallPoint.{CallPoint}
 use Rattle.nam_protocol.specs.declared.client.ClientState.{ClientState}
@@ -52,8 +52,8 @@ abbrev pub Unwritten : Option Open → ℕ → ℕ → Type 0
 Unwritten None table key = ⊥
 Unwritten (Some attempt) table key = writes_key attempt.state.writes (key_at table key) ≡ false
 
--- Calls that may last as long as their longest: a get or another operation but an add, of a key that isn't written, and a
--- scan of a range that has such a key
+-- Of which calls the law says that they may last so long: of all but a commit, of an operation where its key isn't
+-- written, and of a scan where its range has such a key. A number that is added or taken away is a word
 abbrev pub MayLast : Option Open → Call → Type 0
 MayLast opened (Txn (Get t k)) = Unwritten opened t k
 MayLast opened (Txn (Put t k v)) = Unwritten opened t k
@@ -61,9 +61,12 @@ MayLast opened (Txn (Add t k f up by)) = Unwritten opened t k × IsWord by
 MayLast opened (Txn (Del t k)) = Unwritten opened t k
 MayLast opened (Txn (Need t k f least)) = Unwritten opened t k
 MayLast opened (Txn (Guard t k)) = Unwritten opened t k
-MayLast opened (Scan table low high) = 
+MayLast opened (Txn Commit) = ⊥
+MayLast opened (Scan table low high) =
     (key : ℕ) × (low ≤ key) × (key ≤ high) × IsWord (key_word key) × Unwritten opened table key
-MayLast opened call = ⊥
+MayLast opened (Begin txn nth) = Unit {0}
+MayLast opened (Tidy table key) = Unit {0}
+MayLast opened (Collect bucket) = Unit {0}
 
 -- some words make the call last as long as its longest
 abbrev pub ReachedLaw : Type 0

@@ -152,7 +152,8 @@ module _ (shape : Shape) (limits : FitsLimits shape) where
       → Lowers shape (open_to_come shape opened at) (take_txn shape client at opened found)
   take_txn_lowers client at None found f p = absurd p
   take_txn_lowers client at (Some attempt) found f p =
-      stepped_lowers shape client attempt (length (taken_at attempt.state at)) _ (txn_after shape attempt.state at found)
+      stepped_lowers shape client attempt (length (taken_at attempt.state at)) _
+      (txn_after shape attempt.state at found)
       (txn_lowers shape limits attempt.state at found f p)
 
   take_scan_lowers : (client : ClientState) (table low high : ℕ) (at : ScanPoint) (opened : Option Open) (found : ℕ)

@@ -132,7 +132,8 @@ larger P a b p q = by_test (λ (n : ℕ). n ≡ max a b → P (max a b)) (nat_le
     (λ e same. subst P same q) (λ e same. subst P same p) (greater a b)
   where
     greater : (a b : ℕ) → (if nat_le a b then b else a) ≡ max a b
-    greater a b = by_test (λ n. n ≡ max a b) (nat_le a b) b a (λ e. grind (arith, nat_tests)) (λ e. grind (arith, nat_tests))
+    greater a b =
+        by_test (λ n. n ≡ max a b) (nat_le a b) b a (λ e. grind (arith, nat_tests)) (λ e. grind (arith, nat_tests))
 
 module _ (shape : Shape) (limits : FitsLimits shape) where
   module _ (op : Op) (state : TxnState) (unwritten : writes_key state.writes (op_key op) ≡ false) where
@@ -198,7 +199,8 @@ module _ (shape : Shape) (limits : FitsLimits shape) where
       client (with_call attempt (Get t k)) 0 runs
   op_reached client (Some attempt) (Put t k v) runs stands may =
       claims_last (op.Put t k v) attempt.state may (claim_bound shape t) refl
-      (claimed_last shape limits (op.Put t k v) (op_table shape limits attempt.state.claims (op.Put t k v) stands) stands.2
+      (claimed_last shape limits (op.Put t k v)
+      (op_table shape limits attempt.state.claims (op.Put t k v) stands) stands.2
       (record attempt.state { read = None }))
       client (with_call attempt (Put t k v)) 0 runs
   op_reached client (Some attempt) (Add t k f up by) runs stands may =

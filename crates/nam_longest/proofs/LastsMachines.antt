@@ -89,7 +89,8 @@ other_8 Held = refl
 
 -- before a word that leads on it lasts one verb more
 abbrev pub LastsMore : {P E : Type 0} → (Now P E → ℕ → Type 0) → (P → ℕ → Now P E) → Type 0
-LastsMore {P = P} Lasts after = (at : P) (found n m : ℕ) → IsWord found → m ≡ n + 1 → Lasts (after at found) n → Lasts (At at) m
+LastsMore {P = P} Lasts after =
+    (at : P) (found n m : ℕ) → IsWord found → m ≡ n + 1 → Lasts (after at found) n → Lasts (At at) m
 
 -- 2. Words one after another
 
@@ -109,8 +110,10 @@ all_more word words all nth l =
     ]
 
 -- a word is read so many times
-pub words_last : {P E : Type 0} (Lasts : Now P E → ℕ → Type 0) (word : ℕ) (is : IsWord word) (width : ℕ) (more done : List ℕ → P)
-    → ((got : List ℕ) (found n m : ℕ) → IsWord found → m ≡ n + 1 → Lasts (At (until width (got ++ found ∷ []) more done)) n
+pub words_last : {P E : Type 0} (Lasts : Now P E → ℕ → Type 0) (word : ℕ) (is : IsWord word) (width : ℕ)
+    (more done : List ℕ → P)
+    → ((got : List ℕ) (found n m : ℕ) → IsWord found → m ≡ n + 1
+    → Lasts (At (until width (got ++ found ∷ []) more done)) n
     → Lasts (At (more got)) m)
     → (rest : ℕ) (got : List ℕ) (n m : ℕ) → AreAll word got → length got + suc rest ≡ width → m ≡ n + suc rest
     → ((value : List ℕ) → length value ≡ width → AreAll word value → Lasts (At (done value)) n)
@@ -141,7 +144,7 @@ module _ (place : Place) (fits : FitsPlace place) (seen : List ℕ) (word : ℕ)
         (on_false (λ now. Lasts now (n + (place.width + 1))) _ (Over (current.Found None)) _ (kept_0 place.form)
         (words_last Lasts word is place.width (CurrentWords 0) (CurrentAgain 0) (λ got. step (CurrentWords 0 got))
         (place.width - 1) [] (n + 1) (n + (place.width + 1)) (all_none word) (omega arith) (omega arith)
-        (λ value wide q. step (CurrentAgain 0 value) 1 n (n + 1) (omega arith) refl
+        (λ value wide same. step (CurrentAgain 0 value) 1 n (n + 1) (omega arith) refl
         (on_true (λ now. Lasts now n) _ _ (Over current.GoOld) (same_1 place.form)
         (on_true (λ now. Lasts now n) (is_locked place.form 0 || is_locked place.form 1) (Over (Unsure value 0))
         (Over (current.Found (Some value)))
@@ -164,7 +167,7 @@ module _ (place : Place) (fits : FitsPlace place) (seen : List ℕ) (word : ℕ)
         (on_false (λ now. Lasts now (n + (place.width + 1))) _ _ _ (sees_not_8 place.form seen)
         (words_last Lasts word is place.width (SlotWords slot 0) (SlotAgain slot 0) (λ got. step (SlotWords slot 0 got))
         (place.width - 1) [] (n + 1) (n + (place.width + 1)) (all_none word) (omega arith) (omega arith)
-        (λ value wide q. step (SlotAgain slot 0 value) 8 n (n + 1) (omega arith) refl
+        (λ value wide same. step (SlotAgain slot 0 value) 8 n (n + 1) (omega arith) refl
         (on_false (λ now. Lasts now n) (same_stamp place.form 8 0 && true) _ _ (rw (other_8 place.form) refl) next))))))
 
     lost_slots : (rest slot n m : ℕ) → slot + suc rest ≡ place.ring → m ≡ n + suc rest * (place.width + 3)
@@ -205,22 +208,25 @@ module _ (place : Place) (fits : FitsPlace place) (seen : List ℕ) (word : ℕ)
         (step (CellEnding cell 2 0) 8 (n + place.width) _ (omega arith) (omega arith)
         (on_false (λ now. Lasts now (n + place.width)) _ (next_cell cells cell) (At (CellWords cell 2 0 []))
         (sees_not_8 place.form seen)
-        (words_last Lasts word is place.width (CellWords cell 2 0) (CellAgain cell 2 0) (λ got. step (CellWords cell 2 0 got))
+        (words_last Lasts word is place.width (CellWords cell 2 0) (CellAgain cell 2 0)
+        (λ got. step (CellWords cell 2 0 got))
         (place.width - 1) [] n (n + place.width) (all_none word) (omega arith) (omega arith) all)))))))
 
     -- it is lost by then, or it is there and the version is found
     pub lost_cell : (cell n m : ℕ) → m ≡ n + (place.width + 5) → Lasts (next_cell cells cell) n
         → Lasts (At (CellTag cell)) m
     lost_cell cell n m e next =
-        filled_cell cell (n + 1) m (omega arith) (λ value wide q. step (CellAgain cell 2 0 value) 8 n (n + 1) (omega arith) refl next)
+        filled_cell cell (n + 1) m (omega arith)
+        (λ value wide same. step (CellAgain cell 2 0 value) 8 n (n + 1) (omega arith) refl next)
 
     pub found_cell : (cell n m : ℕ) → m ≡ n + (place.width + 5)
         → ((value : List ℕ) → length value ≡ place.width → AreAll word value → Lasts (Over (Found (Some value))) n)
         → Lasts (At (CellTag cell)) m
     found_cell cell n m e found =
         filled_cell cell (n + 1) m (omega arith)
-        (λ value wide q. step (CellAgain cell 2 0 value) 2 n (n + 1) (omega arith) refl
-        (on_false (λ value. Lasts (Over (Found value)) n) _ None (Some value) (kept_0 place.form) (found value wide q)))
+        (λ value wide same. step (CellAgain cell 2 0 value) 2 n (n + 1) (omega arith) refl
+        (on_false (λ value. Lasts (Over (Found value)) n) _ None (Some value) (kept_0 place.form)
+        (found value wide same)))
 
     -- each cell but the last is lost
     pub to_last_cell : (rest cell n m : ℕ) → cell + suc rest ≡ cells.cells → m ≡ n + rest * (place.width + 5)

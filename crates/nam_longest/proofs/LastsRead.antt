@@ -40,7 +40,8 @@ module _ (sight : Sight) (fits : SightFits sight) (seen : List ℕ) (row : IsWor
       (λ at. step (ReadRing at)) n (n + r) refl last))))
 
   -- up to the last cell
-  to_last : (n m : ℕ) → m + sight.place.width + 5 ≡ n + (sight.place.width + 3 + 2 * ring_whole sight) + cells_whole sight
+  to_last : (n m : ℕ)
+      → m + sight.place.width + 5 ≡ n + (sight.place.width + 3 + 2 * ring_whole sight) + cells_whole sight
       → ((last : ℕ) → last + 1 ≡ sight.cells.cells → Lasts (At (ReadCells (CellTag last))) n) → Lasts (At read_begin) m
   to_last n m e last =
       let c = fits.cells.least_cells in

@@ -85,7 +85,8 @@ module _ (shape : Shape) where
         (λ passed. at_lasts state (Finding op passed)) (capacity_of shape table - 1) 0 n m (omega arith) (omega arith)
         (λ last l. all (nth_position (op_path shape op) last) (omega arith))
 
-    pub claimed_last : (state : TxnState) → TxnLasts (at state (Claiming op claim_key_begin)) (2 * capacity_of shape table)
+    pub claimed_last : (state : TxnState)
+        → TxnLasts (at state (Claiming op claim_key_begin)) (2 * capacity_of shape table)
     claimed_last state =
         let c = least in
         claim_lasts (op_path shape op) word (λ now n. TxnLasts (on_claim shape state op now) n)
@@ -100,7 +101,8 @@ module _ (shape : Shape) where
         (λ position l.
         let f = read_figure shape limits table position is l in
         goes_astray (sight_of shape table position) (sight_fits shape limits table position is l) state.seen
-        (row_word shape limits table position is l) 0 (omega arith) (λ now n. TxnLasts (on_read shape state op position now) n)
+        (row_word shape limits table position is l) 0 (omega arith)
+        (λ now n. TxnLasts (on_read shape state op position now) n)
         (λ at. at_lasts state (Reading op position at)) 0 _ (omega arith) (over_lasts state Astray))
 
     -- the read finds a value at the very last, whose words are all this one

@@ -49,17 +49,18 @@ module _ (workers : ℕ) (some : 1 ≤ workers) (word : ℕ) (is : IsWord word) 
       → nth + suc rest ≡ workers → m ≡ n + suc rest → Lasts (Over (Done seen)) n → Lasts (At (Second seen nth)) m
   second_lasts seen all whole zero nth n m e f last =
       step (Second seen nth) word n m is (omega arith)
-      (on_true (λ now. Lasts now n) (word == slice_index seen nth) _ (Over (Again (nth + 1) (slice_index seen nth) word))
+      (on_true (λ now. Lasts now n) (word == slice_index seen nth) _
+      (Over (Again (nth + 1) (slice_index seen nth) word))
       (rw (all nth (omega arith)) (eq-eqb word word refl))
-      (or_last (λ now. Lasts now n) workers nth (Over (Done seen)) (At (Second seen (nth + 1))) (omega arith) (λ t. last)
-      (λ t. absurd (omega arith))))
+      (or_last (λ now. Lasts now n) workers nth (Over (Done seen)) (At (Second seen (nth + 1))) (omega arith)
+      (λ t. last) (λ t. absurd (omega arith))))
   second_lasts seen all whole (suc rest) nth n m e f last =
       step (Second seen nth) word (n + suc rest) m is (omega arith)
       (on_true (λ now. Lasts now (n + suc rest)) (word == slice_index seen nth) _
       (Over (Again (nth + 1) (slice_index seen nth) word))
       (rw (all nth (omega arith)) (eq-eqb word word refl))
-      (or_last (λ now. Lasts now (n + suc rest)) workers nth (Over (Done seen)) (At (Second seen (nth + 1))) (omega arith)
-      (λ t. absurd (omega arith))
+      (or_last (λ now. Lasts now (n + suc rest)) workers nth (Over (Done seen)) (At (Second seen (nth + 1)))
+      (omega arith) (λ t. absurd (omega arith))
       (λ t. second_lasts seen all whole rest (nth + 1) n (n + suc rest) (omega arith) refl last)))
 
   pub snap_lasts : (n m : ℕ) → m ≡ n + 2 * workers
@@ -190,7 +191,8 @@ module _ (place : Place) (cells : Cells) (fits : FitsPlace place) (room : FitsCe
   version_moved slot cell n m e last =
       let w = fits.least_width in
       words_last Lasts 0 (omega arith) place.width (MoveWords slot 0 0 cell 1)
-      (λ value. MoveFill slot 0 cell 1 record { begin = without_moved place.form 0; «end» = 0; value = value } fill_begin)
+      (λ value. MoveFill slot 0 cell 1
+      record { begin = without_moved place.form 0; «end» = 0; value = value } fill_begin)
       (λ got. step (MoveWords slot 0 0 cell 1 got)) (place.width - 1) [] (n + (place.width + 6)) m (all_none 0)
       (omega arith) (omega arith)
       (λ value wide all.

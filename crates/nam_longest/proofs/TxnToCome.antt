@@ -50,7 +50,8 @@ module _ (shape : Shape) where
   pub txn_within : (state : TxnState) (place : TxnPoint) → txn_to_come shape state place ≤ txn_left shape state place
   txn_within state (Finding op passed) = omega arith
   txn_within state (Reading op position at) =
-      read_within (sight_of shape (op_key op).table position) (claim_most shape op) (claim_most shape op) (omega arith) at
+      read_within (sight_of shape (op_key op).table position) (claim_most shape op) (claim_most shape op)
+      (omega arith) at
   txn_within state (Claiming op at) = omega arith
   txn_within state (Committing at) = omega arith
 

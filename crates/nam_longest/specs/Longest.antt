@@ -1,5 +1,5 @@
--- How many verbs a call of a client takes at the very most, whatever words it finds, and how many are to come at each of
--- its points.
+-- How many verbs a call of a client takes at the very most, whatever words it finds, and how many are to come at each
+-- of its points.
 use Rattle.std.specs.Prelude.{ℕ, ◌+◌, ◌-◌, ◌*◌, max, if◌then◌else◌, Option, Some, None}
 use Rattle.si_model.specs.Evaluation.{op_key}
 use Rattle.nam_verbs.specs.declared.now.Now.{Now}

@@ -1,7 +1,7 @@
 //! How many verbs each call of a client takes at the very most, whatever words it finds.
 //!
-//! The crate has no code that runs. The law says that no words make a call take more verbs than its longest, which is
-//! below the bound of a read; proofs/ has words that make calls take as many.
+//! The crate has no code that runs. The law says that no words make a call take more verbs than its longest, and that
+//! some words make it take as many. Where a call reads, its longest is below its bound.
 #![tactic(auto)]
 
 mod laws;

@@ -20,6 +20,9 @@ use Rattle.nam_protocol.specs.declared.txn.TxnCall.{TxnCall}
 use Rattle.nam_protocol.specs.declared.txn.TxnCall.TheVariants.{Get, Put, Add, Del, Need, Guard, Commit}
 use Rattle.nam_protocol.specs.declared.txn.TxnAnswer.{TxnAnswer}
 use Rattle.nam_protocol.specs.Txn.{Stepped, ask_op}
+use Rattle.nam_protocol.specs.Commit.{ask_commit}
+use Rattle.nam_longest.specs.Deletions.{commit_longest}
+use Rattle.nam_longest.specs.Longest.{open_commit_longest}
 use Rattle.nam_protocol.specs.declared.scan.ScanPoint.{ScanPoint}
 use Rattle.nam_protocol.specs.declared.scan.ScanPoint.TheVariants.{ScanKey, ScanRead}
 use Rattle.nam_protocol.specs.declared.scan.ScanAnswer.{ScanAnswer}
@@ -49,7 +52,8 @@ use Rattle.nam_protocol.specs.declared.scan.ScanAnswer.TheVariants as scan_answe
 use Rattle.nam_longest.specs.Longest.{txn_to_come, scan_to_come, open_to_come, call_to_come, to_come_of, client_to_come}
 use Rattle.nam_longest.specs.Longest.{value_longest, get_longest, guard_longest, scan_longest, call_longest}
 use Rattle.nam_longest.specs.LongestLaw.{TakesWords}
-use Rattle.nam_longest.proofs.TxnToCome.{TxnLowers, txn_within, txn_lowers, read_asked}
+use Rattle.nam_longest.proofs.TxnToCome.{TxnLowers, txn_within, read_asked}
+use Rattle.nam_longest.proofs.CallsToCome.{txn_lowers, commit_asked}
 use Rattle.nam_longest.proofs.ScanToCome.{rest, ScanLowers, scan_skip_lowers, scan_within, scan_lowers}
 
 -- where a client is cut off nothing is to come
@@ -285,6 +289,14 @@ module _ (shape : Shape) (limits : FitsLimits shape) where
   guard_asked client (Some attempt) t k stands =
       read_call_asked client (op.Guard t k) (with_call attempt (Guard t k)) _ refl (omega arith)
 
+  commit_call_asked : (client : ClientState) (opened : Option Open) → OpenFits shape opened
+      → OpenCallFits shape opened Commit
+      → opened_ask client Commit opened ≤ open_commit_longest shape opened
+  commit_call_asked client None fits stands = absurd stands
+  commit_call_asked client (Some attempt) fits stands =
+      step_asked client attempt (commit_longest shape attempt.state) (ask_commit shape attempt.state)
+      (commit_asked shape limits attempt.state fits)
+
   scan_asked : (client : ClientState) (table low high : ℕ) (opened : Option Open) → IsSome opened
       → client_to_come shape (ask_scan shape client table low high opened) ≤ scan_longest shape table
   scan_asked client table low high None some = absurd (cc)
@@ -303,7 +315,7 @@ module _ (shape : Shape) (limits : FitsLimits shape) where
       by_bound client (Txn (Del t k)) fits stands (del_bound client.txn t k)
   client_asked client (Txn (Need t k f least)) fits stands = need_asked client client.txn t k f least stands
   client_asked client (Txn (Guard t k)) fits stands = guard_asked client client.txn t k stands
-  client_asked client (Txn Commit) fits stands = by_bound client (Txn Commit) fits stands (omega arith)
+  client_asked client (Txn Commit) fits stands = commit_call_asked client client.txn fits.1 stands
   client_asked client (Scan table low high) fits stands = scan_asked client table low high client.txn stands.0
   client_asked client (Tidy table key) fits stands = by_bound client (Tidy table key) fits stands (omega arith)
   client_asked client (Collect bucket) fits stands = by_bound client (Collect bucket) fits stands (omega arith)

@@ -9,3 +9,6 @@ pub mod ReadToCome
 pub mod TxnToCome
 pub mod ScanToCome
 pub mod ClientToCome
+pub mod SparedLemmas
+pub mod CommitToCome
+pub mod CallsToCome

@@ -75,7 +75,7 @@ module _ (shape : Shape) (limits : FitsLimits shape) where
         (λ e. let m = claims_take shape op e in let c = least in (tt, omega arith))
         (λ e. (tt, omega arith)))
 
-    on_find_lowers : (n : ℕ) (now : Now ℕ FindEnd) → FindFalls (op_path shape op) n now
+    pub on_find_lowers : (n : ℕ) (now : Now ℕ FindEnd) → FindFalls (op_path shape op) n now
         → TxnLowers shape (n + (value_longest shape table + max (claim_most shape op) shape.workers))
         (on_find shape state op now)
     on_find_lowers n (At passed) h = (tt, let m = h.1 in omega arith)
@@ -84,7 +84,7 @@ module _ (shape : Shape) (limits : FitsLimits shape) where
         (tt, let m = h.1 in omega arith)
     on_find_lowers n (Over found_key.Absent) h = valued_lowers _ None (let m = h.1 in omega arith)
 
-    on_read_lowers : (position n : ℕ) (now : Now ReadPoint ReadingEnd) (l : position < capacity_of shape table)
+    pub on_read_lowers : (position n : ℕ) (now : Now ReadPoint ReadingEnd) (l : position < capacity_of shape table)
         → ReadLowers (sight_of shape table position) (sight_fits shape limits table position is l)
         (claim_most shape op) n now
         → TxnLowers shape n (on_read shape state op position now)
@@ -94,7 +94,7 @@ module _ (shape : Shape) (limits : FitsLimits shape) where
     on_read_lowers position n (Over read_end.Astray) l h = (tt, h.1)
 
   -- a claim or a commit has stepped: fewer verbs are left, and no more are to come
-  stepped_lowers : (n : ℕ) (step : Stepped) → TxnFalls shape n step → TxnLowers shape n step
+  pub stepped_lowers : (n : ℕ) (step : Stepped) → TxnFalls shape n step → TxnLowers shape n step
   stepped_lowers n step h =
       lowered step.state n step.call h.1
     where
@@ -103,25 +103,6 @@ module _ (shape : Shape) (limits : FitsLimits shape) where
           → FallsTo Any Any (txn_to_come shape state) nothing n now
       lowered state n (At place) h = (tt, let m = h.1 in let w = txn_within shape state place in omega arith)
       lowered state n (Over answer) h = (tt, h.1)
-
-  -- a word is taken
-  pub txn_lowers : (state : TxnState) (place : TxnPoint) (found : ℕ) → StateFits shape state
-      → TxnPointFits shape state place
-      → TxnLowers shape (txn_to_come shape state place) (txn_after shape state place found)
-  txn_lowers state (Finding op passed) found fits p =
-      on_find_lowers state op (op_table shape limits state.claims op p.0) _ _
-      (find_falls (op_path shape op) passed found p.1)
-  txn_lowers state (Reading op position at) found fits p =
-      let is = op_table shape limits state.claims op p.0 in
-      let sees = sight_fits shape limits (op_key op).table position is p.1 in
-      on_read_lowers state op is position _ _ p.1
-      (read_lowers (sight_of shape (op_key op).table position) sees (claim_most shape op) state.seen at found p.2)
-  txn_lowers state (Claiming op at) found fits p =
-      stepped_lowers (txn_left shape state (Claiming op at)) (txn_after shape state (Claiming op at) found)
-      (txn_falls shape limits state (Claiming op at) found fits p)
-  txn_lowers state (Committing at) found fits p =
-      stepped_lowers (txn_left shape state (Committing at)) (txn_after shape state (Committing at) found)
-      (txn_falls shape limits state (Committing at) found fits p)
 
   -- An operation that reads is asked: it takes no verb where its key is one of the write set
   pub read_asked : (state : TxnState) (op : Op) → op_reads op ≡ true

@@ -15,7 +15,7 @@ use Rattle.nam_protocol.specs.declared.txn.TxnState.{TxnState}
 use Rattle.nam_protocol.specs.declared.txn.TxnCall.{TxnCall}
 use Rattle.nam_protocol.specs.declared.txn.TxnCall.TheVariants.{Get, Put, Add, Del, Need, Guard, Commit}
 use Rattle.nam_protocol.specs.declared.txn.TxnPoint.{TxnPoint}
-use Rattle.nam_protocol.specs.declared.txn.TxnPoint.TheVariants.{Finding, Reading}
+use Rattle.nam_protocol.specs.declared.txn.TxnPoint.TheVariants.{Finding, Reading, Committing}
 use Rattle.nam_protocol.specs.declared.scan.ScanPoint.{ScanPoint}
 use Rattle.nam_protocol.specs.declared.scan.ScanPoint.TheVariants.{ScanKey, ScanRead}
 use Rattle.nam_protocol.specs.declared.client.Answer.{Answer}
@@ -28,7 +28,7 @@ use Rattle.nam_protocol.specs.declared.client.ClientState.{ClientState}
 use Rattle.nam_protocol.specs.Operations.{op_path}
 use Rattle.nam_protocol.specs.Bound.{claim_most, txn_left, find_bound, claim_bound, tidy_bound, collect_bound}
 use Rattle.nam_protocol.specs.Left.{call_left}
-use Rattle.nam_protocol.specs.ClientFits.{open_bound}
+use Rattle.nam_longest.specs.Deletions.{commit_longest, commit_to_come}
 
 -- what is to come of a read at the very most, where so many verbs follow a value that it finds: it looks at the
 -- horizon's entries only where it has found none
@@ -60,7 +60,11 @@ module _ (shape : Shape) where
   abbrev pub scan_longest : ℕ → ℕ
   scan_longest table = positions_longest table (capacity_of shape table)
 
-  -- a put, a deletion and a commit may take as many as their bound
+  abbrev pub open_commit_longest : Option Open → ℕ
+  open_commit_longest None = 0
+  open_commit_longest (Some attempt) = commit_longest shape attempt.state
+
+  -- a put and a deletion may take as many as their bound
   abbrev pub txn_call_longest : Option Open → TxnCall → ℕ
   txn_call_longest opened (Get t k) = get_longest t
   txn_call_longest opened (Put t k v) = claim_bound shape t
@@ -68,7 +72,7 @@ module _ (shape : Shape) where
   txn_call_longest opened (Del t k) = claim_bound shape t
   txn_call_longest opened (Need t k f least) = get_longest t
   txn_call_longest opened (Guard t k) = guard_longest t
-  txn_call_longest opened Commit = open_bound shape opened Commit
+  txn_call_longest opened Commit = open_commit_longest opened
 
   -- and so may a snapshot, a tidying and a collection
   abbrev pub call_longest : ClientState → Call → ℕ
@@ -85,6 +89,7 @@ module _ (shape : Shape) where
       find_left (op_path shape op) passed + (value_longest (op_key op).table + max (claim_most shape op) shape.workers)
   txn_to_come state (Reading op position at) =
       read_to_come (sight_of shape (op_key op).table position) (claim_most shape op) at
+  txn_to_come state (Committing at) = commit_to_come state at
   txn_to_come state place = txn_left shape state place
 
   abbrev pub scan_to_come : ℕ → ScanPoint → ℕ

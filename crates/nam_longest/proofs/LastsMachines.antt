@@ -57,7 +57,7 @@ pub on_false : {A : Type 0} (P : A → Type 0) (b : Bool) (x y : A) → b ≡ fa
 on_false P b x y e p = rw e p
 
 -- each snapshot sees the loader's stamp, 0, and none sees 8, which bears another number of it
-sees_0 : (form : Form) (seen : List ℕ) → sees form seen 0 ≡ true
+pub sees_0 : (form : Form) (seen : List ℕ) → sees form seen 0 ≡ true
 sees_0 Narrow seen = refl
 sees_0 Wide seen = refl
 sees_0 Held seen = refl

@@ -55,10 +55,10 @@ module _ (shape : Shape) where
   TxnLasts step n = (client : ClientState) (attempt : Open) (before : ℕ) → client.cut ≡ false
       → LastsWords shape (stepped client attempt before step) n
 
-  over_lasts : (state : TxnState) (answer : TxnAnswer) → TxnLasts (over state answer) 0
+  pub over_lasts : (state : TxnState) (answer : TxnAnswer) → TxnLasts (over state answer) 0
   over_lasts state answer client attempt before runs = ([], tt, tt, refl)
 
-  at_lasts : (state : TxnState) (place : TxnPoint) (found n m : ℕ) → IsWord found → m ≡ n + 1
+  pub at_lasts : (state : TxnState) (place : TxnPoint) (found n m : ℕ) → IsWord found → m ≡ n + 1
       → TxnLasts (txn_after shape state place found) n → TxnLasts (at state place) m
   at_lasts state place found n m is e h client attempt before runs =
       let locks = new_locks state before (taken_at state place) in

@@ -3,6 +3,7 @@ pub mod LastsUpkeep
 pub mod LastsRead
 pub mod LastsTxn
 pub mod LastsBeside
+pub mod LastsCommit
 pub mod LastsClient
 pub mod LongestExample
 pub mod ReadToCome

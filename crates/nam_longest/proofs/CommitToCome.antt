@@ -87,10 +87,10 @@ module _ (shape : Shape) (limits : FitsLimits shape) (state : TxnState) (fits : 
   abbrev records : ℕ
   records = length state.records
 
-  within : writes ≤ records
+  pub within : writes ≤ records
   within = writes_within shape state fits are
 
-  as_many : length (places state) ≡ records
+  pub as_many : length (places state) ≡ records
   as_many = places_length shape state fits are
 
   no_more : length state.writes ≤ length (places state)
@@ -99,13 +99,13 @@ module _ (shape : Shape) (limits : FitsLimits shape) (state : TxnState) (fits : 
   all_spared : spared_from state 0 + 5 * writes ≤ installs_most (take writes (places state))
   all_spared = spared_installs state.writes (places state) no_more
 
-  later_spared : (nth : ℕ) → spared_from state nth ≤ rest_from state nth
+  pub later_spared : (nth : ℕ) → spared_from state nth ≤ rest_from state nth
   later_spared nth = let s = spared_installs_from state.writes (places state) nth no_more in omega arith
 
-  none_spared : (nth : ℕ) → writes ≤ nth → spared_from state nth ≡ 0
+  pub none_spared : (nth : ℕ) → writes ≤ nth → spared_from state nth ≡ 0
   none_spared nth l = spared_none state.writes (drop nth (places state)) nth l
 
-  nth_spared : (nth : ℕ) → nth < writes
+  pub nth_spared : (nth : ℕ) → nth < writes
       → spared_from state nth
       ≡ (if is_some (value_at state nth) then 0 else (record_place state nth).width) + spared_from state (nth + 1)
   nth_spared nth l =
@@ -115,7 +115,7 @@ module _ (shape : Shape) (limits : FitsLimits shape) (state : TxnState) (fits : 
       let next = ap (spared_from state) same in
       omega arith
 
-  nth_listed : (nth : ℕ) → nth < writes
+  pub nth_listed : (nth : ℕ) → nth < writes
       → listed_from state nth ≡ (record_place state nth).width + 2 + listed_from state (nth + 1)
   nth_listed nth l =
       let n = no_more in

@@ -36,19 +36,19 @@ use Rattle.nam_calls.specs.Holds.{IsWord}
 use Rattle.nam_longest.proofs.LastsMachines.{on_true, on_false, sees_0}
 use Rattle.nam_longest.proofs.LastsTxn.{TxnLasts, at_lasts, over_lasts}
 
-unlocked_0 : (form : Form) → is_locked form 0 ≡ false
+pub unlocked_0 : (form : Form) → is_locked form 0 ≡ false
 unlocked_0 Narrow = refl
 unlocked_0 Wide = refl
 unlocked_0 Held = refl
 
-moved_4 : (form : Form) → is_moved form 4 ≡ true
+pub moved_4 : (form : Form) → is_moved form 4 ≡ true
 moved_4 Narrow = refl
 moved_4 Wide = refl
 moved_4 Held = refl
 
 module _ (shape : Shape) where
   -- a word before what follows
-  then_lasts : (state : TxnState) (place : CommitPoint) (found n m : ℕ) → IsWord found → m ≡ n + 1
+  pub then_lasts : (state : TxnState) (place : CommitPoint) (found n m : ℕ) → IsWord found → m ≡ n + 1
       → TxnLasts shape (commit_after state place found) n → TxnLasts shape (go state place) m
   then_lasts state place found n m is e h = at_lasts shape state (Committing place) found n m is e h
 
@@ -81,7 +81,7 @@ module _ (shape : Shape) where
         (then_lasts state (Freeing nth) 0 (rest + clear_left state) m (omega arith) (omega arith)
         (frees_last rest (nth + 1) (rest + clear_left state) (omega arith) refl))
 
-    publish_lasts : writes ≤ records → TxnLasts shape (go state Publishing) (publish_most state + clear_left state)
+    pub publish_lasts : writes ≤ records → TxnLasts shape (go state Publishing) (publish_most state + clear_left state)
     publish_lasts l =
         then_lasts state Publishing 0 (records - writes + clear_left state) _ (omega arith) (omega arith)
         (frees_last (records - writes) writes _ (omega arith) refl)
@@ -153,7 +153,7 @@ module _ (shape : Shape) where
       installed (Some value) n m e next =
           words_installed (width - 1) 0 (n + 2) m (omega arith) (omega arith) (head_installed n (n + 2) refl next)
 
-      record_lasts : (n m : ℕ) → m ≡ n + ((if is_some (value_at state nth) then width else 0) + (2 * width + 5))
+      pub record_lasts : (n m : ℕ) → m ≡ n + ((if is_some (value_at state nth) then width else 0) + (2 * width + 5))
           → TxnLasts shape (on_install state nth (Over tt)) n → TxnLasts shape (go state (Saving nth [])) m
       record_lasts n m e next =
           let last = (if is_some (value_at state nth) then width else 0) + 2 in

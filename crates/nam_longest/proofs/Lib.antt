@@ -4,6 +4,7 @@ pub mod LastsRead
 pub mod LastsTxn
 pub mod LastsBeside
 pub mod LastsCommit
+pub mod LastsWhole
 pub mod LastsClient
 pub mod LongestExample
 pub mod ReadToCome

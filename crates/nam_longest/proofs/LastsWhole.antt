@@ -50,13 +50,13 @@ all_taken (suc n) [] = refl
 all_taken (suc n) (p ∷ ps) = all_taken n ps
 
 -- what isn't written is listed by its row and kind
-guard_listed : (nth : ℕ) (ps : List Place) → nth < length ps
+pub guard_listed : (nth : ℕ) (ps : List Place) → nth < length ps
     → listed_most 0 (drop nth ps) ≡ 2 + listed_most 0 (drop (suc nth) ps)
 guard_listed nth [] l = absurd (omega arith)
 guard_listed zero (p ∷ ps) l = refl
 guard_listed (suc nth) (p ∷ ps) l = guard_listed nth ps (omega arith)
 
-all_listed : (n nth : ℕ) (ps : List Place) → length ps ≤ nth → listed_most n (drop nth ps) ≡ 0
+pub all_listed : (n nth : ℕ) (ps : List Place) → length ps ≤ nth → listed_most n (drop nth ps) ≡ 0
 all_listed zero zero [] l = refl
 all_listed (suc n) zero [] l = refl
 all_listed zero (suc nth) [] l = refl
@@ -75,7 +75,7 @@ module _ (shape : Shape) (limits : FitsLimits shape) (state : TxnState) (fits : 
   abbrev clear : ℕ
   clear = clear_left state
 
-  wide : (nth : ℕ) → nth < writes → 1 ≤ (record_place state nth).width
+  pub wide : (nth : ℕ) → nth < writes → 1 ≤ (record_place state nth).width
   wide nth l =
       let w = within shape limits state fits are some in
       (nth_fits shape state fits are limits nth (omega arith)).least_width
@@ -92,7 +92,7 @@ module _ (shape : Shape) (limits : FitsLimits shape) (state : TxnState) (fits : 
       let next = ap (rest_from state) same in
       omega arith
 
-  spares : (nth : ℕ) → nth < writes
+  pub spares : (nth : ℕ) → nth < writes
       → (if is_some (value_at state nth) then (record_place state nth).width else 0)
       + (if is_some (value_at state nth) then 0 else (record_place state nth).width)
       ≡ (record_place state nth).width
@@ -159,7 +159,7 @@ module _ (shape : Shape) (limits : FitsLimits shape) (state : TxnState) (fits : 
   untold : tells_intent state ≡ false → of_intent state (writes + 1) ≡ 0
   untold e = ap (λ (b : Bool). if b then writes + 1 else 0) e
 
-  checked_lasts : (m : ℕ) → m + spared_from state 0 ≡ after_checks state + clear → TxnLasts shape (checked state) m
+  pub checked_lasts : (m : ℕ) → m + spared_from state 0 ≡ after_checks state + clear → TxnLasts shape (checked state) m
   checked_lasts m e =
       by_test (λ step. TxnLasts shape step m) (tells_intent state) (go state (Counting 0)) (go state (Saving 0 []))
       (λ t. let o = told t in counts_last (writes - 1) 0 m (omega arith) (omega arith))
@@ -179,7 +179,7 @@ module _ (shape : Shape) where
       (on_true (λ end. TxnLasts shape (on_slot now end) n) (is_moved place.form 4) (Over (Free 0))
       (Over (NotMoved (slot_of place 0) 4)) (moved_4 place.form) next))
 
-  slots_last : (state : TxnState) (rest n m : ℕ) (counts : List ℕ) → length counts + suc rest ≡ length state.writes
+  pub slots_last : (state : TxnState) (rest n m : ℕ) (counts : List ℕ) → length counts + suc rest ≡ length state.writes
       → m ≡ n + 2 * suc rest
       → ((all : List ℕ) → TxnLasts shape (checked (record state { counts = all })) n)
       → TxnLasts shape (go (record state { counts = counts }) (Checking CheckCount)) m
@@ -212,7 +212,7 @@ module _ (shape : Shape) where
       (give_back (places state) held 0 0) (sees_0 form state.seen)
       (then_lasts shape now (Locking (Seize 0)) 0 n (n + 1) (omega arith) refl next)))
 
-  locks_last : (state : TxnState) (rest n m : ℕ) (held : List ℕ) → length held + suc rest ≡ length (places state)
+  pub locks_last : (state : TxnState) (rest n m : ℕ) (held : List ℕ) → length held + suc rest ≡ length (places state)
       → m ≡ n + 2 * suc rest
       → ((all : List ℕ) → TxnLasts shape (go (record state { held = all }) (Checking CheckCount)) n)
       → TxnLasts shape (go (record state { held = held }) (Locking Peek)) m

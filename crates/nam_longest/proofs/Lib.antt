@@ -5,6 +5,7 @@ pub mod LastsTxn
 pub mod LastsBeside
 pub mod LastsCommit
 pub mod LastsWhole
+pub mod LastsListed
 pub mod LastsClient
 pub mod LongestExample
 pub mod ReadToCome

@@ -63,7 +63,7 @@ module _ (shape : Shape) (limits : FitsLimits shape) where
       commit_lowers shape limits state fits p.0 p.1 at found p.2 h
 
   -- the places of the records have their tables' widths
-  deleted_is : (cs : List Record) (ws : List Item) (others : List Key) → AllByRecursion (IsPlaced shape) cs
+  pub deleted_is : (cs : List Record) (ws : List Item) (others : List Key) → AllByRecursion (IsPlaced shape) cs
       → AllByRecursion (λ item. is_claimed cs (item_key item) ≡ true) ws
       → spared ws (map (λ (r : Record). r.place) (map (record_in cs) (map item_key ws ++ others)))
       ≡ deleted_words shape ws

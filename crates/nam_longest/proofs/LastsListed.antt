@@ -29,14 +29,14 @@ use Rattle.nam_longest.proofs.LastsCommit.{then_lasts}
 use Rattle.nam_longest.proofs.LastsWhole.{guard_listed, all_listed, wide, spares, checked_lasts, slots_last, locks_last}
 
 -- a commit that holds no lock and has no count yet
-abbrev unlocked : TxnState → TxnState
+abbrev pub unlocked : TxnState → TxnState
 unlocked state = record state { held = []; counts = [] }
 
 module _ (shape : Shape) (limits : FitsLimits shape) (state : TxnState) (fits : StateFits shape state)
     (are : state.records ≡ records_of state) (some : 1 ≤ length state.writes) where
   -- 1. The locks and what follows
 
-  locked_lasts : (m : ℕ)
+  pub locked_lasts : (m : ℕ)
       → m + spared_from state 0 ≡ 2 * length (places state) + after_locks state + clear_left state
       → TxnLasts shape (go (unlocked state) (Locking Peek)) m
   locked_lasts m e =
@@ -125,7 +125,7 @@ module _ (shape : Shape) (limits : FitsLimits shape) (state : TxnState) (fits : 
         let s = none_spared shape limits state fits are some nth k in
         omega arith)
 
-  listed_last : (rest nth n m : ℕ) → nth + suc rest ≡ length state.records
+  pub listed_last : (rest nth n m : ℕ) → nth + suc rest ≡ length state.records
       → m + spared_from state nth ≡ listed_from state nth + 2 + n
       → TxnLasts shape (go state (Locking lock_begin)) n
       → TxnLasts shape (go state (Listing (ListRow nth))) m

@@ -6,6 +6,7 @@ pub mod LastsBeside
 pub mod LastsCommit
 pub mod LastsWhole
 pub mod LastsListed
+pub mod LastsCommitted
 pub mod LastsClient
 pub mod LongestExample
 pub mod ReadToCome

@@ -1,6 +1,6 @@
 -- The verbs to come at the very most fall in each call of a transaction, its commit included.
-use Rattle.std.proofs.Common.{◌≡◌, ℕ, ◌+◌, ◌-◌, ◌*◌, ◌<◌, ◌≤◌, List, [], ◌∷◌, ◌++◌, length, refl, sym, ◌∙◌, ap, arith}
-use Rattle.std.proofs.Common.{Bool, true, false, is_some, Option, Some, None}
+use Rattle.std.proofs.Common.{◌≡◌, ℕ, ◌+◌, ◌≤◌, List, [], ◌∷◌, ◌++◌, length, refl, sym, ◌∙◌, ap, arith}
+use Rattle.std.proofs.Common.{Bool, true, false, is_some, None}
 use Rattle.std.specs.Prelude.{◌==◌, if◌then◌else◌, map}
 use Rattle.std.specs.List.{AllByRecursion}
 use Rattle.std.proofs.lemmas.Bool.Decides.{nat_tests}
@@ -12,8 +12,6 @@ use Rattle.nam_verbs.proofs.TestLemmas.{by_test}
 use Rattle.nam_catalog.specs.declared.shape.Shape.{Shape}
 use Rattle.nam_catalog.specs.Fits.{FitsLimits}
 use Rattle.nam_catalog.specs.Greatest.{greatest_number}
-use Rattle.nam_layout.specs.declared.field.Place.{Place}
-use Rattle.nam_calls.specs.Words.{width_of}
 use Rattle.nam_calls.specs.Lock.{lock_begin}
 use Rattle.nam_calls.specs.Reading.{sight_of}
 use Rattle.nam_calls.proofs.FallsMachines.{find_falls}
@@ -26,7 +24,7 @@ use Rattle.nam_protocol.specs.declared.txn.TxnPoint.TheVariants.{Finding, Readin
 use Rattle.nam_protocol.specs.declared.txn.CommitPoint.TheVariants.{Listing, Locking}
 use Rattle.nam_protocol.specs.declared.txn.TxnAnswer.TheVariants.{ReadOnly, Spent}
 use Rattle.nam_protocol.specs.Operations.{op_path}
-use Rattle.nam_protocol.specs.Txn.{Stepped, at, over}
+use Rattle.nam_protocol.specs.Txn.{at, over}
 use Rattle.nam_protocol.specs.Commit.{record_in, ask_commit, commit_begin, committing, list_begin, tells_intent}
 use Rattle.nam_protocol.specs.Commit.{has_intents}
 use Rattle.nam_protocol.specs.TxnCalls.{txn_after}
@@ -36,7 +34,7 @@ use Rattle.nam_protocol.proofs.FallsKeys.{op_table, tells_by_form}
 use Rattle.nam_protocol.proofs.FallsCommit.{commit_falls}
 use Rattle.nam_protocol.proofs.FallsTxn.{txn_falls}
 use Rattle.nam_protocol.proofs.FallsBegins.{record_width, txn_begins}
-use Rattle.nam_longest.specs.Deletions.{deleted_words, commit_longest, spared, spared_from, commit_to_come}
+use Rattle.nam_longest.specs.Deletions.{deleted_words, commit_longest, spared, commit_to_come}
 use Rattle.nam_longest.specs.Longest.{txn_to_come}
 use Rattle.nam_longest.proofs.ReadToCome.{read_lowers}
 use Rattle.nam_longest.proofs.TxnToCome.{TxnLowers, on_find_lowers, on_read_lowers, stepped_lowers}

@@ -1,21 +1,17 @@
 -- The verbs to come at the very most fall in a commit.
-use Rattle.std.proofs.Common.{◌≡◌, ℕ, zero, suc, ◌+◌, ◌-◌, ◌*◌, ◌<◌, ◌≤◌, List, [], ◌∷◌, ◌++◌, length, take, drop}
-use Rattle.std.proofs.Common.{refl, sym, ◌∙◌, ap, subst, arith, Bool, true, false, is_some, Option, Some, None}
-use Rattle.std.specs.Prelude.{◌==◌, if◌then◌else◌, nat_lt, slice_index_or}
+use Rattle.std.proofs.Common.{◌≡◌, ℕ, suc, ◌+◌, ◌-◌, ◌*◌, ◌<◌, ◌≤◌, List, [], ◌∷◌, ◌++◌, length, take, drop}
+use Rattle.std.proofs.Common.{ap, arith, Bool, true, is_some, Option, Some, None}
+use Rattle.std.specs.Prelude.{◌==◌, if◌then◌else◌, nat_lt}
 use Rattle.std.proofs.lemmas.Bool.Decides.{nat_tests}
-use Rattle.std.proofs.lemmas.List.{length-take}
-use Rattle.si_model.specs.declared.row.Item.{Item}
-use Rattle.si_model.specs.declared.log.Lock.{Lock}
 use Rattle.nam_verbs.specs.declared.now.Now.{Now}
 use Rattle.nam_verbs.specs.declared.now.Now.TheVariants.{At, Over}
 use Rattle.nam_verbs.proofs.TestLemmas.{by_test}
 use Rattle.nam_catalog.specs.declared.shape.Shape.{Shape}
 use Rattle.nam_catalog.specs.Fits.{FitsLimits}
-use Rattle.nam_layout.specs.declared.field.Place.{Place}
 use Rattle.nam_calls.specs.declared.intent.IntentKind.TheVariants.{Guard}
 use Rattle.nam_calls.specs.Lock.{nth_place}
 use Rattle.nam_protocol.specs.declared.txn.TxnState.{TxnState}
-use Rattle.nam_protocol.specs.Commit.{no_item, places, record_place, value_at}
+use Rattle.nam_protocol.specs.Commit.{places, record_place, value_at}
 use Rattle.nam_protocol.specs.Bound.{installs_most, listed_most}
 use Rattle.nam_verbs.specs.Falls.{FallsTo, nothing, Any}
 use Rattle.nam_protocol.specs.declared.txn.TxnAnswer.{TxnAnswer}
@@ -54,9 +50,9 @@ use Rattle.nam_protocol.specs.declared.txn.ListPoint.TheVariants.{ListRow, ListK
 use Rattle.nam_protocol.specs.Commit.{records_of, on_list, list_next, list_after, list_kind_after, kind_of}
 use Rattle.nam_protocol.specs.Bound.{rest_from, listed_from, after_locks, clear_left}
 use Rattle.nam_protocol.specs.TxnFits.{StateFits, ListFits}
-use Rattle.nam_protocol.proofs.FallsKeys.{places_length, writes_within, nth_fits}
+use Rattle.nam_protocol.proofs.FallsKeys.{places_length, writes_within}
 use Rattle.nam_longest.specs.Longest.{txn_to_come}
-use Rattle.nam_longest.specs.Deletions.{spared_from, commit_spared, commit_to_come}
+use Rattle.nam_longest.specs.Deletions.{spared_from, commit_spared}
 use Rattle.nam_longest.proofs.SparedLemmas.{spared_at, spared_none, one_spared, spared_installs, spared_installs_from}
 use Rattle.nam_longest.proofs.SparedLemmas.{spared_listed_from, value_listed}
 

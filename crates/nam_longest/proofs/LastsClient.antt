@@ -41,7 +41,7 @@ use Rattle.nam_protocol.specs.Scan.{in_range, scan_begin, scan_skip, on_scan_rea
 use Rattle.nam_protocol.specs.ScanCall.{on_scan, on_skip}
 use Rattle.nam_protocol.specs.Telling.{go}
 use Rattle.nam_protocol.specs.Client.{with_call, client_ask, ask_txn, ask_scan, take_scan}
-use Rattle.nam_protocol.specs.ClientFits.{ClientFits, CallStands, OpenCallFits}
+use Rattle.nam_protocol.specs.ClientFits.{ClientFits, CallStands, OpenCallFits, OpenFits}
 use Rattle.nam_protocol.proofs.FallsKeys.{op_table}
 use Rattle.nam_longest.specs.Longest.{value_longest, get_longest, guard_longest, scan_longest, txn_call_longest}
 use Rattle.nam_longest.specs.Longest.{call_longest}
@@ -49,6 +49,7 @@ use Rattle.nam_longest.specs.LongestLaw.{LastsWords, Unwritten, MayLast}
 use Rattle.nam_longest.proofs.LastsMachines.{on_true, on_false}
 use Rattle.nam_longest.proofs.LastsRead.{goes_astray, finds_last}
 use Rattle.nam_longest.proofs.LastsBeside.{begin_lasts, tidy_lasts, collection_lasts}
+use Rattle.nam_longest.proofs.LastsCommitted.{commit_reached}
 use Rattle.nam_longest.proofs.LastsTxn.{row_word, word_first, TxnLasts, claimed_last, astray_last, valued_last}
 
 -- 1. A scan
@@ -189,42 +190,44 @@ module _ (shape : Shape) (limits : FitsLimits shape) where
       can false by amount = grind (arith, nat_tests)
 
   pub op_reached : (client : ClientState) (opened : Option Open) (call : TxnCall) → client.cut ≡ false
-      → OpenCallFits shape opened call → MayLast opened (Txn call)
+      → OpenFits shape opened
+      → OpenCallFits shape opened call → MayLast shape opened (Txn call)
       → LastsWords shape (ask_txn shape client call opened) (txn_call_longest shape opened call)
-  op_reached client None call runs stands may = absurd stands
-  op_reached client (Some attempt) (Get t k) runs stands may =
+  op_reached client None call runs fits stands may = absurd stands
+  op_reached client (Some attempt) (Get t k) runs fits stands may =
       reads_lasts (op.Get t k) attempt.state may (get_longest shape t) refl
       (astray_last shape limits (op.Get t k) (op_table shape limits attempt.state.claims (op.Get t k) stands) stands.2
       (record attempt.state { read = None }))
       client (with_call attempt (Get t k)) 0 runs
-  op_reached client (Some attempt) (Put t k v) runs stands may =
+  op_reached client (Some attempt) (Put t k v) runs fits stands may =
       claims_last (op.Put t k v) attempt.state may (claim_bound shape t) refl
       (claimed_last shape limits (op.Put t k v)
       (op_table shape limits attempt.state.claims (op.Put t k v) stands) stands.2
       (record attempt.state { read = None }))
       client (with_call attempt (Put t k v)) 0 runs
-  op_reached client (Some attempt) (Add t k f up by) runs stands may =
+  op_reached client (Some attempt) (Add t k f up by) runs fits stands may =
       reads_lasts (op.Add t k f up by) attempt.state may.0 (guard_longest shape t) refl
       (add_lasts t k f up by (record attempt.state { read = None })
       (op_table shape limits attempt.state.claims (op.Add t k f up by) stands) stands.2 stands.0.1.0 stands.0.1.1 may.1)
       client (with_call attempt (Add t k f up by)) 0 runs
-  op_reached client (Some attempt) (Del t k) runs stands may =
+  op_reached client (Some attempt) (Del t k) runs fits stands may =
       claims_last (op.Del t k) attempt.state may (claim_bound shape t) refl
       (claimed_last shape limits (op.Del t k) (op_table shape limits attempt.state.claims (op.Del t k) stands) stands.2
       (record attempt.state { read = None }))
       client (with_call attempt (Del t k)) 0 runs
-  op_reached client (Some attempt) (Need t k f least) runs stands may =
+  op_reached client (Some attempt) (Need t k f least) runs fits stands may =
       reads_lasts (op.Need t k f least) attempt.state may (get_longest shape t) refl
       (astray_last shape limits (op.Need t k f least)
       (op_table shape limits attempt.state.claims (op.Need t k f least) stands) stands.2
       (record attempt.state { read = None }))
       client (with_call attempt (Need t k f least)) 0 runs
-  op_reached client (Some attempt) (Guard t k) runs stands may =
+  op_reached client (Some attempt) (Guard t k) runs fits stands may =
       reads_lasts (op.Guard t k) attempt.state may (guard_longest shape t) refl
       (guard_lasts t k (record attempt.state { read = None })
       (op_table shape limits attempt.state.claims (op.Guard t k) stands) stands.2)
       client (with_call attempt (Guard t k)) 0 runs
-  op_reached client (Some attempt) Commit runs stands may = absurd may
+  op_reached client (Some attempt) Commit runs fits stands may =
+      commit_reached shape limits attempt.state fits may.0 may.1 client attempt 0 runs
 
   -- 3. A scan, and each call
 
@@ -240,10 +243,10 @@ module _ (shape : Shape) (limits : FitsLimits shape) where
       (record client { txn = Some with_scan; scanned = [] }) runs refl
 
   pub reached : (client : ClientState) (call : Call) → ClientFits shape client → CallStands shape client.txn call
-      → client.cut ≡ false → MayLast client.txn call
+      → client.cut ≡ false → MayLast shape client.txn call
       → LastsWords shape (client_ask shape client call) (call_longest shape client call)
   reached client (Begin txn nth) fits stands runs may = begin_lasts shape limits txn nth client runs
-  reached client (Txn call) fits stands runs may = op_reached client client.txn call runs stands may
+  reached client (Txn call) fits stands runs may = op_reached client client.txn call runs fits.1 stands may
   reached client (Scan table low high) fits stands runs may =
       scan_reached client client.txn table low high may.0 runs stands.0 stands.1 may.1 may.2 may.3 may.4
   reached client (Tidy table key) fits stands runs may =

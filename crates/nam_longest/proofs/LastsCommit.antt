@@ -1,39 +1,31 @@
 -- Words that make a commit last as long as it can: each record is free, and all goes well.
-use Rattle.std.proofs.Common.{◌≡◌, ℕ, zero, suc, ◌+◌, ◌-◌, ◌*◌, ◌<◌, ◌≤◌, List, [], ◌∷◌, ◌++◌, length, refl, arith, ap}
-use Rattle.std.proofs.Common.{length-append, Bool, true, false, is_some, Option, Some, None}
+use Rattle.std.proofs.Common.{◌≡◌, ℕ, zero, suc, ◌+◌, ◌-◌, ◌*◌, ◌≤◌, List, [], ◌∷◌, ◌++◌, length, refl, arith}
+use Rattle.std.proofs.Common.{Bool, true, false, is_some, Option, Some, None}
 use Rattle.std.proofs.lemmas.Bool.{eq-eqb}
 use Rattle.std.proofs.lemmas.Bool.Decides.{nat_tests}
 use Rattle.std.specs.Prelude.{if◌then◌else◌, ◌==◌}
-use Rattle.nam_verbs.specs.declared.now.Now.{Now}
 use Rattle.nam_verbs.specs.declared.now.Now.TheVariants.{At, Over}
-use Rattle.nam_verbs.proofs.TestLemmas.{by_test}
 use Rattle.nam_catalog.specs.declared.form.Form.{Form}
 use Rattle.nam_catalog.specs.declared.form.Form.TheVariants.{Narrow, Wide, Held}
 use Rattle.nam_catalog.specs.declared.shape.Shape.{Shape}
-use Rattle.nam_header.specs.Stamp.{is_locked, is_moved, sees}
-use Rattle.nam_layout.specs.Place.{slot_of}
-use Rattle.nam_calls.specs.declared.lock.LockPoint.TheVariants.{Peek, Seize}
-use Rattle.nam_calls.specs.declared.lock.LockEnd.TheVariants as lock_end
-use Rattle.nam_calls.specs.declared.ring.SlotPoint.TheVariants.{CheckCount, CheckHead}
-use Rattle.nam_calls.specs.declared.ring.SlotEnd.TheVariants.{Free, NotMoved}
+use Rattle.nam_header.specs.Stamp.{is_locked, is_moved}
 use Rattle.nam_calls.specs.declared.ring.CopyPoint.TheVariants.{CopyMark, CopyEnding, CopyWord, CopyHead}
 use Rattle.nam_calls.specs.declared.record.InstallPoint.TheVariants.{InstallWord, InstallCount, InstallHead}
-use Rattle.nam_calls.specs.Lock.{nth_place, locks_at, lock_next, give_back}
 use Rattle.nam_calls.specs.Record.{install_begin}
 use Rattle.nam_calls.proofs.FallsTests.{or_last, one_more}
 use Rattle.nam_protocol.specs.declared.txn.TxnState.{TxnState}
 use Rattle.nam_protocol.specs.declared.txn.TxnAnswer.TheVariants.{Committed}
 use Rattle.nam_protocol.specs.declared.txn.CommitPoint.{CommitPoint}
-use Rattle.nam_protocol.specs.declared.txn.CommitPoint.TheVariants.{Locking, Checking, Saving, Copying, Installing}
-use Rattle.nam_protocol.specs.declared.txn.CommitPoint.TheVariants.{Publishing, Freeing, Listing, Counting, Deciding}
+use Rattle.nam_protocol.specs.declared.txn.CommitPoint.TheVariants.{Saving, Copying, Installing}
+use Rattle.nam_protocol.specs.declared.txn.CommitPoint.TheVariants.{Publishing, Freeing}
 use Rattle.nam_protocol.specs.declared.txn.CommitPoint.TheVariants.{Ending}
 use Rattle.nam_protocol.specs.declared.txn.TxnPoint.TheVariants.{Committing}
 use Rattle.nam_protocol.specs.Txn.{over}
-use Rattle.nam_protocol.specs.Commit.{places, record_place, value_at, tells_intent, go, on_lock, checked, next_check}
-use Rattle.nam_protocol.specs.Commit.{next_count, on_slot, on_words, on_copy, on_install, ended, next_free, commit_after}
-use Rattle.nam_protocol.specs.Bound.{publish_most, of_intent, clear_left}
+use Rattle.nam_protocol.specs.Commit.{record_place, value_at, tells_intent, go}
+use Rattle.nam_protocol.specs.Commit.{on_words, on_copy, on_install, ended, next_free, commit_after}
+use Rattle.nam_protocol.specs.Bound.{publish_most, clear_left}
 use Rattle.nam_calls.specs.Holds.{IsWord}
-use Rattle.nam_longest.proofs.LastsMachines.{on_true, on_false, sees_0}
+use Rattle.nam_longest.proofs.LastsMachines.{on_true, on_false}
 use Rattle.nam_longest.proofs.LastsTxn.{TxnLasts, at_lasts, over_lasts}
 
 pub unlocked_0 : (form : Form) → is_locked form 0 ≡ false
@@ -64,10 +56,10 @@ module _ (shape : Shape) where
     ended_lasts : TxnLasts shape (ended state) (clear_left state)
     ended_lasts = finish (tells_intent state)
       where
-      finish : (b : Bool) → TxnLasts shape (if b then go state Ending else over state (Committed (state.last + 1)))
-          (if b then 1 else 0)
-      finish true = then_lasts state Ending 0 0 1 (omega arith) refl (over_lasts shape state (Committed (state.last + 1)))
-      finish false = over_lasts shape state (Committed (state.last + 1))
+        finish : (b : Bool) → TxnLasts shape (if b then go state Ending else over state (Committed (state.last + 1)))
+            (if b then 1 else 0)
+        finish true = then_lasts state Ending 0 0 1 (omega arith) refl (over_lasts shape state (Committed (state.last + 1)))
+        finish false = over_lasts shape state (Committed (state.last + 1))
 
     frees_last : (rest nth m : ℕ) → nth + rest ≡ records → m ≡ rest + clear_left state
         → TxnLasts shape (next_free state nth) m

@@ -1,5 +1,5 @@
 -- A commit that is asked may last as long as its longest.
-use Rattle.std.proofs.Common.{◌≡◌, ℕ, zero, suc, ◌+◌, ◌-◌, ◌*◌, ◌<◌, ◌≤◌, List, [], ◌∷◌, ◌++◌, length, take, refl, sym, ◌∙◌}
+use Rattle.std.proofs.Common.{◌≡◌, ℕ, ◌+◌, ◌-◌, ◌*◌, ◌<◌, ◌≤◌, List, [], ◌∷◌, ◌++◌, length, take, refl, sym, ◌∙◌}
 use Rattle.std.proofs.Common.{arith, ap, Bool, true, false, is_some}
 use Rattle.std.proofs.lemmas.Bool.Decides.{nat_tests}
 use Rattle.std.proofs.lemmas.List.{length-map}
@@ -26,11 +26,11 @@ use Rattle.nam_protocol.specs.Commit.{record_in, records_of, ask_commit, commit_
 use Rattle.nam_protocol.specs.Commit.{tells_intent, has_intents}
 use Rattle.nam_protocol.specs.Bound.{installs_most, writes_bound, values_bound, intent_bound, commit_left, listed_from}
 use Rattle.nam_protocol.specs.Bound.{listed_most, of_intent, after_locks, clear_left}
-use Rattle.nam_protocol.specs.TxnFits.{is_claimed, IsPlaced, StateFits, commit_bound}
+use Rattle.nam_protocol.specs.TxnFits.{is_claimed, IsPlaced, StateFits}
 use Rattle.nam_protocol.proofs.FallsKeys.{records_length, tells_by_form}
 use Rattle.nam_protocol.proofs.FallsBegins.{record_width}
 use Rattle.nam_longest.specs.Deletions.{deleted_words, commit_longest, spared_from, commit_spared}
-use Rattle.nam_longest.proofs.CommitToCome.{within, as_many, later_spared}
+use Rattle.nam_longest.proofs.CommitToCome.{within, later_spared}
 use Rattle.nam_longest.proofs.CallsToCome.{deleted_is}
 use Rattle.nam_longest.proofs.LastsMachines.{on_false}
 use Rattle.nam_longest.proofs.LastsTxn.{TxnLasts}
@@ -68,9 +68,9 @@ deleted_least shape (w ∷ ws) =
     let b = r.1 in
     (omega arith, omega arith)
   where
-  one : (b : Bool) (width : ℕ) → (if b then 0 else width) ≤ width
-  one true width = omega arith
-  one false width = omega arith
+    one : (b : Bool) (width : ℕ) → (if b then 0 else width) ≤ width
+    one true width = omega arith
+    one false width = omega arith
 
 module _ (shape : Shape) (limits : FitsLimits shape) where
   abbrev places_in : List Record → List Key → List Place

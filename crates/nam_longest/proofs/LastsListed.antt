@@ -1,5 +1,5 @@
 -- Words that make a whole commit last as long as it can, from its listing on.
-use Rattle.std.proofs.Common.{◌≡◌, ℕ, zero, suc, ◌+◌, ◌-◌, ◌*◌, ◌<◌, ◌≤◌, List, [], ◌∷◌, length, drop, refl, arith, ap}
+use Rattle.std.proofs.Common.{◌≡◌, ℕ, zero, suc, ◌+◌, ◌-◌, ◌*◌, ◌<◌, ◌≤◌, List, [], length, drop, refl, arith, ap}
 use Rattle.std.proofs.Common.{Bool, true, false, is_some, Option, Some, None}
 use Rattle.std.proofs.lemmas.Bool.{eq-eqb}
 use Rattle.std.proofs.lemmas.Bool.Decides.{nat_tests}
@@ -10,17 +10,16 @@ use Rattle.nam_catalog.specs.declared.shape.Shape.{Shape}
 use Rattle.nam_catalog.specs.Fits.{FitsLimits}
 use Rattle.nam_calls.specs.declared.intent.IntentKind.TheVariants.{Guard}
 use Rattle.nam_calls.specs.declared.lock.LockPoint.TheVariants.{Peek}
-use Rattle.nam_calls.specs.declared.ring.SlotPoint.TheVariants.{CheckCount}
-use Rattle.nam_calls.specs.Lock.{lock_begin, lock_left}
+use Rattle.nam_calls.specs.Lock.{lock_begin}
 use Rattle.nam_calls.proofs.FallsTests.{or_last}
 use Rattle.nam_protocol.specs.declared.txn.TxnState.{TxnState}
 use Rattle.nam_protocol.specs.declared.txn.ListPoint.TheVariants.{ListRow, ListKind, ListData, ListNumber, ListState}
-use Rattle.nam_protocol.specs.declared.txn.CommitPoint.TheVariants.{Locking, Checking, Listing}
-use Rattle.nam_protocol.specs.Commit.{records_of, places, record_place, value_at, tells_intent, go, on_list, list_next}
-use Rattle.nam_protocol.specs.Commit.{list_begin, list_kind_after, kind_of, commit_begin}
-use Rattle.nam_protocol.specs.Bound.{listed_most, listed_from, clear_left, after_checks, after_locks, commit_left}
+use Rattle.nam_protocol.specs.declared.txn.CommitPoint.TheVariants.{Locking, Listing}
+use Rattle.nam_protocol.specs.Commit.{records_of, places, record_place, value_at, go, on_list, list_next}
+use Rattle.nam_protocol.specs.Commit.{list_kind_after, kind_of}
+use Rattle.nam_protocol.specs.Bound.{listed_most, listed_from, clear_left, after_locks}
 use Rattle.nam_protocol.specs.TxnFits.{StateFits}
-use Rattle.nam_longest.specs.Deletions.{spared_from, commit_spared}
+use Rattle.nam_longest.specs.Deletions.{spared_from}
 use Rattle.nam_longest.proofs.CommitToCome.{within, as_many, later_spared, none_spared, nth_spared, nth_listed}
 use Rattle.nam_longest.proofs.SparedLemmas.{spared_listed_from}
 use Rattle.nam_longest.proofs.LastsMachines.{on_true, on_false}
@@ -110,20 +109,20 @@ module _ (shape : Shape) (limits : FitsLimits shape) (state : TxnState) (fits : 
       let same : m - 2 ≡ n = omega arith in
       rw same next)))
     where
-    two_more : (nth n m : ℕ) → nth < length state.records
-        → m + spared_from state nth + listed_from state (nth + 1)
-        ≡ n + spared_from state (nth + 1) + listed_from state nth → 2 ≤ m
-    two_more nth n m l e =
-        by_test (λ (b : Bool). 2 ≤ m) (nat_lt nth (length state.writes)) true false
-        (λ t. let k : nth < length state.writes = grind (arith, nat_tests) in
-        let f = nth_listed shape limits state fits are some nth k in
-        let s = nth_spared shape limits state fits are some nth k in
-        let b = spares shape limits state fits are some nth k in
-        omega arith)
-        (λ t. let k : length state.writes ≤ nth = grind (arith, nat_tests) in
-        let f = guard_from nth l k in
-        let s = none_spared shape limits state fits are some nth k in
-        omega arith)
+      two_more : (nth n m : ℕ) → nth < length state.records
+          → m + spared_from state nth + listed_from state (nth + 1)
+          ≡ n + spared_from state (nth + 1) + listed_from state nth → 2 ≤ m
+      two_more nth n m l e =
+          by_test (λ (b : Bool). 2 ≤ m) (nat_lt nth (length state.writes)) true false
+          (λ t. let k : nth < length state.writes = grind (arith, nat_tests) in
+          let f = nth_listed shape limits state fits are some nth k in
+          let s = nth_spared shape limits state fits are some nth k in
+          let b = spares shape limits state fits are some nth k in
+          omega arith)
+          (λ t. let k : length state.writes ≤ nth = grind (arith, nat_tests) in
+          let f = guard_from nth l k in
+          let s = none_spared shape limits state fits are some nth k in
+          omega arith)
 
   pub listed_last : (rest nth n m : ℕ) → nth + suc rest ≡ length state.records
       → m + spared_from state nth ≡ listed_from state nth + 2 + n
@@ -147,8 +146,8 @@ module _ (shape : Shape) (limits : FitsLimits shape) (state : TxnState) (fits : 
       (At (ListRow (nth + 1))) (grind (arith, nat_tests))
       (listed_last rest (nth + 1) n k (omega arith) (omega arith) next))
     where
-    spared_fewer : (nth : ℕ) → spared_from state nth ≤ listed_from state nth
-    spared_fewer nth =
-        let w = within shape limits state fits are some in
-        let a = as_many shape limits state fits are some in
-        spared_listed_from state.writes (places state) nth (omega arith)
+      spared_fewer : (nth : ℕ) → spared_from state nth ≤ listed_from state nth
+      spared_fewer nth =
+          let w = within shape limits state fits are some in
+          let a = as_many shape limits state fits are some in
+          spared_listed_from state.writes (places state) nth (omega arith)

@@ -1,10 +1,9 @@
 -- Words that make a whole commit last as long as it can.
 use Rattle.std.proofs.Common.{◌≡◌, ℕ, zero, suc, ◌+◌, ◌-◌, ◌*◌, ◌<◌, ◌≤◌, List, [], ◌∷◌, ◌++◌, length, take, drop, refl}
-use Rattle.std.proofs.Common.{arith, ap, length-append, Bool, true, false, is_some, Option, Some, None}
+use Rattle.std.proofs.Common.{arith, ap, length-append, Bool, true, false, is_some}
 use Rattle.std.proofs.lemmas.Bool.{eq-eqb}
 use Rattle.std.proofs.lemmas.Bool.Decides.{nat_tests}
-use Rattle.std.specs.Prelude.{if◌then◌else◌, ◌==◌, nat_lt}
-use Rattle.nam_verbs.specs.declared.now.Now.{Now}
+use Rattle.std.specs.Prelude.{if◌then◌else◌, ◌==◌}
 use Rattle.nam_verbs.specs.declared.now.Now.TheVariants.{At, Over}
 use Rattle.nam_verbs.proofs.TestLemmas.{by_test}
 use Rattle.nam_catalog.specs.declared.shape.Shape.{Shape}
@@ -12,25 +11,22 @@ use Rattle.nam_catalog.specs.Fits.{FitsLimits}
 use Rattle.nam_header.specs.Stamp.{is_locked, is_moved, sees}
 use Rattle.nam_layout.specs.declared.field.Place.{Place}
 use Rattle.nam_layout.specs.Place.{slot_of}
-use Rattle.nam_calls.specs.declared.intent.IntentKind.{IntentKind}
-use Rattle.nam_calls.specs.declared.intent.IntentKind.TheVariants.{Guard}
 use Rattle.nam_calls.specs.declared.lock.LockPoint.TheVariants.{Peek, Seize}
 use Rattle.nam_calls.specs.declared.lock.LockEnd.TheVariants as lock_end
 use Rattle.nam_calls.specs.declared.ring.SlotPoint.TheVariants.{CheckCount, CheckHead}
 use Rattle.nam_calls.specs.declared.ring.SlotEnd.TheVariants.{Free, NotMoved}
-use Rattle.nam_calls.specs.Lock.{nth_place, lock_begin, lock_left, locks_at, lock_next, give_back}
+use Rattle.nam_calls.specs.Lock.{nth_place, locks_at, lock_next, give_back}
 use Rattle.nam_protocol.specs.declared.txn.TxnState.{TxnState}
-use Rattle.nam_protocol.specs.declared.txn.ListPoint.TheVariants.{ListRow, ListKind, ListData, ListNumber, ListState}
-use Rattle.nam_protocol.specs.declared.txn.CommitPoint.TheVariants.{Locking, Checking, Saving, Publishing, Listing}
+use Rattle.nam_protocol.specs.declared.txn.CommitPoint.TheVariants.{Locking, Checking, Saving, Publishing}
 use Rattle.nam_protocol.specs.declared.txn.CommitPoint.TheVariants.{Counting, Deciding}
 use Rattle.nam_protocol.specs.Commit.{records_of, places, record_place, value_at, tells_intent, go, on_lock, checked}
-use Rattle.nam_protocol.specs.Commit.{next_count, next_check, on_slot, on_list, list_next, list_kind_after, kind_of, commit_begin}
-use Rattle.nam_protocol.specs.Bound.{installs_most, publish_most, rest_from, listed_most, listed_from, clear_left}
-use Rattle.nam_protocol.specs.Bound.{of_intent, after_checks, after_locks, commit_left}
+use Rattle.nam_protocol.specs.Commit.{next_check, on_slot}
+use Rattle.nam_protocol.specs.Bound.{installs_most, publish_most, rest_from, listed_most, clear_left}
+use Rattle.nam_protocol.specs.Bound.{of_intent, after_checks}
 use Rattle.nam_protocol.specs.TxnFits.{StateFits}
 use Rattle.nam_protocol.proofs.FallsKeys.{nth_fits}
-use Rattle.nam_longest.specs.Deletions.{spared_from, commit_spared}
-use Rattle.nam_longest.proofs.CommitToCome.{within, as_many, later_spared, none_spared, nth_spared, nth_listed}
+use Rattle.nam_longest.specs.Deletions.{spared_from}
+use Rattle.nam_longest.proofs.CommitToCome.{within, as_many, later_spared, none_spared, nth_spared}
 use Rattle.nam_longest.proofs.LastsMachines.{on_true, on_false, sees_0}
 use Rattle.nam_longest.proofs.LastsTxn.{TxnLasts}
 use Rattle.nam_longest.proofs.LastsCommit.{unlocked_0, moved_4, then_lasts, publish_lasts, record_lasts}
@@ -98,9 +94,9 @@ module _ (shape : Shape) (limits : FitsLimits shape) (state : TxnState) (fits : 
       ≡ (record_place state nth).width
   spares nth l = both (is_some (value_at state nth)) (record_place state nth).width
     where
-    both : (b : Bool) (width : ℕ) → (if b then width else 0) + (if b then 0 else width) ≡ width
-    both true width = omega arith
-    both false width = omega arith
+      both : (b : Bool) (width : ℕ) → (if b then width else 0) + (if b then 0 else width) ≡ width
+      both true width = omega arith
+      both false width = omega arith
 
   records_last : (rest nth m : ℕ) → nth + suc rest ≡ writes → m + spared_from state nth ≡ rest_from state nth + clear
       → TxnLasts shape (go state (Saving nth [])) m

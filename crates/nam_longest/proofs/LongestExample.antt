@@ -6,6 +6,7 @@ use Rattle.nam_catalog.specs.declared.shape.Shape.{Shape}
 use Rattle.nam_header.specs.Stamp.{stamp_word}
 use Rattle.nam_layout.specs.Rows.{row_of}
 use Rattle.nam_calls.specs.Words.{width_of, capacity_of, ring_of}
+use Rattle.nam_protocol.specs.declared.txn.TxnCall.{TxnCall}
 use Rattle.nam_protocol.specs.declared.txn.TxnCall.TheVariants.{Get, Put, Add, Del, Need, Guard, Commit}
 use Rattle.nam_protocol.specs.declared.client.Call.{Call}
 use Rattle.nam_protocol.specs.declared.client.Call.TheVariants.{Begin, Txn, Scan, Tidy, Collect}
@@ -183,20 +184,29 @@ large_tidy = refl
 large_collect : is_longest_of large (new_client 1 0) (Collect 1) (collect_words large) ≡ true
 large_collect = refl
 
--- a key is written and another one guarded
-abbrev writer : Shape → ClientState
-writer shape =
-    let wrote = after_words shape (client_ask shape (reader shape) (Txn (Put 0 0 (7 ∷ [])))) (1 ∷ []) in
+-- after a put or a deletion of key 0 another key is guarded
+abbrev writer : Shape → TxnCall → ClientState
+writer shape write =
+    let wrote = after_words shape (client_ask shape (reader shape) (Txn write)) (1 ∷ []) in
     after_words shape (client_ask shape wrote (Txn (Guard 0 1))) (0 ∷ 2 ∷ [])
 
 -- in form Held the intent is listed first, and counted and decided after the locks and the slot
-small_commit : is_longest_of small (writer small) (Txn Commit)
+small_commit : is_longest_of small (writer small (Put 0 0 (7 ∷ []))) (Txn Commit)
     (replicate 4 0 ++ 0 ∷ 4 ∷ replicate 10 0) ≡ true
 small_commit = refl
 
-large_commit : is_longest_of large (writer large) (Txn Commit)
+large_commit : is_longest_of large (writer large (Put 0 0 (7 ∷ []))) (Txn Commit)
     (replicate 7 0 ++ replicate 4 0 ++ 0 ∷ 4 ∷ replicate 13 0) ≡ true
 large_commit = refl
+
+-- a deletion installs no data word, and lists none
+small_deletion : is_longest_of small (writer small (Del 0 0)) (Txn Commit)
+    (replicate 4 0 ++ 0 ∷ 4 ∷ replicate 9 0) ≡ true
+small_deletion = refl
+
+large_deletion : is_longest_of large (writer large (Del 0 0)) (Txn Commit)
+    (replicate 6 0 ++ replicate 4 0 ++ 0 ∷ 4 ∷ replicate 12 0) ≡ true
+large_deletion = refl
 
 -- 4. How far below their bounds they are
 

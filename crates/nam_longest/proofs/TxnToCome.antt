@@ -19,7 +19,7 @@ use Rattle.nam_calls.specs.Index.{find_begin, claim_key_begin}
 use Rattle.nam_calls.specs.Reading.{sight_of}
 use Rattle.nam_calls.specs.Fits.{IsTableOf}
 use Rattle.nam_calls.proofs.FallsTests.{either}
-use Rattle.nam_calls.proofs.FallsMachines.{FindFalls, find_falls}
+use Rattle.nam_calls.proofs.FallsMachines.{FindFalls}
 use Rattle.nam_calls.proofs.FallsTables.{has_capacity, sight_fits}
 use Rattle.nam_calls.specs.declared.index.FindEnd.TheVariants as found_key
 use Rattle.nam_calls.specs.declared.reading.ReadingEnd.TheVariants as read_end
@@ -30,13 +30,10 @@ use Rattle.nam_protocol.specs.declared.txn.TxnAnswer.{TxnAnswer}
 use Rattle.nam_protocol.specs.declared.txn.TxnAnswer.TheVariants.{Declined}
 use Rattle.nam_protocol.specs.Operations.{holding, own_value, read_of, answer_of, op_path}
 use Rattle.nam_protocol.specs.Txn.{Stepped, at, over, with_op, with_own, ask_op, on_value, on_find, on_read}
-use Rattle.nam_protocol.specs.TxnCalls.{txn_after}
 use Rattle.nam_protocol.specs.Bound.{claim_most, txn_left}
-use Rattle.nam_protocol.specs.TxnFits.{AnswerFits, StateFits, TxnPointFits, TxnFalls}
-use Rattle.nam_protocol.proofs.FallsKeys.{op_table}
-use Rattle.nam_protocol.proofs.FallsTxn.{txn_falls}
+use Rattle.nam_protocol.specs.TxnFits.{AnswerFits, TxnPointFits, TxnFalls}
 use Rattle.nam_longest.specs.Longest.{value_longest, txn_to_come}
-use Rattle.nam_longest.proofs.ReadToCome.{ReadLowers, read_lowers, read_within, read_begins}
+use Rattle.nam_longest.proofs.ReadToCome.{ReadLowers, read_within, read_begins}
 
 module _ (shape : Shape) where
   -- a transaction has stepped: fewer verbs are to come than n

@@ -1,5 +1,5 @@
 -- How much less a commit takes for its deletions: a deletion neither lists nor installs data words.
-use Rattle.std.specs.Prelude.{ℕ, ◌+◌, ◌-◌, ◌*◌, if◌then◌else◌, List, [], ◌∷◌, drop, is_some}
+use Rattle.std.specs.Prelude.{ℕ, ◌+◌, ◌-◌, if◌then◌else◌, List, [], ◌∷◌, drop, is_some}
 use Rattle.si_model.specs.declared.row.Item.{Item}
 use Rattle.nam_catalog.specs.declared.shape.Shape.{Shape}
 use Rattle.nam_layout.specs.declared.field.Place.{Place}

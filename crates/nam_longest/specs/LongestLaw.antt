@@ -4,6 +4,7 @@ use Rattle.si_model.specs.Rows.{key_at, writes_key}
 use Rattle.nam_verbs.specs.declared.now.Now.TheVariants.{At}
 use Rattle.nam_catalog.specs.declared.shape.Shape.{Shape}
 use Rattle.nam_catalog.specs.Fits.{FitsLimits}
+use Rattle.nam_catalog.specs.Greatest.{greatest_number}
 use Rattle.nam_calls.specs.Holds.{IsWord, AreWords}
 use Rattle.nam_calls.specs.Words.{key_word}
 use Rattle.nam_protocol.specs.declared.txn.TxnCall.TheVariants.{Get, Put, Add, Del, Need, Guard, Commit}
@@ -52,24 +53,30 @@ abbrev pub Unwritten : Option Open → ℕ → ℕ → Type 0
 Unwritten None table key = ⊥
 Unwritten (Some attempt) table key = writes_key attempt.state.writes (key_at table key) ≡ false
 
--- Of which calls the law says that they may last so long: of all but a commit, of an operation where its key isn't
--- written, and of a scan where its range has such a key. A number that is added or taken away is a word
-abbrev pub MayLast : Option Open → Call → Type 0
-MayLast opened (Txn (Get t k)) = Unwritten opened t k
-MayLast opened (Txn (Put t k v)) = Unwritten opened t k
-MayLast opened (Txn (Add t k f up by)) = Unwritten opened t k × IsWord by
-MayLast opened (Txn (Del t k)) = Unwritten opened t k
-MayLast opened (Txn (Need t k f least)) = Unwritten opened t k
-MayLast opened (Txn (Guard t k)) = Unwritten opened t k
-MayLast opened (Txn Commit) = ⊥
-MayLast opened (Scan table low high) =
+-- it has a write, and a number is left for its commit
+abbrev pub CanCommit : Shape → Option Open → Type 0
+CanCommit shape None = ⊥
+CanCommit shape (Some attempt) =
+    (1 ≤ length attempt.state.writes) × (attempt.state.last < greatest_number shape.form)
+
+-- Calls that take verbs: an operation where its key isn't written, a scan where its range has such a key, and a commit of
+-- writes. The number of an add is a word
+abbrev pub MayLast : Shape → Option Open → Call → Type 0
+MayLast shape opened (Txn (Get t k)) = Unwritten opened t k
+MayLast shape opened (Txn (Put t k v)) = Unwritten opened t k
+MayLast shape opened (Txn (Add t k f up by)) = Unwritten opened t k × IsWord by
+MayLast shape opened (Txn (Del t k)) = Unwritten opened t k
+MayLast shape opened (Txn (Need t k f least)) = Unwritten opened t k
+MayLast shape opened (Txn (Guard t k)) = Unwritten opened t k
+MayLast shape opened (Txn Commit) = CanCommit shape opened
+MayLast shape opened (Scan table low high) =
     (key : ℕ) × (low ≤ key) × (key ≤ high) × IsWord (key_word key) × Unwritten opened table key
-MayLast opened (Begin txn nth) = Unit {0}
-MayLast opened (Tidy table key) = Unit {0}
-MayLast opened (Collect bucket) = Unit {0}
+MayLast shape opened (Begin txn nth) = Unit {0}
+MayLast shape opened (Tidy table key) = Unit {0}
+MayLast shape opened (Collect bucket) = Unit {0}
 
 -- some words make the call last as long as its longest
 abbrev pub ReachedLaw : Type 0
 ReachedLaw = (shape : Shape) → FitsLimits shape → (client : ClientState) (call : Call) → ClientFits shape client
-    → CallStands shape client.txn call → client.cut ≡ false → MayLast client.txn call
+    → CallStands shape client.txn call → client.cut ≡ false → MayLast shape client.txn call
     → LastsWords shape (client_ask shape client call) (call_longest shape client call)

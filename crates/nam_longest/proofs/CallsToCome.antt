@@ -1,5 +1,5 @@
 -- The verbs to come at the very most fall in each call of a transaction, its commit included.
-use Rattle.std.proofs.Common.{◌≡◌, ℕ, ◌+◌, ◌≤◌, List, [], ◌∷◌, ◌++◌, length, refl, sym, ◌∙◌, ap, arith}
+use Rattle.std.proofs.Common.{◌≡◌, ℕ, ◌<◌, ◌+◌, ◌≤◌, List, [], ◌∷◌, ◌++◌, length, refl, sym, ◌∙◌, ap, arith}
 use Rattle.std.proofs.Common.{Bool, true, false, is_some, None}
 use Rattle.std.specs.Prelude.{◌==◌, if◌then◌else◌, map}
 use Rattle.std.specs.List.{AllByRecursion}
@@ -21,7 +21,15 @@ use Rattle.nam_protocol.specs.declared.txn.TxnState.{TxnState}
 use Rattle.nam_protocol.specs.declared.txn.TxnCall.TheVariants.{Commit}
 use Rattle.nam_protocol.specs.declared.txn.TxnPoint.{TxnPoint}
 use Rattle.nam_protocol.specs.declared.txn.TxnPoint.TheVariants.{Finding, Reading, Claiming, Committing}
-use Rattle.nam_protocol.specs.declared.txn.CommitPoint.TheVariants.{Listing, Locking}
+use Rattle.nam_protocol.specs.declared.txn.CommitPoint.{CommitPoint}
+use Rattle.nam_protocol.specs.declared.txn.CommitPoint.TheVariants.{Locking, Checking, Returning, Saving, Copying}
+use Rattle.nam_protocol.specs.declared.txn.CommitPoint.TheVariants.{Installing, Publishing, Freeing}
+use Rattle.nam_protocol.specs.declared.txn.CommitPoint.TheVariants.{Listing, Counting, Deciding, Clearing, Ending}
+use Rattle.nam_protocol.specs.declared.txn.ListPoint.TheVariants.{ListRow, ListKind, ListData, ListNumber, ListState}
+use Rattle.nam_calls.specs.declared.lock.LockPoint.TheVariants.{Peek, Seize, GiveBack}
+use Rattle.nam_calls.specs.declared.record.InstallPoint.TheVariants.{InstallWord, InstallCount, InstallHead}
+use Rattle.nam_calls.specs.Record.{words_begin}
+use Rattle.nam_protocol.specs.Commit.{records_of, places, record_place, value_at, commit_after}
 use Rattle.nam_protocol.specs.declared.txn.TxnAnswer.TheVariants.{ReadOnly, Spent}
 use Rattle.nam_protocol.specs.Operations.{op_path}
 use Rattle.nam_protocol.specs.Txn.{at, over}
@@ -30,15 +38,105 @@ use Rattle.nam_protocol.specs.Commit.{has_intents}
 use Rattle.nam_protocol.specs.TxnCalls.{txn_after}
 use Rattle.nam_protocol.specs.Bound.{claim_most, txn_left, commit_left}
 use Rattle.nam_protocol.specs.TxnFits.{is_claimed, IsPlaced, StateFits, TxnPointFits, TxnBegins, commit_bound}
+use Rattle.nam_protocol.specs.TxnFits.{CommitPointFits, TxnFalls}
 use Rattle.nam_protocol.proofs.FallsKeys.{op_table, tells_by_form}
 use Rattle.nam_protocol.proofs.FallsCommit.{commit_falls}
 use Rattle.nam_protocol.proofs.FallsTxn.{txn_falls}
 use Rattle.nam_protocol.proofs.FallsBegins.{record_width, txn_begins}
-use Rattle.nam_longest.specs.Deletions.{deleted_words, commit_longest, spared, commit_to_come}
+use Rattle.nam_longest.specs.Deletions.{deleted_words, commit_longest, spared, commit_spared}
+use Rattle.nam_longest.specs.Deletions.{commit_to_come}
 use Rattle.nam_longest.specs.Longest.{txn_to_come}
 use Rattle.nam_longest.proofs.ReadToCome.{read_lowers}
 use Rattle.nam_longest.proofs.TxnToCome.{TxnLowers, on_find_lowers, on_read_lowers, stepped_lowers}
-use Rattle.nam_longest.proofs.CommitToCome.{commit_lowers}
+use Rattle.nam_longest.proofs.SparedLemmas.{one_spared, spared_listed_from}
+use Rattle.nam_longest.proofs.CommitToCome.{Lowers, keeps, no_more, as_many, all_spared, later_spared, nth_spared}
+use Rattle.nam_longest.proofs.CommitToCome.{list_lowers, lock_lowers, slot_lowers, count_lowers, words_lowers}
+use Rattle.nam_longest.proofs.CommitToCome.{copy_lowers, install_lowers, spares_none}
+
+-- 1. A commit
+
+module _ (shape : Shape) (limits : FitsLimits shape) (state : TxnState) (fits : StateFits shape state)
+    (are : state.records ≡ records_of state) (some : 1 ≤ length state.writes) where
+  -- fewer are spared than are left
+  spared_less : (at : CommitPoint) → CommitPointFits shape state at → commit_spared state at < commit_left state at
+  spared_less (Listing (ListRow nth)) p =
+      let s = spared_listed_from state.writes (places state) nth (no_more shape limits state fits are some) in
+      let r = later_spared shape limits state fits are some 0 in
+      omega arith
+  spared_less (Listing (ListKind nth)) p =
+      let s = spared_listed_from state.writes (places state) nth (no_more shape limits state fits are some) in
+      let r = later_spared shape limits state fits are some 0 in
+      omega arith
+  spared_less (Listing (ListData nth word)) p =
+      let s = spared_listed_from state.writes (places state) (nth + 1)
+      (no_more shape limits state fits are some) in
+      let r = later_spared shape limits state fits are some 0 in
+      omega arith
+  spared_less (Listing ListNumber) p = let r = later_spared shape limits state fits are some 0 in omega arith
+  spared_less (Listing ListState) p = let r = later_spared shape limits state fits are some 0 in omega arith
+  spared_less (Locking Peek) p = let a = all_spared shape limits state fits are some in omega arith
+  spared_less (Locking (Seize header)) p = let a = all_spared shape limits state fits are some in omega arith
+  spared_less (Locking (GiveBack given found)) p = let l = p.0.1 in omega arith
+  spared_less (Checking at) p = let a = all_spared shape limits state fits are some in omega arith
+  spared_less (Returning given full) p = let e = as_many shape limits state fits are some in let l = p.1 in omega arith
+  spared_less (Counting nth) p = let a = all_spared shape limits state fits are some in omega arith
+  spared_less Deciding p = let a = all_spared shape limits state fits are some in omega arith
+  spared_less (Saving nth got) p =
+      let e = nth_spared shape limits state fits are some nth p.2 in
+      let o = one_spared (is_some (value_at state nth)) (record_place state nth).width in
+      let r = later_spared shape limits state fits are some (nth + 1) in
+      omega arith
+  spared_less (Copying nth old at) p =
+      let e = nth_spared shape limits state fits are some nth p.2 in
+      let o = one_spared (is_some (value_at state nth)) (record_place state nth).width in
+      let r = later_spared shape limits state fits are some (nth + 1) in
+      omega arith
+  spared_less (Installing nth (InstallWord word)) p =
+      let r = later_spared shape limits state fits are some (nth + 1) in omega arith
+  spared_less (Installing nth InstallCount) p =
+      let r = later_spared shape limits state fits are some (nth + 1) in omega arith
+  spared_less (Installing nth InstallHead) p =
+      let r = later_spared shape limits state fits are some (nth + 1) in omega arith
+  spared_less Publishing p = omega arith
+  spared_less (Freeing nth) p = let e = as_many shape limits state fits are some in let l = p.3 in omega arith
+  spared_less (Clearing refusal) p = omega arith
+  spared_less Ending p = omega arith
+
+  pub commit_lowers : (at : CommitPoint) (found : ℕ) → CommitPointFits shape state at
+      → TxnFalls shape (commit_left state at) (commit_after state at found)
+      → Lowers shape (commit_left state at) (commit_spared state at) (commit_after state at found)
+  commit_lowers (Listing at) found p h =
+      list_lowers shape limits state fits are some at p.2 (spared_less (Listing at) p) h
+  commit_lowers (Locking at) found p h =
+      lock_lowers shape limits state fits are some at found p.0 (spared_less (Locking at) p) h
+  commit_lowers (Checking at) found p h =
+      slot_lowers shape limits state fits are some at found p.0 (spared_less (Checking at) p) h
+  commit_lowers (Returning given full) found p h =
+      spares_none shape limits state fits are some (commit_left state (Returning given full))
+      (commit_after state (Returning given full) found) h
+  commit_lowers (Counting nth) found p h =
+      count_lowers shape limits state fits are some (nth + 1) _ (spared_less (Counting nth) p) h
+  commit_lowers Deciding found p h =
+      keeps shape state (Saving 0 words_begin) _ _ (spared_less Deciding p) (omega arith) h
+  commit_lowers (Saving nth got) found p h =
+      words_lowers shape limits state fits are some nth _ _ (spared_less (Saving nth got) p) h
+  commit_lowers (Copying nth old at) found p h =
+      copy_lowers shape limits state fits are some nth old at p.2 (spared_less (Copying nth old at) p) h
+  commit_lowers (Installing nth at) found p h =
+      install_lowers shape limits state fits are some nth _ _ p.2 (spared_less (Installing nth at) p) h
+  commit_lowers Publishing found p h =
+      spares_none shape limits state fits are some (commit_left state Publishing)
+      (commit_after state Publishing found) h
+  commit_lowers (Freeing nth) found p h =
+      spares_none shape limits state fits are some (commit_left state (Freeing nth))
+      (commit_after state (Freeing nth) found) h
+  commit_lowers (Clearing refusal) found p h =
+      spares_none shape limits state fits are some (commit_left state (Clearing refusal))
+      (commit_after state (Clearing refusal) found) h
+  commit_lowers Ending found p h =
+      spares_none shape limits state fits are some (commit_left state Ending) (commit_after state Ending found) h
+
+-- 2. Each call
 
 module _ (shape : Shape) (limits : FitsLimits shape) where
   -- a word is taken

@@ -17,8 +17,8 @@ use Rattle.nam_verbs.specs.Falls.{FallsTo, nothing, Any}
 use Rattle.nam_protocol.specs.declared.txn.TxnAnswer.{TxnAnswer}
 use Rattle.nam_protocol.specs.declared.txn.CommitPoint.{CommitPoint}
 use Rattle.nam_protocol.specs.declared.txn.CommitPoint.TheVariants.{Locking, Checking, Returning, Saving, Copying}
-use Rattle.nam_protocol.specs.declared.txn.CommitPoint.TheVariants.{Installing, Publishing, Freeing}
-use Rattle.nam_protocol.specs.declared.txn.CommitPoint.TheVariants.{Listing, Counting, Deciding, Clearing, Ending}
+use Rattle.nam_protocol.specs.declared.txn.CommitPoint.TheVariants.{Installing, Publishing}
+use Rattle.nam_protocol.specs.declared.txn.CommitPoint.TheVariants.{Listing, Counting, Deciding, Clearing}
 use Rattle.nam_protocol.specs.Txn.{Stepped, over}
 use Rattle.nam_protocol.specs.Commit.{go}
 use Rattle.nam_protocol.specs.Bound.{commit_left}
@@ -34,16 +34,16 @@ use Rattle.nam_calls.specs.declared.ring.SlotEnd.TheVariants.{Free, NotMoved}
 use Rattle.nam_calls.specs.declared.ring.CopyPoint.{CopyPoint}
 use Rattle.nam_calls.specs.declared.ring.CopyPoint.TheVariants.{CopyMark, CopyEnding, CopyWord, CopyHead}
 use Rattle.nam_calls.specs.declared.record.InstallPoint.{InstallPoint}
-use Rattle.nam_calls.specs.declared.record.InstallPoint.TheVariants.{InstallWord, InstallCount, InstallHead}
+use Rattle.nam_calls.specs.declared.record.InstallPoint.TheVariants.{InstallWord, InstallCount}
 use Rattle.nam_calls.specs.Record.{words_begin, install_begin}
 use Rattle.nam_calls.specs.Ring.{slot_begin, slot_after, copy_begin, copy_after}
 use Rattle.nam_calls.specs.Fits.{LockFits}
 use Rattle.nam_calls.specs.Lock.{lock_begin, lock_left, give_back, loss_of, locks_at, lock_next, lock_after}
 use Rattle.nam_protocol.specs.declared.txn.Refusal.{Refusal}
 use Rattle.nam_protocol.specs.declared.txn.Refusal.TheVariants as refusal
-use Rattle.nam_protocol.specs.Commit.{tells_intent, refused, refusal_answer, lock_at, on_lock, on_slot, next_check, checked}
-use Rattle.nam_protocol.specs.Commit.{next_count, on_words, on_copy, on_install, commit_after}
-use Rattle.nam_protocol.specs.TxnFits.{CommitPointFits}
+use Rattle.nam_protocol.specs.Commit.{tells_intent, refused, refusal_answer, lock_at, on_lock, on_slot, next_check}
+use Rattle.nam_protocol.specs.Commit.{checked}
+use Rattle.nam_protocol.specs.Commit.{next_count, on_words, on_copy, on_install}
 use Rattle.nam_longest.proofs.TxnToCome.{stepped_lowers}
 use Rattle.nam_protocol.specs.declared.txn.ListPoint.{ListPoint}
 use Rattle.nam_protocol.specs.declared.txn.ListPoint.TheVariants.{ListRow, ListKind, ListData, ListNumber, ListState}
@@ -53,14 +53,14 @@ use Rattle.nam_protocol.specs.TxnFits.{StateFits, ListFits}
 use Rattle.nam_protocol.proofs.FallsKeys.{places_length, writes_within}
 use Rattle.nam_longest.specs.Longest.{txn_to_come}
 use Rattle.nam_longest.specs.Deletions.{spared_from, commit_spared}
-use Rattle.nam_longest.proofs.SparedLemmas.{spared_at, spared_none, one_spared, spared_installs, spared_installs_from}
-use Rattle.nam_longest.proofs.SparedLemmas.{spared_listed_from, value_listed}
+use Rattle.nam_longest.proofs.SparedLemmas.{spared_at, spared_none, spared_installs, spared_installs_from}
+use Rattle.nam_longest.proofs.SparedLemmas.{value_listed}
 
 -- 1. A commit goes on, or is over
 
 module _ (shape : Shape) where
   -- the step lowers what is to come from n, of which so many verbs are spared
-  abbrev Lowers : ℕ → ℕ → Stepped → Type 0
+  abbrev pub Lowers : ℕ → ℕ → Stepped → Type 0
   Lowers n less step = FallsTo Any Any (txn_to_come shape step.state) nothing (n - less) step.call
 
   goes : (state : TxnState) (place : CommitPoint) (n less : ℕ) → less < n
@@ -68,7 +68,7 @@ module _ (shape : Shape) where
   goes state place n less l m = (tt, omega arith)
 
   -- the verbs left fall, and no fewer are spared
-  keeps : (state : TxnState) (place : CommitPoint) (n less : ℕ) → less < n → less ≤ commit_spared state place
+  pub keeps : (state : TxnState) (place : CommitPoint) (n less : ℕ) → less < n → less ≤ commit_spared state place
       → TxnFalls shape n (go state place) → Lowers n less (go state place)
   keeps state place n less l m h = (tt, let k = h.1.1 in omega arith)
 
@@ -89,10 +89,10 @@ module _ (shape : Shape) (limits : FitsLimits shape) (state : TxnState) (fits : 
   pub as_many : length (places state) ≡ records
   as_many = places_length shape state fits are
 
-  no_more : length state.writes ≤ length (places state)
+  pub no_more : length state.writes ≤ length (places state)
   no_more = let w = within in let e = as_many in omega arith
 
-  all_spared : spared_from state 0 + 5 * writes ≤ installs_most (take writes (places state))
+  pub all_spared : spared_from state 0 + 5 * writes ≤ installs_most (take writes (places state))
   all_spared = spared_installs state.writes (places state) no_more
 
   pub later_spared : (nth : ℕ) → spared_from state nth ≤ rest_from state nth
@@ -123,7 +123,7 @@ module _ (shape : Shape) (limits : FitsLimits shape) (state : TxnState) (fits : 
       omega arith
 
   -- nothing is spared any more
-  spares_none : (n : ℕ) (step : Stepped) → TxnFalls shape n step → Lowers shape n 0 step
+  pub spares_none : (n : ℕ) (step : Stepped) → TxnFalls shape n step → Lowers shape n 0 step
   spares_none n step h = let same : n - 0 ≡ n = omega arith in rw same (stepped_lowers shape limits n step h)
 
   -- 2. The listing
@@ -169,7 +169,7 @@ module _ (shape : Shape) (limits : FitsLimits shape) (state : TxnState) (fits : 
       list_next_lowers nth _ _ less (omega arith)
   kind_lowers nth (Some value) l e less h = keeps shape state (Listing (ListData nth 0)) _ _ less (omega arith) h
 
-  list_lowers : (at : ListPoint) → ListFits shape state at
+  pub list_lowers : (at : ListPoint) → ListFits shape state at
       → commit_spared state (Listing at) < commit_left state (Listing at)
       → TxnFalls shape (commit_left state (Listing at)) (on_list state (list_after state at))
       → Lowers shape (commit_left state (Listing at)) (commit_spared state (Listing at))
@@ -188,7 +188,8 @@ module _ (shape : Shape) (limits : FitsLimits shape) (state : TxnState) (fits : 
       list_next_keeps nth _ _ less (omega arith)) h
   list_lowers (ListData nth word) p less h =
       by_test (λ now. TxnFalls shape (commit_left state (Listing (ListData nth word))) (on_list state now)
-      → Lowers shape (commit_left state (Listing (ListData nth word))) (commit_spared state (Listing (ListData nth word)))
+      → Lowers shape (commit_left state (Listing (ListData nth word)))
+      (commit_spared state (Listing (ListData nth word)))
       (on_list state now))
       (word + 1 == (record_place state nth).width) (list_next state nth) (At (ListData nth (word + 1)))
       (λ e. list_next_keeps nth _ _ less (omega arith))
@@ -230,7 +231,7 @@ module _ (shape : Shape) (limits : FitsLimits shape) (state : TxnState) (fits : 
       < 1 + (after_locks state + clear)
   locks_more l = let a = all_spared in let w = within in omega arith
 
-  lock_lowers : (at : LockPoint) (found : ℕ) → LockFits records state.held at
+  pub lock_lowers : (at : LockPoint) (found : ℕ) → LockFits records state.held at
       → commit_spared state (Locking at) < commit_left state (Locking at)
       → TxnFalls shape (commit_left state (Locking at))
       (on_lock state (lock_after (places state) state.seen state.held at found))
@@ -248,7 +249,8 @@ module _ (shape : Shape) (limits : FitsLimits shape) (state : TxnState) (fits : 
       (λ t h. give_back_lowers found n (spared_from state 0) (omega arith))
       (λ t. by_test (λ now. TxnFalls shape n (on_lock state now)
       → Lowers shape n (spared_from state 0) (on_lock state now))
-      (sees form state.seen found) (At (locks_at state.held (Seize found))) (give_back (places state) state.held 0 found)
+      (sees form state.seen found) (At (locks_at state.held (Seize found)))
+      (give_back (places state) state.held 0 found)
       (λ f. keeps shape state (Locking (Seize found)) n (spared_from state 0) less (omega arith))
       (λ f h. give_back_lowers found n (spared_from state 0) (omega arith))) h
   lock_lowers (Seize header) found p less h =
@@ -283,7 +285,7 @@ module _ (shape : Shape) (limits : FitsLimits shape) (state : TxnState) (fits : 
       (λ f. keeps shape state' (Saving 0 words_begin) n (spared_from state 0) less (omega arith)))
       (λ e. keeps shape state' (Checking slot_begin) n (spared_from state 0) less (omega arith))
 
-  slot_lowers : (at : SlotPoint) (found : ℕ) → length state.held ≡ records
+  pub slot_lowers : (at : SlotPoint) (found : ℕ) → length state.held ≡ records
       → commit_spared state (Checking at) < commit_left state (Checking at)
       → TxnFalls shape (commit_left state (Checking at))
       (on_slot state (slot_after (record_place state (length state.counts)) at found))
@@ -304,7 +306,7 @@ module _ (shape : Shape) (limits : FitsLimits shape) (state : TxnState) (fits : 
 
   -- 5. The records, one after another
 
-  count_lowers : (nth n : ℕ) → spared_from state 0 < n → TxnFalls shape n (next_count state nth)
+  pub count_lowers : (nth n : ℕ) → spared_from state 0 < n → TxnFalls shape n (next_count state nth)
       → Lowers shape n (spared_from state 0) (next_count state nth)
   count_lowers nth n less =
       by_test (λ step. TxnFalls shape n step → Lowers shape n (spared_from state 0) step) (nth == length state.writes)
@@ -312,7 +314,7 @@ module _ (shape : Shape) (limits : FitsLimits shape) (state : TxnState) (fits : 
       (λ e. keeps shape state Deciding n (spared_from state 0) less (omega arith))
       (λ e. keeps shape state (Counting nth) n (spared_from state 0) less (omega arith))
 
-  words_lowers : (nth n : ℕ) (now : Now (List ℕ) (List ℕ)) → spared_from state nth < n
+  pub words_lowers : (nth n : ℕ) (now : Now (List ℕ) (List ℕ)) → spared_from state nth < n
       → TxnFalls shape n (on_words state nth now) → Lowers shape n (spared_from state nth) (on_words state nth now)
   words_lowers nth n (At got) less h = keeps shape state (Saving nth got) n _ less (omega arith) h
   words_lowers nth n (Over old) less h = keeps shape state (Copying nth old copy_begin) n _ less (omega arith) h
@@ -328,7 +330,7 @@ module _ (shape : Shape) (limits : FitsLimits shape) (state : TxnState) (fits : 
   install_begins nth n (Some value) less e m h =
       keeps shape state (Installing nth (InstallWord 0)) n (spared_from state nth) less (omega arith) h
 
-  copy_lowers : (nth : ℕ) (old : List ℕ) (at : CopyPoint) → nth < writes
+  pub copy_lowers : (nth : ℕ) (old : List ℕ) (at : CopyPoint) → nth < writes
       → commit_spared state (Copying nth old at) < commit_left state (Copying nth old at)
       → TxnFalls shape (commit_left state (Copying nth old at))
       (on_copy state nth old (copy_after (record_place state nth) at))
@@ -346,7 +348,7 @@ module _ (shape : Shape) (limits : FitsLimits shape) (state : TxnState) (fits : 
   copy_lowers nth old CopyHead l less h =
       install_begins nth _ (value_at state nth) less (nth_spared nth l) (omega arith) h
 
-  install_lowers : (nth n : ℕ) (now : Now InstallPoint (Unit {0})) → nth < writes → spared_from state (nth + 1) < n
+  pub install_lowers : (nth n : ℕ) (now : Now InstallPoint (Unit {0})) → nth < writes → spared_from state (nth + 1) < n
       → TxnFalls shape n (on_install state nth now)
       → Lowers shape n (spared_from state (nth + 1)) (on_install state nth now)
   install_lowers nth n (At place) l less h = keeps shape state (Installing nth place) n _ less (omega arith) h
@@ -357,69 +359,3 @@ module _ (shape : Shape) (limits : FitsLimits shape) (state : TxnState) (fits : 
       let none = none_spared (nth + 1) all in
       keeps shape state Publishing n _ less (omega arith))
       (λ e. keeps shape state (Saving (nth + 1) words_begin) n _ less (omega arith)) h
-
-  -- 6. Each point
-
-  -- fewer are spared than are left
-  spared_less : (at : CommitPoint) → CommitPointFits shape state at → commit_spared state at < commit_left state at
-  spared_less (Listing (ListRow nth)) p =
-      let s = spared_listed_from state.writes (places state) nth no_more in
-      let r = later_spared 0 in
-      omega arith
-  spared_less (Listing (ListKind nth)) p =
-      let s = spared_listed_from state.writes (places state) nth no_more in
-      let r = later_spared 0 in
-      omega arith
-  spared_less (Listing (ListData nth word)) p =
-      let s = spared_listed_from state.writes (places state) (nth + 1) no_more in
-      let r = later_spared 0 in
-      omega arith
-  spared_less (Listing ListNumber) p = let r = later_spared 0 in omega arith
-  spared_less (Listing ListState) p = let r = later_spared 0 in omega arith
-  spared_less (Locking Peek) p = let a = all_spared in omega arith
-  spared_less (Locking (Seize header)) p = let a = all_spared in omega arith
-  spared_less (Locking (GiveBack given found)) p = let l = p.0.1 in omega arith
-  spared_less (Checking at) p = let a = all_spared in omega arith
-  spared_less (Returning given full) p = let e = as_many in let l = p.1 in omega arith
-  spared_less (Counting nth) p = let a = all_spared in omega arith
-  spared_less Deciding p = let a = all_spared in omega arith
-  spared_less (Saving nth got) p =
-      let e = nth_spared nth p.2 in
-      let o = one_spared (is_some (value_at state nth)) (record_place state nth).width in
-      let r = later_spared (nth + 1) in
-      omega arith
-  spared_less (Copying nth old at) p =
-      let e = nth_spared nth p.2 in
-      let o = one_spared (is_some (value_at state nth)) (record_place state nth).width in
-      let r = later_spared (nth + 1) in
-      omega arith
-  spared_less (Installing nth (InstallWord word)) p = let r = later_spared (nth + 1) in omega arith
-  spared_less (Installing nth InstallCount) p = let r = later_spared (nth + 1) in omega arith
-  spared_less (Installing nth InstallHead) p = let r = later_spared (nth + 1) in omega arith
-  spared_less Publishing p = omega arith
-  spared_less (Freeing nth) p = let e = as_many in let l = p.3 in omega arith
-  spared_less (Clearing refusal) p = omega arith
-  spared_less Ending p = omega arith
-
-  pub commit_lowers : (at : CommitPoint) (found : ℕ) → CommitPointFits shape state at
-      → TxnFalls shape (commit_left state at) (commit_after state at found)
-      → Lowers shape (commit_left state at) (commit_spared state at) (commit_after state at found)
-  commit_lowers (Listing at) found p h = list_lowers at p.2 (spared_less (Listing at) p) h
-  commit_lowers (Locking at) found p h = lock_lowers at found p.0 (spared_less (Locking at) p) h
-  commit_lowers (Checking at) found p h = slot_lowers at found p.0 (spared_less (Checking at) p) h
-  commit_lowers (Returning given full) found p h =
-      spares_none (commit_left state (Returning given full))
-      (commit_after state (Returning given full) found) h
-  commit_lowers (Counting nth) found p h = count_lowers (nth + 1) _ (spared_less (Counting nth) p) h
-  commit_lowers Deciding found p h = keeps shape state (Saving 0 words_begin) _ _ (spared_less Deciding p) (omega arith) h
-  commit_lowers (Saving nth got) found p h = words_lowers nth _ _ (spared_less (Saving nth got) p) h
-  commit_lowers (Copying nth old at) found p h = copy_lowers nth old at p.2 (spared_less (Copying nth old at) p) h
-  commit_lowers (Installing nth at) found p h = install_lowers nth _ _ p.2 (spared_less (Installing nth at) p) h
-  commit_lowers Publishing found p h =
-      spares_none (commit_left state Publishing) (commit_after state Publishing found) h
-  commit_lowers (Freeing nth) found p h =
-      spares_none (commit_left state (Freeing nth)) (commit_after state (Freeing nth) found) h
-  commit_lowers (Clearing refusal) found p h =
-      spares_none (commit_left state (Clearing refusal)) (commit_after state (Clearing refusal) found) h
-  commit_lowers Ending found p h =
-      spares_none (commit_left state Ending) (commit_after state Ending found) h

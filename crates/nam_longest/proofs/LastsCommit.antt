@@ -58,7 +58,8 @@ module _ (shape : Shape) where
       where
         finish : (b : Bool) → TxnLasts shape (if b then go state Ending else over state (Committed (state.last + 1)))
             (if b then 1 else 0)
-        finish true = then_lasts state Ending 0 0 1 (omega arith) refl (over_lasts shape state (Committed (state.last + 1)))
+        finish true =
+            then_lasts state Ending 0 0 1 (omega arith) refl (over_lasts shape state (Committed (state.last + 1)))
         finish false = over_lasts shape state (Committed (state.last + 1))
 
     frees_last : (rest nth m : ℕ) → nth + rest ≡ records → m ≡ rest + clear_left state
@@ -102,8 +103,8 @@ module _ (shape : Shape) where
           → TxnLasts shape (go state (Copying nth old (CopyWord word))) m
       words_copied old zero word n m e f next =
           then_lasts state (Copying nth old (CopyWord word)) 0 n m (omega arith) (omega arith)
-          (or_last (λ now. TxnLasts shape (on_copy state nth old now) n) width word (At CopyHead) (At (CopyWord (word + 1)))
-          (omega arith) (λ t. next) (λ t. absurd (omega arith)))
+          (or_last (λ now. TxnLasts shape (on_copy state nth old now) n) width word (At CopyHead)
+          (At (CopyWord (word + 1))) (omega arith) (λ t. next) (λ t. absurd (omega arith)))
       words_copied old (suc rest) word n m e f next =
           then_lasts state (Copying nth old (CopyWord word)) 0 (n + suc rest) m (omega arith) (omega arith)
           (or_last (λ now. TxnLasts shape (on_copy state nth old now) (n + suc rest)) width word (At CopyHead)

@@ -22,7 +22,8 @@ use Rattle.nam_protocol.specs.declared.txn.TxnPoint.TheVariants.{Committing}
 use Rattle.nam_protocol.specs.declared.txn.CommitPoint.TheVariants.{Listing, Locking}
 use Rattle.nam_protocol.specs.declared.txn.TxnAnswer.TheVariants.{ReadOnly, Spent}
 use Rattle.nam_protocol.specs.Txn.{at, over}
-use Rattle.nam_protocol.specs.Commit.{record_in, records_of, ask_commit, commit_begin, committing, list_begin, places, go}
+use Rattle.nam_protocol.specs.Commit.{record_in, records_of, ask_commit, commit_begin, committing, list_begin, places}
+use Rattle.nam_protocol.specs.Commit.{go}
 use Rattle.nam_protocol.specs.Commit.{tells_intent, has_intents}
 use Rattle.nam_protocol.specs.Bound.{installs_most, writes_bound, values_bound, intent_bound, commit_left, listed_from}
 use Rattle.nam_protocol.specs.Bound.{listed_most, of_intent, after_locks, clear_left}

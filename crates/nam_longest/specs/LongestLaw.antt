@@ -59,8 +59,8 @@ CanCommit shape None = ⊥
 CanCommit shape (Some attempt) =
     (1 ≤ length attempt.state.writes) × (attempt.state.last < greatest_number shape.form)
 
--- Calls that take verbs: an operation where its key isn't written, a scan where its range has such a key, and a commit of
--- writes. The number of an add is a word
+-- Calls that may take verbs: an operation where its key isn't written, a scan where its range has such a key, and a
+-- commit of writes. The number of an add is a word
 abbrev pub MayLast : Shape → Option Open → Call → Type 0
 MayLast shape opened (Txn (Get t k)) = Unwritten opened t k
 MayLast shape opened (Txn (Put t k v)) = Unwritten opened t k

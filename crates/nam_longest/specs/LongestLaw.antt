@@ -1,4 +1,4 @@
--- No words make a call of a client take more verbs than its longest.
+-- No words make a call of a client take more verbs than its longest, and some make it take as many.
 use Rattle.std.specs.Prelude.{◌≡◌, ℕ, ◌<◌, ◌≤◌, false, List, [], ◌∷◌, length, Option, Some, None, IsSome}
 use Rattle.si_model.specs.Rows.{key_at, writes_key}
 use Rattle.nam_verbs.specs.declared.now.Now.TheVariants.{At}
@@ -43,17 +43,17 @@ LongestLaw = (shape : Shape) → FitsLimits shape → (client : ClientState) (ca
     → (words : List ℕ) → TakesWords shape (client_ask shape client call) words
     → length words ≤ call_longest shape client call
 
--- the call takes so many words of some that are below 2^64
+-- the client's call takes some words, so many of them, each below 2^64
 abbrev pub LastsWords : Shape → ClientState → ℕ → Type 0
 LastsWords shape client n =
     (words : List ℕ) × AreWords words × TakesWords shape client words × (length words ≡ n)
 
--- the transaction that is open writes another key than this one, whose operation takes no verb
+-- a transaction is open that has not written this key: an operation on a written one takes no verb
 abbrev pub Unwritten : Option Open → ℕ → ℕ → Type 0
 Unwritten None table key = ⊥
 Unwritten (Some attempt) table key = writes_key attempt.state.writes (key_at table key) ≡ false
 
--- it has a write, and a number is left for its commit
+-- a transaction is open that has a write, and a number is left for its commit
 abbrev pub CanCommit : Shape → Option Open → Type 0
 CanCommit shape None = ⊥
 CanCommit shape (Some attempt) =

@@ -1,0 +1,16 @@
+pub mod Versions
+pub mod Moments
+pub mod Holders
+pub mod Locks
+pub mod Chains
+pub mod Publications
+pub mod Slots
+pub mod Copiers
+pub mod Cells
+pub mod Upkeep
+pub mod Wanted
+pub mod Reads
+pub mod Keys
+pub mod Steps
+pub mod Ghost
+pub mod Law

@@ -1,2 +1,3 @@
 pub mod Runs
-mod CommitExample
+pub mod CommitExample
+pub mod MoveExample

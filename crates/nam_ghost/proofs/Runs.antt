@@ -1,9 +1,15 @@
 -- Stores with what is known of them, brought about by their clients in any order: what the examples compute.
+use Rattle.nam_calls.specs.Memory.{memory}
 use Rattle.nam_catalog.specs.declared.shape.Shape.{Shape}
 use Rattle.nam_ghost.specs.Cells.{Cell}
 use Rattle.nam_ghost.specs.Ghost.{Ghost, ghost_after, opening_ghost}
 use Rattle.nam_ghost.specs.Slots.{Kept}
 use Rattle.nam_ghost.specs.Versions.{Chain, Version}
+use Rattle.nam_layout.specs.Rows.{width_at}
+use Rattle.nam_layout.specs.declared.field.Field.TheVariants.{Begin, CellWord, Count, End, Entry, Header, Horizon}
+use Rattle.nam_layout.specs.declared.field.Field.TheVariants.{Owner, SlotEnd, SlotHeader, SlotWord, Tag, Word}
+use Rattle.nam_protocol.specs.Schedule.{numbers_from}
+use Rattle.nam_protocol.specs.Telling.{new_client}
 use Rattle.nam_protocol.specs.declared.client.Answer.{Answer}
 use Rattle.nam_protocol.specs.declared.client.Call.{Call}
 use Rattle.nam_protocol.specs.declared.client.CallPoint.{CallPoint}
@@ -14,7 +20,7 @@ use Rattle.nam_verbs.specs.declared.now.Now.{Now}
 use Rattle.nam_verbs.specs.declared.now.Now.TheVariants.{At}
 use Rattle.si_model.specs.declared.log.Stamp.{Stamp}
 use Rattle.si_model.specs.declared.row.Row.{Row}
-use Rattle.std.proofs.Common.{Bool, List, None, Option, Some, [], false, suc, zero, ℕ, ◌+◌, ◌∷◌}
+use Rattle.std.proofs.Common.{Bool, List, None, Option, Some, [], false, map, slice_index_or, suc, zero, ℕ, ◌+◌, ◌∷◌}
 
 pub record Seen : Type 0 where
   pub store : Store
@@ -69,14 +75,6 @@ module _ (shape : Shape) where
   after_deeds seen [] = seen
   after_deeds seen (deed ∷ deeds) = after_deeds (done_by seen deed) deeds
 
-abbrev pub slots_from : (ℕ → Option Kept) → ℕ → ℕ → List (Option Kept)
-slots_from kept nth zero = []
-slots_from kept nth (suc rest) = kept nth ∷ slots_from kept (nth + 1) rest
-
-abbrev pub cells_from : (ℕ → Cell) → ℕ → ℕ → List Cell
-cells_from cells nth zero = []
-cells_from cells nth (suc rest) = cells nth ∷ cells_from cells (nth + 1) rest
-
 -- What is shown of a row: its chain, its first slots, and whether the current version is copied
 pub record RowShown : Type 0 where
   pub chain : Chain
@@ -86,13 +84,43 @@ pub record RowShown : Type 0 where
 abbrev pub row_shown : Seen → ℕ → ℕ → RowShown
 row_shown seen row slots = record {
   chain = seen.ghost.chains row;
-  slots = slots_from (seen.ghost.rings row).kept 0 slots;
+  slots = map (seen.ghost.rings row).kept (numbers_from 0 slots);
   copied = (seen.ghost.rings row).copied;
 }
 
 -- a bucket's first cells
 abbrev pub cells_shown : Seen → ℕ → ℕ → List Cell
-cells_shown seen bucket cells = cells_from (seen.ghost.cells bucket) 0 cells
+cells_shown seen bucket cells = map (seen.ghost.cells bucket) (numbers_from 0 cells)
+
+-- the words that stand there: header, count and data; header, end and data of a slot; tag, owner, begin, end and data of a
+-- cell
+abbrev pub record_words : Shape → Seen → ℕ → List ℕ
+record_words shape seen row =
+    let m = memory shape seen.store.words in
+    m (Header row) ∷ m (Count row) ∷ map (λ nth. m (Word row nth)) (numbers_from 0 (width_at shape.tables row))
+
+abbrev pub slot_words : Shape → Seen → ℕ → ℕ → List ℕ
+slot_words shape seen row slot =
+    let m = memory shape seen.store.words in
+    m (SlotHeader row slot) ∷ m (SlotEnd row slot) ∷
+    map (λ nth. m (SlotWord row slot nth)) (numbers_from 0 (width_at shape.tables row))
+
+abbrev pub cell_words : Shape → Seen → ℕ → ℕ → ℕ → List ℕ
+cell_words shape seen bucket cell width =
+    let m = memory shape seen.store.words in
+    m (Tag bucket cell) ∷ m (Owner bucket cell) ∷ m (Begin bucket cell) ∷ m (End bucket cell) ∷
+    map (λ nth. m (CellWord bucket cell nth)) (numbers_from 0 width)
+
+-- the horizon, and the vector
+abbrev pub horizon_words : Shape → Seen → List ℕ
+horizon_words shape seen = map (λ a. memory shape seen.store.words (Horizon (a + 1))) (numbers_from 0 shape.workers)
+
+abbrev pub vector_words : Shape → Seen → List ℕ
+vector_words shape seen = map (λ a. memory shape seen.store.words (Entry (a + 1))) (numbers_from 0 shape.workers)
+
+-- the nth client, and a new one where there is none
+abbrev pub client_of : Seen → ℕ → ClientState
+client_of seen nth = slice_index_or seen.store.clients nth (new_client 0 0)
 
 -- short words
 abbrev pub stamp : ℕ → ℕ → Stamp

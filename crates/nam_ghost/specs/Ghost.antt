@@ -12,12 +12,13 @@ use Rattle.nam_layout.specs.declared.field.Field.{Field}
 use Rattle.nam_layout.specs.declared.field.Field.TheVariants.{Header, Word}
 use Rattle.nam_layout.specs.declared.field.Place.{Place}
 use Rattle.nam_protocol.specs.Opening.{opening_words}
+use Rattle.nam_protocol.specs.Schedule.{numbers_from}
 use Rattle.nam_protocol.specs.declared.client.CallPoint.{CallPoint}
 use Rattle.nam_protocol.specs.declared.client.ClientState.{ClientState}
 use Rattle.nam_store.specs.Reached.{GhostStep, Reached}
 use Rattle.nam_store.specs.Store.{Store, Takes, found_word}
 use Rattle.si_model.specs.declared.row.Row.{Row}
-use Rattle.std.specs.Prelude.{List, None, Some, [], false, if◌then◌else◌, suc, zero, ℕ, ◌+◌, ◌∷◌}
+use Rattle.std.specs.Prelude.{List, None, Some, [], false, if◌then◌else◌, map, ℕ}
 
 -- by row the version chain and the ring, by bucket and cell what the cell holds, by client what it has published
 pub record Ghost : Type 0 where
@@ -45,18 +46,13 @@ ghost_step shape before _ _ ghost = ghost
 
 -- 2. The opening
 
--- so many words from the nth on
-abbrev pub words_from : (ℕ → ℕ) → ℕ → ℕ → List ℕ
-words_from body nth zero = []
-words_from body nth (suc rest) = body nth ∷ words_from body (nth + 1) rest
-
 -- The loader's version of a row, as the words say it: none where the header has the deleted flag.
 abbrev pub loaded_version : Place → (Field → ℕ) → Version
 loaded_version place m = record {
   stamp = record { thread = 0; number = 0 };
   value =
       if is_deleted place.form (m (Header place.row)) then None
-      else Some (words_from (λ nth. m (Word place.row nth)) 0 place.width);
+      else Some (map (λ nth. m (Word place.row nth)) (numbers_from 0 place.width));
   seen = [];
 }
 

@@ -1,3 +1,5 @@
 pub mod Runs
 pub mod CommitExample
 pub mod MoveExample
+pub mod Small
+mod ClaimsExample

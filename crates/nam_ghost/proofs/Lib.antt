@@ -3,3 +3,4 @@ pub mod CommitExample
 pub mod MoveExample
 pub mod Small
 mod ClaimsExample
+mod ViewsExample

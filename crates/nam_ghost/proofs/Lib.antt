@@ -4,3 +4,4 @@ pub mod MoveExample
 pub mod Small
 mod ClaimsExample
 mod ViewsExample
+mod ReadsExample

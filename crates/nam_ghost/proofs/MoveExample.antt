@@ -30,13 +30,13 @@ put_once = after_deeds narrow_shape (opened narrow_shape (loaded 0 0 (5 ∷ []) 
 abbrev pub tidies : ℕ → Seen
 tidies verbs = after_deeds narrow_shape put_once (Calls 0 (Tidy 0 0) ∷ Turns 0 verbs ∷ [])
 
-abbrev first : Version
+abbrev pub first : Version
 first = version 0 0 (Some (5 ∷ [])) []
 
-abbrev second : Version
+abbrev pub second : Version
 second = version 1 1 (Some (6 ∷ [])) (0 ∷ 0 ∷ [])
 
-abbrev third : Version
+abbrev pub third : Version
 third = version 1 2 (Some (7 ∷ [])) (1 ∷ 0 ∷ [])
 
 -- what is shown of the one row, and of the two cells

@@ -5,3 +5,4 @@ pub mod Small
 mod ClaimsExample
 mod ViewsExample
 mod ReadsExample
+mod UpkeepExample

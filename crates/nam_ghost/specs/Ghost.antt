@@ -4,7 +4,7 @@ use Rattle.nam_catalog.specs.declared.shape.Shape.{Shape}
 use Rattle.nam_ghost.specs.Cells.{CellMap, FreeCell}
 use Rattle.nam_ghost.specs.Publications.{Publication}
 use Rattle.nam_ghost.specs.Slots.{Ring}
-use Rattle.nam_ghost.specs.Steps.{cells_after, chains_after, published_after, rings_after}
+use Rattle.nam_ghost.specs.Steps.{cells_after, chains_after, order_after, published_after, rings_after}
 use Rattle.nam_ghost.specs.Versions.{Chain, Version}
 use Rattle.nam_header.specs.Stamp.{is_deleted}
 use Rattle.nam_layout.specs.Place.{place_at}
@@ -17,15 +17,18 @@ use Rattle.nam_protocol.specs.declared.client.CallPoint.{CallPoint}
 use Rattle.nam_protocol.specs.declared.client.ClientState.{ClientState}
 use Rattle.nam_store.specs.Reached.{GhostStep, Reached}
 use Rattle.nam_store.specs.Store.{Store, Takes, found_word}
+use Rattle.si_model.specs.declared.log.Stamp.{Stamp}
 use Rattle.si_model.specs.declared.row.Row.{Row}
 use Rattle.std.specs.Prelude.{List, None, Some, [], false, if◌then◌else◌, map, ℕ}
 
--- by row the version chain and the ring, by bucket and cell what the cell holds, by client what it has published
+-- By row the version chain and the ring, by bucket and cell what the cell holds, by client what it has published, oldest
+-- first; and the stamps of all that was published, in the order of time.
 pub record Ghost : Type 0 where
   pub chains : ℕ → Chain
   pub rings : ℕ → Ring
   pub cells : CellMap
   pub published : ℕ → List Publication
+  pub order : List Stamp
 
 -- 1. A step
 
@@ -36,6 +39,7 @@ ghost_after shape nth client place found ghost = record {
   rings = rings_after shape client.txn place found ghost.chains ghost.rings;
   cells = cells_after shape client.worker place found ghost.chains ghost.cells;
   published = published_after nth client.txn place ghost.published;
+  order = order_after client.txn place ghost.order;
 }
 
 -- a call that is asked, a transaction that is given up and a client that is stopped change nothing
@@ -67,6 +71,7 @@ opening_ghost shape rows = record {
   rings = λ row. record { kept = λ slot. None; copied = false };
   cells = λ bucket cell. FreeCell;
   published = λ nth. [];
+  order = [];
 }
 
 -- a store that comes about from an opening, with what is known of it

@@ -8,8 +8,10 @@ use Rattle.nam_ghost.specs.Ghost.{Ghost, IsKnown}
 use Rattle.nam_ghost.specs.Keys.{KeysOk}
 use Rattle.nam_ghost.specs.Locks.{LocksOk}
 use Rattle.nam_ghost.specs.Moments.{MomentsOk}
+use Rattle.nam_ghost.specs.Origins.{OriginsOk}
 use Rattle.nam_ghost.specs.Publications.{PublishedOk}
 use Rattle.nam_ghost.specs.Reads.{ReadsOk}
+use Rattle.nam_ghost.specs.Since.{SinceOk}
 use Rattle.nam_ghost.specs.Upkeep.{CellsOk}
 use Rattle.nam_store.specs.Base.{BaseOk}
 use Rattle.nam_store.specs.Opening.{AreLoaded}
@@ -28,6 +30,8 @@ pub record WordsOk (shape : Shape) (store : Store) (ghost : Ghost) : Type 0 wher
   pub cells : CellsOk shape store ghost.chains ghost.rings ghost.cells
   pub reads : ReadsOk shape store ghost.chains ghost.rings ghost.cells
   pub keys : KeysOk shape store ghost.chains
+  pub origins : OriginsOk shape store ghost.chains ghost.published
+  pub since : SinceOk shape store ghost.published ghost.order
 
 -- it holds with what is known along the steps
 abbrev pub KnownLaw : Type 0

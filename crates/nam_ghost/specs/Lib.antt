@@ -11,6 +11,8 @@ pub mod Upkeep
 pub mod Wanted
 pub mod Reads
 pub mod Keys
+pub mod Origins
+pub mod Since
 pub mod Steps
 pub mod Ghost
 pub mod Law

@@ -11,11 +11,13 @@ use Rattle.si_model.specs.Lists.{Listed}
 use Rattle.si_model.specs.declared.log.Stamp.{Stamp}
 use Rattle.std.specs.Prelude.{List, Option, Some, length, map, slice_get, ℕ, ◌+◌, ◌<◌, ◌≡◌}
 
--- a commit that was published: its stamp, its snapshot, how many records it wrote, and their rows and values
+-- a commit that was published: its stamp, its snapshot, how many records it wrote and how many it locked, which are the
+-- written ones and then those that it only guarded, and their rows and values
 pub record Publication : Type 0 where
   pub stamp : Stamp
   pub seen : List ℕ
   pub records : ℕ
+  pub locked : ℕ
   pub row : ℕ → ℕ
   pub value : ℕ → Option (List ℕ)
 
@@ -24,6 +26,7 @@ publication_of state = record {
   stamp = own_stamp state;
   seen = state.seen;
   records = length state.writes;
+  locked = length state.records;
   row = record_row state;
   value = value_at state;
 }

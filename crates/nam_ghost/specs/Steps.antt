@@ -32,6 +32,7 @@ use Rattle.nam_protocol.specs.declared.txn.CommitPoint.TheVariants.{Returning}
 use Rattle.nam_protocol.specs.declared.txn.TxnPoint.TheVariants.{Committing}
 use Rattle.nam_protocol.specs.declared.txn.TxnState.{TxnState}
 use Rattle.nam_store.specs.Everyone.{put}
+use Rattle.si_model.specs.declared.log.Stamp.{Stamp}
 use Rattle.std.specs.Prelude.{List, Option, Some, [], false, if◌then◌else◌, length, slice_index, true, ℕ, ◌++◌, ◌==◌}
 use Rattle.std.specs.Prelude.{◌∷◌}
 
@@ -148,3 +149,8 @@ abbrev pub published_after : ℕ → Option Open → CallPoint → (ℕ → List
 published_after nth (Some attempt) (InTxn (Committing Publishing)) published =
     put published nth (published nth ++ publication_of attempt.state ∷ [])
 published_after nth opened place published = published
+
+-- the stamps of publications, in the order of time
+abbrev pub order_after : Option Open → CallPoint → List Stamp → List Stamp
+order_after (Some attempt) (InTxn (Committing Publishing)) order = order ++ own_stamp attempt.state ∷ []
+order_after opened place order = order

@@ -6,3 +6,5 @@ mod ClaimsExample
 mod ViewsExample
 mod ReadsExample
 mod UpkeepExample
+mod OriginsExample
+mod KeysExample

@@ -64,6 +64,12 @@ abbrev pub key_view : Option (Now CallPoint Answer) → KeyView
 key_view (Some (At place)) = call_view place
 key_view _ = NoKey
 
+-- a position without a key has had no version but the loader's absent one, and nobody has locked it
+pub record IsUnused (chain : Chain) : Type 0 where
+  pub old : chain.old ≡ []
+  pub absent : chain.now.value ≡ None
+  pub free : chain.holder ≡ 0
+
 module _ (shape : Shape) (m : Field → ℕ) where
   -- the positions that were passed on the key's path bear other keys; for good, since a key word never changes
   abbrev pub IsPast : ℕ → ℕ → ℕ → Type 0
@@ -101,12 +107,7 @@ module _ (shape : Shape) (m : Field → ℕ) where
     pub claims : ClaimsOk client.txn
     pub scanned : ScannedOk client.call client.scanned
 
-  -- a position without a key has had no version but the loader's absent one, and nobody has locked it
-  pub record IsUnused (chain : Chain) : Type 0 where
-    pub old : chain.old ≡ []
-    pub absent : chain.now.value ≡ None
-    pub free : chain.holder ≡ 0
-
+  -- a key is claimed before its record is locked
   abbrev pub AreUnused : (ℕ → Chain) → Type 0
   AreUnused chains = (row : ℕ) → IsRow shape row → m (field.Key row) ≡ 0 → IsUnused (chains row)
 

@@ -8,3 +8,4 @@ mod ReadsExample
 mod UpkeepExample
 mod OriginsExample
 mod KeysExample
+mod LawExample

@@ -5,7 +5,8 @@ use Rattle.nam_header.specs.Header.{fields_of}
 use Rattle.nam_header.specs.Stamp.{FitsStamp}
 use Rattle.nam_store.specs.Everyone.{Everyone}
 use Rattle.si_model.specs.declared.log.Stamp.{Stamp}
-use Rattle.std.proofs.Common.{None, Some, [], arith, false, subst, suc, sym, true, zero, ℕ, ◌<◌, ◌∷◌, ◌≡◌}
+use Rattle.std.proofs.Common.{List, None, Some, [], arith, false, length, map, slice_index_or, subst, suc, sym, true}
+use Rattle.std.proofs.Common.{zero, ℕ, ◌<◌, ◌∷◌, ◌≡◌}
 use Rattle.std.proofs.lemmas.Bool.{ltb-true}
 use Rattle.std.proofs.lemmas.Option.{none-some, same_Some}
 use Rattle.std.specs.Prelude.{nat_lt}
@@ -40,3 +41,18 @@ of_true e = absurd (false≢true (sym e))
 pub fits_by : (form : Form) (stamp : Stamp) → nat_lt stamp.thread (fields_of form).threads ≡ true
     → nat_lt stamp.number (fields_of form).numbers ≡ true → FitsStamp form stamp
 fits_by form stamp thread number = record { thread = ltb-true _ _ thread; number = ltb-true _ _ number }
+
+-- of all of a list of two, by what it has at each place, whatever list it is
+pub everyone_of : {A : Type 0} (P : ℕ → A → Type 0) (other : A) (xs : List A) → length xs ≡ 2
+    → P 0 (slice_index_or xs 0 other) → P 1 (slice_index_or xs 1 other) → Everyone P xs
+everyone_of P other [] two first second = absurd (omega arith)
+everyone_of P other (a ∷ []) two first second = absurd (omega arith)
+everyone_of P other (a ∷ b ∷ []) two first second = everyone_2 P a b first second
+everyone_of P other (a ∷ b ∷ c ∷ xs) two first second = absurd (omega arith)
+
+pub everyone_by : {A B : Type 0} (f : A → B) (P : ℕ → B → Type 0) (other : A) (xs : List A) → length xs ≡ 2
+    → P 0 (f (slice_index_or xs 0 other)) → P 1 (f (slice_index_or xs 1 other)) → Everyone P (map f xs)
+everyone_by f P other [] two first second = absurd (omega arith)
+everyone_by f P other (a ∷ []) two first second = absurd (omega arith)
+everyone_by f P other (a ∷ b ∷ []) two first second = everyone_2 P (f a) (f b) first second
+everyone_by f P other (a ∷ b ∷ c ∷ xs) two first second = absurd (omega arith)

@@ -30,42 +30,42 @@ use Rattle.std.specs.Prelude.{slice_index}
 use Rattle.std.proofs.lemmas.Option.{none-some, same_Some}
 
 -- the second client has read the header of key 0; then the first one's commit has come to the count
-abbrev meets : Seen
+abbrev pub meets : Seen
 meets = after_deeds narrow_shape (opened narrow_shape (loaded 0 0 (5 ∷ []) ∷ []))
     (Calls 1 (Begin 9 1) ∷ Turns 1 4 ∷ Calls 1 (Txn (Get 0 0)) ∷ Turns 1 2 ∷ Calls 0 (Begin 1 1) ∷ Turns 0 4 ∷
     Calls 0 (Txn (Put 0 0 (6 ∷ []))) ∷ Turns 0 1 ∷ Calls 0 (Txn Commit) ∷ Turns 0 10 ∷ [])
 
-abbrev m : Field → ℕ
+abbrev pub m : Field → ℕ
 m = memory narrow_shape meets.store.words
 
-abbrev chains : ℕ → Chain
+abbrev pub chains : ℕ → Chain
 chains = meets.ghost.chains
 
-abbrev rings : ℕ → Ring
+abbrev pub rings : ℕ → Ring
 rings = meets.ghost.rings
 
-abbrev cells : CellMap
+abbrev pub cells : CellMap
 cells = meets.ghost.cells
 
-abbrev clients : List ClientState
+abbrev pub clients : List ClientState
 clients = meets.store.clients
 
-abbrev one : ClientState
+abbrev pub one : ClientState
 one = client_of meets 0
 
-abbrev other : ClientState
+abbrev pub other : ClientState
 other = client_of meets 1
 
-two_clients : length clients ≡ 2
+pub two_clients : length clients ≡ 2
 unfolding turns copies load_from
 two_clients = refl
 
 -- 1. Moments: each client has taken the snapshot without commits
 
-abbrev watcher : Observer
+abbrev pub watcher : Observer
 watcher = record { number = 0; pass = None; snaps = (0 ∷ 0 ∷ []) ∷ [] }
 
-observers_are : map observer_of clients ≡ watcher ∷ watcher ∷ []
+pub observers_are : map observer_of clients ≡ watcher ∷ watcher ∷ []
 unfolding turns copies load_from
 observers_are = refl
 
@@ -74,14 +74,14 @@ candidate_of s k (inl passing) = absurd passing
 candidate_of s k (inr (confirmed, inl same)) = same
 candidate_of s k (inr (confirmed, inr none)) = absurd none
 
-candidate_is : (s : List ℕ) (k : ℕ) → IsCandidate 2 (watcher ∷ watcher ∷ []) s k → (0 ∷ 0 ∷ []) ≡ s
+pub candidate_is : (s : List ℕ) (k : ℕ) → IsCandidate 2 (watcher ∷ watcher ∷ []) s k → (0 ∷ 0 ∷ []) ≡ s
 candidate_is s k (zero, (x, (e, is))) =
     candidate_of s k (subst (λ x. IsCandidateOf 2 x s k) (sym (same_Some watcher x e)) is)
 candidate_is s k (suc zero, (x, (e, is))) =
     candidate_of s k (subst (λ x. IsCandidateOf 2 x s k) (sym (same_Some watcher x e)) is)
 candidate_is s k (suc (suc n), (x, (e, is))) = absurd (none-some x e)
 
-abbrev V : ℕ → ℕ
+abbrev pub V : ℕ → ℕ
 V = vector_of m
 
 watcher_ok : (nth : ℕ) → V nth ≡ 0 → ObserverOk 0 2 V nth watcher
@@ -117,7 +117,7 @@ observers_ok = record {
   };
 }
 
-moments_ok : MomentsOk narrow_shape meets.store
+pub moments_ok : MomentsOk narrow_shape meets.store
 unfolding turns copies load_from
 moments_ok = observers_ok
 
@@ -134,14 +134,14 @@ row_ok = record {
   worker = omega arith;
 }
 
-abbrev holder : Holder
+abbrev pub holder : Holder
 holder = holder_of one
 
-only : (p : ℕ) → Holds holder p → p ≡ 0
+pub only : (p : ℕ) → Holds holder p → p ≡ 0
 unfolding turns copies load_from
 only p holds = let less : p < 1 = holds.ends in omega arith
 
-row_0 : holder.row 0 ≡ 0
+pub row_0 : holder.row 0 ≡ 0
 unfolding turns copies load_from
 row_0 = refl
 
@@ -186,10 +186,10 @@ holder_ok = record {
   installed = λ p less. absurd (omega arith);
 }
 
-abbrev idle : Holder
+abbrev pub idle : Holder
 idle = holder_of other
 
-holds_none : (p : ℕ) → Holds idle p → ⊥
+pub holds_none : (p : ℕ) → Holds idle p → ⊥
 unfolding turns copies load_from
 holds_none p holds = let less : p < 0 = holds.ends in omega arith
 
@@ -216,7 +216,7 @@ two_holders : length (map holder_of clients) ≡ 2
 unfolding turns copies load_from
 two_holders = refl
 
-locks_ok : LocksOk narrow_shape meets.store chains
+pub locks_ok : LocksOk narrow_shape meets.store chains
 locks_ok = record {
   all = two_holders;
   rows = below_1 (RowOk narrow_shape m chains) row_ok;

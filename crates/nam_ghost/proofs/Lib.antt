@@ -8,4 +8,5 @@ mod ReadsExample
 mod UpkeepExample
 mod OriginsExample
 mod KeysExample
-mod LawExample
+pub mod LawExample
+mod LawsExample

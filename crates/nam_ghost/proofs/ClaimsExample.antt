@@ -2,7 +2,7 @@
 use Rattle.nam_calls.specs.Memory.{memory}
 use Rattle.nam_catalog.specs.declared.form.Form.TheVariants.{Held}
 use Rattle.nam_ghost.proofs.CommitExample.{commits, held_shape}
-use Rattle.nam_ghost.proofs.Runs.{client_of, kept, stamp, turns, version}
+use Rattle.nam_ghost.proofs.Runs.{client_of, stamp, turns, version}
 use Rattle.nam_ghost.proofs.Small.{below_1, below_2, fits_by, of_none, of_some, of_true}
 use Rattle.nam_ghost.specs.Copiers.{Copier, CopyOk, RowRing, copier_of}
 use Rattle.nam_ghost.specs.Locks.{RowOk}
@@ -16,7 +16,6 @@ use Rattle.nam_protocol.specs.Opening.{copies, load_from}
 use Rattle.std.proofs.Common.{Some, [], arith, false, refl, subst, sym, ℕ, ◌<◌, ◌∷◌, ◌≡◌}
 use Rattle.std.specs.Prelude.{slice_index}
 use Rattle.std.proofs.lemmas.Option.{same_Some}
-use Rattle.std.proofs.lemmas.Bool.{ltb-true}
 
 abbrev m : ℕ → Field → ℕ
 m verbs = memory held_shape (commits verbs).store.words
@@ -184,6 +183,6 @@ fills = (
   below_1 (λ nth. m 17 (SlotWord 0 0 nth) ≡ slice_index (5 ∷ 6 ∷ []) nth) refl,
 )
 
-has_copied : CopiesOk 20
+copy_made : CopiesOk 20
 unfolding turns copies load_from
-has_copied = record { kept = copied_first; is = refl; number_is = refl; version_is = refl; next_is = refl }
+copy_made = record { kept = copied_first; is = refl; number_is = refl; version_is = refl; next_is = refl }

@@ -4,7 +4,7 @@ use Rattle.nam_calls.specs.Memory.{memory}
 use Rattle.nam_calls.specs.Record.{word_in}
 use Rattle.nam_calls.specs.Words.{wrapped}
 use Rattle.nam_catalog.specs.declared.form.Form.TheVariants.{Narrow}
-use Rattle.nam_ghost.proofs.MoveExample.{first, narrow_shape}
+use Rattle.nam_ghost.proofs.MoveExample.{narrow_shape}
 use Rattle.nam_ghost.proofs.Runs.{Calls, Seen, Turns, after_deeds, client_of, opened, stamp, turns}
 use Rattle.nam_ghost.proofs.Small.{below_1, below_2, everyone_2, everyone_by, fits_by, of_true}
 use Rattle.nam_ghost.specs.Cells.{CellMap}

@@ -6,11 +6,11 @@ use Rattle.nam_catalog.specs.declared.form.Form.TheVariants.{Narrow}
 use Rattle.nam_ghost.proofs.LawExample.{cells, chains, clients, locks_ok, m, meets, moments_ok, one, other, rings}
 use Rattle.nam_ghost.proofs.LawExample.{two_clients, watcher}
 use Rattle.nam_ghost.proofs.MoveExample.{first, narrow_shape}
-use Rattle.nam_ghost.proofs.Runs.{chain, kept, stamp, turns, version}
+use Rattle.nam_ghost.proofs.Runs.{chain, stamp, turns, version}
 use Rattle.nam_ghost.proofs.Small.{below_1, below_2, everyone_2, everyone_of, fits_by, of_none, of_some, of_true}
 use Rattle.nam_ghost.specs.Cells.{CellIs, IsElsewhere, IsHorizonBehind, OldOk}
 use Rattle.nam_ghost.specs.Chains.{ChainOk, ChainsOk, IsLoaded}
-use Rattle.nam_ghost.specs.Copiers.{Copier, CopierOk, IsCopy, RowRing, SlotsOk, copier_of, is_before, is_copied}
+use Rattle.nam_ghost.specs.Copiers.{Copier, CopierOk, IsCopy, RowRing, SlotsOk, copier_of, has_copied, is_before}
 use Rattle.nam_ghost.specs.Holders.{Holds}
 use Rattle.nam_ghost.specs.Keys.{AreOnPath, AreUnused, IsUnused, KeyClientOk, KeysOk}
 use Rattle.nam_ghost.specs.Law.{WordsOk}
@@ -40,7 +40,7 @@ use Rattle.std.proofs.Common.{List, None, Some, [], arith, false, inl, inr, map,
 use Rattle.std.proofs.Common.{◌&&◌, ◌+◌, ◌<◌, ◌==◌, ◌∙◌, ◌∷◌, ◌≡◌, ◌≤◌}
 use Rattle.std.proofs.lemmas.Option.{none-some, slice_get_within}
 use Rattle.std.specs.Prelude.{slice_index}
-use Rattle.std.proofs.lemmas.Option.{none-some, same_Some, slice_get_within}
+use Rattle.std.proofs.lemmas.Option.{none-some, slice_get_within}
 
 -- 1. Versions: the loader's alone
 
@@ -129,11 +129,11 @@ copier_only : (p : ℕ) → Holds copier.holder p → p ≡ 0
 unfolding turns copies load_from
 copier_only p holds = let less : p < 1 = holds.ends in omega arith
 
-flag_0 : (rings (copier.holder.row 0)).copied ≡ (is_copied copier.copying && (0 == copier.holder.from))
+flag_0 : (rings (copier.holder.row 0)).copied ≡ (has_copied copier.copying && (0 == copier.holder.from))
 unfolding turns copies load_from
 flag_0 =
     let a : (rings (copier.holder.row 0)).copied ≡ true = refl in
-    let b : (is_copied copier.copying && (0 == copier.holder.from)) ≡ true = refl in a ∙ sym b
+    let b : (has_copied copier.copying && (0 == copier.holder.from)) ≡ true = refl in a ∙ sym b
 
 from_0 : copier.holder.from ≡ 0
 unfolding turns copies load_from
@@ -147,7 +147,7 @@ copier_ok : CopierOk narrow_shape m chains rings copier
 unfolding turns copies load_from
 copier_ok = record {
   flag_is = λ p holds. subst
-      (λ q. (rings (copier.holder.row q)).copied ≡ (is_copied copier.copying && (q == copier.holder.from)))
+      (λ q. (rings (copier.holder.row q)).copied ≡ (has_copied copier.copying && (q == copier.holder.from)))
       (sym (copier_only p holds)) flag_0;
   free = λ p holds less before. of_true (sym (sym not_before ∙ before (copier_only p holds ∙ sym from_0)));
   copies = λ holds. copied_0;

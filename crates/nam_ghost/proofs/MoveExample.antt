@@ -11,8 +11,6 @@ use Rattle.nam_protocol.specs.Opening.{copies, load_from}
 use Rattle.nam_protocol.specs.declared.client.Call.TheVariants.{Begin, Collect, Tidy, Txn}
 use Rattle.nam_protocol.specs.declared.txn.TxnCall.TheVariants.{Commit, Put}
 use Rattle.std.proofs.Common.{List, None, Some, [], false, map, refl, true, ℕ, ◌∷◌, ◌≡◌}
-use Rattle.nam_protocol.specs.declared.txn.TxnAnswer.TheVariants as txn
-use Rattle.nam_protocol.specs.declared.client.Answer.TheVariants as answer
 
 -- two workers, a table of one position with one word and a ring of one slot, one bucket of two cells
 abbrev pub narrow_shape : Shape

@@ -2,7 +2,7 @@
 use Rattle.nam_ghost.proofs.CommitExample.{held_shape}
 use Rattle.nam_ghost.proofs.Runs.{Calls, Seen, Turns, after_deeds, client_of, opened, stamp, turns, version}
 use Rattle.nam_ghost.specs.Moments.{has_published}
-use Rattle.nam_ghost.specs.Origins.{IsOf, IsPublishedAs, listed_commits}
+use Rattle.nam_ghost.specs.Origins.{HasOrigin, IsPublishedAs, listed_commits}
 use Rattle.nam_ghost.specs.Publications.{Publication}
 use Rattle.nam_ghost.specs.Since.{IsOvertaken, StandsBefore}
 use Rattle.nam_ghost.specs.Versions.{Version}
@@ -33,7 +33,7 @@ written = version 1 1 (Some (7 ∷ 8 ∷ [])) (0 ∷ 0 ∷ [])
 
 -- 1. Origins: of a commit in flight, and of a published one
 
-in_flight : IsOf (guards 27).ghost.published 0 written 0 (client_of (guards 27) 0)
+in_flight : HasOrigin (guards 27).ghost.published 0 written 0 (client_of (guards 27) 0)
 unfolding turns copies load_from
 in_flight = inr (0, omega arith, refl, refl)
 
@@ -78,9 +78,16 @@ order_is = refl
 
 overtaken : IsOvertaken (commit_of (overtakes 24) 0) (commit_of (overtakes 24) 1)
 unfolding turns copies load_from
-overtaken = (1, 0, omega arith, omega arith, refl,
-    (λ same. let e : (stamp 1 1).thread ≡ (stamp 2 1).thread = ap (λ (s : Stamp). s.thread) same in
-    absurd (omega arith)), refl)
+overtaken = (
+  1,
+  0,
+  omega arith,
+  omega arith,
+  refl,
+  (λ same. let e : (stamp 1 1).thread ≡ (stamp 2 1).thread = ap (λ (s : Stamp). s.thread) same in
+      absurd (omega arith)),
+  refl,
+)
 
 before : StandsBefore (overtakes 24).ghost.order (stamp 1 1) (stamp 2 1)
 unfolding turns copies load_from

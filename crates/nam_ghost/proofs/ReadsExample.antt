@@ -7,7 +7,7 @@ use Rattle.nam_calls.specs.declared.record.CurrentPoint.TheVariants.{CurrentHead
 use Rattle.nam_calls.specs.declared.ring.RingPoint.TheVariants.{SlotHead}
 use Rattle.nam_catalog.specs.declared.form.Form.TheVariants.{Narrow}
 use Rattle.nam_ghost.proofs.MoveExample.{first, narrow_shape, puts_again, second, third}
-use Rattle.nam_ghost.proofs.Runs.{Calls, Seen, Turns, after_deeds, chain, client_of, stamp, turns, version}
+use Rattle.nam_ghost.proofs.Runs.{Calls, Seen, Turns, after_deeds, chain, client_of, stamp, turns}
 use Rattle.nam_ghost.proofs.Small.{below_1, fits_by, of_none, of_some}
 use Rattle.nam_ghost.specs.Reads.{CellTest, ReadOkAt}
 use Rattle.nam_ghost.specs.Versions.{Chain, IsNth, Version, number_by}

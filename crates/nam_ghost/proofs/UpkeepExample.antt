@@ -5,14 +5,14 @@ use Rattle.nam_calls.specs.declared.mover.MovePoint.TheVariants.{MoveBack, MoveF
 use Rattle.nam_calls.specs.declared.overflow.FillPoint.TheVariants.{FillEnding}
 use Rattle.nam_catalog.specs.declared.form.Form.TheVariants.{Narrow}
 use Rattle.nam_ghost.proofs.MoveExample.{collects, first, narrow_shape, put_deeds, tidies}
-use Rattle.nam_ghost.proofs.Runs.{Calls, Seen, Turns, after_deeds, cell_words, cells_shown, client_of, kept, opened}
-use Rattle.nam_ghost.proofs.Runs.{stamp, turns, version}
+use Rattle.nam_ghost.proofs.Runs.{Calls, Seen, Turns, after_deeds, cell_words, cells_shown, client_of, opened}
+use Rattle.nam_ghost.proofs.Runs.{stamp, turns}
 use Rattle.nam_ghost.proofs.Small.{below_1, below_2, fits_by, of_some}
 use Rattle.nam_ghost.specs.Cells.{Cell, CellIs, CellMap, ClaimedBy, FreeCell, IsElsewhere, IsOverflowed, IsWhole}
 use Rattle.nam_ghost.specs.Cells.{OldOk, Stores}
 use Rattle.nam_ghost.specs.Slots.{Keeps, Kept, Ring, home}
 use Rattle.nam_ghost.specs.Steps.{move_cells}
-use Rattle.nam_ghost.specs.Upkeep.{Collector, CollectorAt, HasBegun, Knows, Mover, MoverAt, upkeep_of}
+use Rattle.nam_ghost.specs.Upkeep.{Collector, CollectorAt, Knows, MoveBegun, Mover, MoverAt, upkeep_of}
 use Rattle.nam_ghost.specs.Versions.{Chain, cell_image, number_by}
 use Rattle.nam_header.specs.Stamp.{stamp_word}
 use Rattle.nam_layout.specs.Place.{place_at}
@@ -51,7 +51,7 @@ point_is : upkeep_of narrow_shape (client_of (tidies 9) 0) ≡ Mover 0
 unfolding turns copies load_from number_by
 point_is = refl
 
-has_begun_9 : HasBegun narrow_shape (chains 9) (rings 9) 0 0 0 0 first
+has_begun_9 : MoveBegun narrow_shape (chains 9) (rings 9) 0 0 0 0 first
 unfolding turns copies load_from number_by
 has_begun_9 = record {
   version_is = refl;
@@ -164,9 +164,9 @@ frees : CollectorAt narrow_shape (collects 9).ghost.chains (collects 9).ghost.ri
 unfolding turns copies load_from number_by
 frees = (
   below_2 (λ a. slice_index (2 ∷ 0 ∷ []) a ≤ memory narrow_shape (collects 9).store.words (Entry (a + 1)))
-  (omega arith) (omega arith),
+      (omega arith) (omega arith),
   below_2 (λ a. slice_index (2 ∷ 0 ∷ []) a ≤ memory narrow_shape (collects 9).store.words (Horizon (a + 1)))
-  (omega arith) (omega arith),
+      (omega arith) (omega arith),
   refl,
   (omega arith, λ same. (0, 0, refl, refl)),
 )

@@ -2,7 +2,7 @@
 use Rattle.nam_calls.specs.Memory.{memory}
 use Rattle.nam_ghost.proofs.CommitExample.{commits, held_shape}
 use Rattle.nam_ghost.proofs.Runs.{Calls, Seen, Stops, Turns, after_deeds, client_of, opened, stamp, turns}
-use Rattle.nam_ghost.specs.Copiers.{Aside, CopyState, Ends, Fills, Marking, Saves, copier_of}
+use Rattle.nam_ghost.specs.Copiers.{Aside, CopyState, EndNext, Fills, MarkNext, Saves, copier_of}
 use Rattle.nam_ghost.specs.Holders.{holder_of}
 use Rattle.nam_ghost.specs.Moments.{AreOrdered, IsUnpassed, observer_of}
 use Rattle.nam_layout.specs.declared.field.Field.TheVariants.{Entry}
@@ -167,11 +167,11 @@ is_decided : copy_shown (commits 12) ≡ copies_so 1 (Saves [])
 unfolding turns copies load_from
 is_decided = refl
 
-is_saved : copy_shown (commits 14) ≡ copies_so 1 (Marking (5 ∷ 6 ∷ []))
+is_saved : copy_shown (commits 14) ≡ copies_so 1 (MarkNext (5 ∷ 6 ∷ []))
 unfolding turns copies load_from
 is_saved = refl
 
-is_marked : copy_shown (commits 15) ≡ copies_so 1 (Ends (5 ∷ 6 ∷ []))
+is_marked : copy_shown (commits 15) ≡ copies_so 1 (EndNext (5 ∷ 6 ∷ []))
 unfolding turns copies load_from
 is_marked = refl
 

@@ -36,8 +36,8 @@ end_by None (Some kept) = kept.next
 end_by None None = record { thread = 0; number = 0 }
 
 -- of a copied version it never changes again, whatever becomes of its slot
-abbrev pub end_of : Place → Chain → Ring → ℕ → Stamp
-end_of place chain ring number = end_by (slice_get (versions chain) (number + 1)) (ring.kept (home place number))
+abbrev pub version_end : Place → Chain → Ring → ℕ → Stamp
+version_end place chain ring number = end_by (slice_get (versions chain) (number + 1)) (ring.kept (home place number))
 
 -- a worker's stamp, which its horizon entry has reached
 abbrev pub IsBelowHorizon : (Field → ℕ) → ℕ → Stamp → Type 0
@@ -49,7 +49,7 @@ module _ (shape : Shape) (chains : ℕ → Chain) (rings : ℕ → Ring) where
   copied_at row = copied_count (chains row) (rings row)
 
   abbrev pub end_at : ℕ → ℕ → Stamp
-  end_at row number = end_of (place_at shape row) (chains row) (rings row) number
+  end_at row number = version_end (place_at shape row) (chains row) (rings row) number
 
   -- 2. A cell's words
 
@@ -88,11 +88,11 @@ module _ (shape : Shape) (chains : ℕ → Chain) (rings : ℕ → Ring) where
         (cell : ℕ) × (from ≤ cell) × (cell < shape.cells) × (cells (bucket_of shape row) cell ≡ Stores row number)
 
     -- its end is within the horizon, so that no snapshot that is still good needs it
-    abbrev pub HasEnded : ℕ → ℕ → Type 0
-    HasEnded row number = IsBelowHorizon m shape.workers (end_at row number)
+    abbrev pub IsEnded : ℕ → ℕ → Type 0
+    IsEnded row number = IsBelowHorizon m shape.workers (end_at row number)
 
     abbrev pub IsOverflowed : ℕ → ℕ → ℕ → Type 0
-    IsOverflowed from row number = InCell from row number ⊎ HasEnded row number
+    IsOverflowed from row number = InCell from row number ⊎ IsEnded row number
 
     -- a copied version that needs its slot no longer
     abbrev pub IsElsewhere : ℕ → ℕ → Type 0

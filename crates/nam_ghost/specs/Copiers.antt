@@ -36,8 +36,8 @@ use Rattle.std.specs.Prelude.{◌≡◌, ◌≤◌}
 pub data CopyState : Type 0 where
   Aside : CopyState
   Saves : (got : List ℕ) → CopyState
-  Marking : (old : List ℕ) → CopyState
-  Ends : (old : List ℕ) → CopyState
+  MarkNext : (old : List ℕ) → CopyState
+  EndNext : (old : List ℕ) → CopyState
   Fills : (old : List ℕ) (words : ℕ) → CopyState
   Copied : CopyState
 
@@ -47,22 +47,22 @@ pub record Copier : Type 0 where
   pub checked : ℕ
   pub copying : CopyState
 
-abbrev pub is_copied : CopyState → Bool
-is_copied Copied = true
-is_copied _ = false
+abbrev pub has_copied : CopyState → Bool
+has_copied Copied = true
+has_copied _ = false
 
 -- the slot has no mark of this copy yet
 abbrev pub is_before : CopyState → Bool
 is_before Aside = true
 is_before (Saves got) = true
-is_before (Marking old) = true
+is_before (MarkNext old) = true
 is_before _ = false
 
 -- 1. A commit at its point
 
 abbrev pub copying_in : ℕ → List ℕ → CopyPoint → CopyState
-copying_in width old CopyMark = Marking old
-copying_in width old CopyEnding = Ends old
+copying_in width old CopyMark = MarkNext old
+copying_in width old CopyEnding = EndNext old
 copying_in width old (CopyWord nth) = Fills old nth
 copying_in width old CopyHead = Fills old width
 
@@ -117,8 +117,8 @@ module _ (place : Place) (chain : Chain) (next : Stamp) (image : SlotImage) (slo
   abbrev pub CopyOk : CopyState → Type 0
   CopyOk Aside = Unit {0}
   CopyOk (Saves got) = HasGot got chain.now.value
-  CopyOk (Marking old) = HasData place.width (slice_index old) chain.now.value
-  CopyOk (Ends old) = HasData place.width (slice_index old) chain.now.value × (slot ≡ None)
+  CopyOk (MarkNext old) = HasData place.width (slice_index old) chain.now.value
+  CopyOk (EndNext old) = HasData place.width (slice_index old) chain.now.value × (slot ≡ None)
   CopyOk (Fills old words) =
       HasData place.width (slice_index old) chain.now.value × (slot ≡ None) × (words ≤ place.width)
       × (image.ending ≡ stamp_word place.form next)
@@ -137,7 +137,7 @@ module _ (shape : Shape) where
   -- it writes the mark: only a lock's holder fills or marks the slot, and a moved flag stays.
   pub record CopierOk (m : Field → ℕ) (chains : ℕ → Chain) (rings : ℕ → Ring) (copier : Copier) : Type 0 where
     pub flag_is : (p : ℕ) → Holds copier.holder p
-        → (rings (copier.holder.row p)).copied ≡ (is_copied copier.copying && (p == copier.holder.from))
+        → (rings (copier.holder.row p)).copied ≡ (has_copied copier.copying && (p == copier.holder.from))
     pub free : (p : ℕ) → Holds copier.holder p → p < copier.checked
         → (p ≡ copier.holder.from → is_before copier.copying ≡ true)
         → let row = copier.holder.row p in IsFreeSlot ((rings row).kept (current_slot chains row))

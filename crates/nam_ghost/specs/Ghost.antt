@@ -75,5 +75,5 @@ opening_ghost shape rows = record {
 }
 
 -- a store that comes about from an opening, with what is known of it
-abbrev pub IsKnown : Shape → List Row → Store → Ghost → Type 0
-IsKnown shape rows store ghost = Reached shape rows (opening_ghost shape rows) (ghost_step shape) store ghost
+abbrev pub IsReachedWith : Shape → List Row → Store → Ghost → Type 0
+IsReachedWith shape rows store ghost = Reached shape rows (opening_ghost shape rows) (ghost_step shape) store ghost

@@ -4,7 +4,7 @@ use Rattle.nam_catalog.specs.Fits.{FitsLimits}
 use Rattle.nam_catalog.specs.declared.shape.Shape.{Shape}
 use Rattle.nam_ghost.specs.Chains.{ChainsOk}
 use Rattle.nam_ghost.specs.Copiers.{SlotsOk}
-use Rattle.nam_ghost.specs.Ghost.{Ghost, IsKnown}
+use Rattle.nam_ghost.specs.Ghost.{Ghost, IsReachedWith}
 use Rattle.nam_ghost.specs.Keys.{KeysOk}
 use Rattle.nam_ghost.specs.Locks.{LocksOk}
 use Rattle.nam_ghost.specs.Moments.{MomentsOk}
@@ -34,11 +34,11 @@ pub record WordsOk (shape : Shape) (store : Store) (ghost : Ghost) : Type 0 wher
   pub since : SinceOk shape store ghost.published ghost.order
 
 -- it holds with what is known along the steps
-abbrev pub KnownLaw : Type 0
-KnownLaw = (shape : Shape) → FitsLimits shape → (rows : List Row) → AreLoaded shape rows → (store : Store)
-    → (ghost : Ghost) → IsKnown shape rows store ghost → WordsOk shape store ghost
+abbrev pub GhostLaw : Type 0
+GhostLaw = (shape : Shape) → FitsLimits shape → (rows : List Row) → AreLoaded shape rows → (store : Store)
+    → (ghost : Ghost) → IsReachedWith shape rows store ghost → WordsOk shape store ghost
 
 -- so each store that comes about meets it, with some such knowledge
-abbrev pub WordsLaw : Type 0
-WordsLaw = (shape : Shape) → FitsLimits shape → (rows : List Row) → AreLoaded shape rows → (store : Store)
+abbrev pub WordsOkLaw : Type 0
+WordsOkLaw = (shape : Shape) → FitsLimits shape → (rows : List Row) → AreLoaded shape rows → (store : Store)
     → IsReached shape rows store → (ghost : Ghost) × WordsOk shape store ghost

@@ -34,8 +34,8 @@ abbrev pub IsDoneAs : Holder → ℕ → Version → Type 0
 IsDoneAs holder row version =
     (p : ℕ) × (p < holder.done) × (holder.row p ≡ row) × (version ≡ version_of holder p)
 
-abbrev pub IsOf : (ℕ → List Publication) → ℕ → Version → ℕ → ClientState → Type 0
-IsOf published row version nth client =
+abbrev pub HasOrigin : (ℕ → List Publication) → ℕ → Version → ℕ → ClientState → Type 0
+HasOrigin published row version nth client =
     ((commit : Publication) × Listed commit (published nth) × IsPublishedAs commit row version)
     ⊎ IsDoneAs (holder_of client) row version
 
@@ -43,7 +43,7 @@ IsOf published row version nth client =
 -- installed a record can't be refused any more; so it is in flight until it is published, or its client is stopped there.
 abbrev pub HaveOrigins : Shape → Store → (ℕ → Chain) → (ℕ → List Publication) → Type 0
 HaveOrigins shape store chains published = (row : ℕ) → IsRow shape row → (number : ℕ) → (version : Version)
-    → IsNth (chains row) (number + 1) version → Someone (IsOf published row version) store.clients
+    → IsNth (chains row) (number + 1) version → Someone (HasOrigin published row version) store.clients
 
 -- 2. Lists
 

@@ -14,7 +14,7 @@ use Rattle.nam_calls.specs.declared.record.CurrentPoint.TheVariants.{CurrentAgai
 use Rattle.nam_calls.specs.declared.ring.RingPoint.{RingPoint}
 use Rattle.nam_catalog.specs.declared.form.Form.{Form}
 use Rattle.nam_catalog.specs.declared.shape.Shape.{Shape}
-use Rattle.nam_ghost.specs.Cells.{CellMap, HasEnded, IsElsewhere, IsOverflowed, Stores, copied_at, end_at}
+use Rattle.nam_ghost.specs.Cells.{CellMap, IsElsewhere, IsEnded, IsOverflowed, Stores, copied_at, end_at}
 use Rattle.nam_ghost.specs.Slots.{Ring}
 use Rattle.nam_ghost.specs.Versions.{Chain, HasData, HasGot, IsNth, Version, current_number, old_word}
 use Rattle.nam_ghost.specs.Wanted.{IsNewest, RingAt, Wanted}
@@ -129,7 +129,7 @@ module _ (shape : Shape) (chains : ℕ → Chain) (rings : ℕ → Ring) (m : Fi
   -- snapshot's, so that one is found
   abbrev pub HorizonAt : ℕ → ℕ → Type 0
   HorizonAt number worker =
-      HasEnded shape chains rings m cells row number
+      IsEnded shape chains rings m cells row number
       × ((above : ℕ) × (worker ≤ above) × (1 ≤ above) × (above ≤ shape.workers)
       × (slice_index seen (above - 1) < m (Horizon above)))
 
@@ -160,7 +160,7 @@ module _ (shape : Shape) (chains : ℕ → Chain) (rings : ℕ → Ring) (m : Fi
   ReadEndsAs (Over (Passed worker entry horizon)) =
       (entry ≡ slice_index seen (worker - 1)) × (horizon ≡ m (Horizon worker)) × (entry < horizon)
       × ((number : ℕ) × (version : Version) × Wanted seen (chains row) number version
-      × HasEnded shape chains rings m cells row number)
+      × IsEnded shape chains rings m cells row number)
   ReadEndsAs (Over Astray) = ⊥
 
 -- 4. Of a store: each client that reads, in an operation or in a scan

@@ -38,8 +38,8 @@ use Rattle.std.specs.Prelude.{◌∷◌}
 
 -- 1. Chains: the lock is taken by the exchange that succeeds; it is given up by the write of a header
 
-abbrev pub taken_by : ℕ → Chain → Chain
-taken_by worker chain = record chain { holder = worker }
+abbrev pub locked_for : ℕ → Chain → Chain
+locked_for worker chain = record chain { holder = worker }
 
 abbrev pub given_back : Chain → Chain
 given_back chain = record chain { holder = 0 }
@@ -58,7 +58,7 @@ at_record state nth chains change = put chains (record_row state nth) (change (c
 abbrev pub lock_chains : TxnState → LockPoint → ℕ → (ℕ → Chain) → ℕ → Chain
 lock_chains state Peek found chains = chains
 lock_chains state (Seize header) found chains =
-    if found == header then at_record state (length state.held) chains (taken_by state.worker) else chains
+    if found == header then at_record state (length state.held) chains (locked_for state.worker) else chains
 lock_chains state (GiveBack given word) found chains = at_record state given chains given_back
 
 abbrev pub install_chains : TxnState → ℕ → InstallPoint → (ℕ → Chain) → ℕ → Chain

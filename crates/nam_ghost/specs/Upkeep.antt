@@ -13,7 +13,7 @@ use Rattle.nam_calls.specs.declared.overflow.FillPoint.{FillPoint}
 use Rattle.nam_calls.specs.declared.overflow.FillPoint.TheVariants.{FillBegin, FillEnding, FillOwner, FillWord}
 use Rattle.nam_catalog.specs.declared.bounds.TheConstants.{MOST_WIDTH}
 use Rattle.nam_catalog.specs.declared.shape.Shape.{Shape}
-use Rattle.nam_ghost.specs.Cells.{CellMap, CellsAre, ClaimedBy, HasEnded, IsElsewhere, IsHorizonBehind, IsOverflowed}
+use Rattle.nam_ghost.specs.Cells.{CellMap, CellsAre, ClaimedBy, IsElsewhere, IsEnded, IsHorizonBehind, IsOverflowed}
 use Rattle.nam_ghost.specs.Cells.{IsWhole, OldOk, Stores, copied_at, end_at}
 use Rattle.nam_ghost.specs.Slots.{Kept, Ring, home}
 use Rattle.nam_ghost.specs.Versions.{Chain, HasGot, IsNth, Version, cell_image, old_word}
@@ -57,7 +57,7 @@ module _ (shape : Shape) (chains : ℕ → Chain) (rings : ℕ → Ring) where
   -- 1. A mover, in turn with what it has read
 
   -- the header that it read of the slot is a copied version's, unmoved
-  pub record HasBegun (row slot header number : ℕ) (version : Version) : Type 0 where
+  pub record MoveBegun (row slot header number : ℕ) (version : Version) : Type 0 where
     pub version_is : IsNth (chains row) number version
     pub was_copied : number < copied_at shape chains rings row
     pub home_is : home (place_at shape row) number ≡ slot
@@ -103,26 +103,26 @@ module _ (shape : Shape) (chains : ℕ → Chain) (rings : ℕ → Ring) where
     abbrev pub MoverAt : ℕ → ℕ → Version → MovePoint → Type 0
     MoverAt row number version MoveCount = Unit {0}
     MoverAt row number version (MoveHead slot) = Unit {0}
-    MoverAt row number version (MoveEnding slot header) = HasBegun row slot header number version
+    MoverAt row number version (MoveEnding slot header) = MoveBegun row slot header number version
     MoverAt row number version (MoveClaim slot header ending at) =
-        HasBegun row slot header number version × EndWas row slot number ending × ClaimAt at
+        MoveBegun row slot header number version × EndWas row slot number ending × ClaimAt at
     MoverAt row number version (MoveWords slot header ending cell tag got) =
-        HasBegun row slot header number version × EndWas row slot number ending
+        MoveBegun row slot header number version × EndWas row slot number ending
         × WordsWere row slot number version got × Owns (bucket_of shape row) cell tag
     MoverAt row number version (MoveFill slot header cell tag copy at) =
-        HasBegun row slot header number version × EndWas row slot number copy.«end»
+        MoveBegun row slot header number version × EndWas row slot number copy.«end»
         × WordsWere row slot number version copy.value × Owns (bucket_of shape row) cell tag
         × (copy.begin ≡ header) × HasWritten (bucket_of shape row) cell row copy at
     MoverAt row number version (MoveAgain slot header cell tag) =
-        HasBegun row slot header number version
+        MoveBegun row slot header number version
         × While row slot number (IsWhole shape chains rings row number (cell_image m (bucket_of shape row) cell))
         × Owns (bucket_of shape row) cell tag
     MoverAt row number version (MoveFull slot header cell tag) =
-        HasBegun row slot header number version
+        MoveBegun row slot header number version
         × IsWhole shape chains rings row number (cell_image m (bucket_of shape row) cell)
         × Owns (bucket_of shape row) cell tag
     MoverAt row number version (MoveFlag slot header) =
-        HasBegun row slot header number version × IsOverflowed shape chains rings m cells 0 row number
+        MoveBegun row slot header number version × IsOverflowed shape chains rings m cells 0 row number
     MoverAt row number version (MoveBack header cell tag) = Owns (bucket_of shape row) cell tag
 
     -- 2. A collector
@@ -192,7 +192,7 @@ module _ (shape : Shape) where
         → SameCell m now bucket cell
     pub stored : (bucket cell row number : ℕ) → IsCell shape bucket cell → cells bucket cell ≡ Stores row number
         → ((later bucket cell ≡ Stores row number) × (now (Tag bucket cell) ≡ m (Tag bucket cell)))
-        ⊎ HasEnded shape chains rings now later row number
+        ⊎ IsEnded shape chains rings now later row number
     pub claimed : (bucket cell other : ℕ) → IsCell shape bucket cell → other ≢ nth
         → cells bucket cell ≡ ClaimedBy (other + 1)
         → (later bucket cell ≡ ClaimedBy (other + 1)) × (now (Tag bucket cell) ≡ m (Tag bucket cell))

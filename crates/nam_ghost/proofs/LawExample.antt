@@ -1,5 +1,5 @@
--- Every group's claim on one store: a commit has written a data word over the current version, while another client reads
--- that version. Each clause by computing.
+-- Every group's claim on one store: a commit has written a data word over the current version, while another client
+-- reads that version. Each clause by computing.
 use Rattle.nam_calls.specs.Memory.{memory}
 use Rattle.nam_calls.specs.Record.{word_in}
 use Rattle.nam_calls.specs.Words.{wrapped}

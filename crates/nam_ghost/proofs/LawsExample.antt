@@ -210,8 +210,8 @@ cells_ok : CellsOk narrow_shape meets.store chains rings cells
 cells_ok = record {
   are = λ bucket cell is. below_1 (λ bucket. CellIs narrow_shape chains rings bucket (cell_image m bucket cell)
       (cells bucket cell)) (cell_ok cell is.1) bucket is.0;
-  old = below_1 (λ row. OldOk (place_at narrow_shape row) (IsElsewhere narrow_shape chains rings m cells row) (chains row)
-      (rings row)) old_ok;
+  old = below_1 (λ row. OldOk (place_at narrow_shape row) (IsElsewhere narrow_shape chains rings m cells row)
+      (chains row) (rings row)) old_ok;
   behind = behind_ok;
   upkeep = everyone_of UpkeepIs (new_client 0 0) clients two_clients upkeep_one upkeep_other;
 }

@@ -1,4 +1,5 @@
 pub mod Runs
+mod RunsLemmas
 pub mod CommitExample
 pub mod MoveExample
 pub mod Small

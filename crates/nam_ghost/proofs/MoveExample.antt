@@ -1,4 +1,5 @@
--- Old versions moved into cells and collected, phase by phase: the row's slot, the cells, and the words that stand there.
+-- Old versions moved into cells and collected, phase by phase: the row's slot, the cells, and the words that stand
+-- there.
 use Rattle.nam_catalog.specs.declared.form.Form.TheVariants.{Narrow}
 use Rattle.nam_catalog.specs.declared.shape.Shape.{Shape}
 use Rattle.nam_ghost.proofs.Runs.{Calls, Deed, RowShown, Seen, Turns, after_deeds, cell_words, cells_shown, chain}

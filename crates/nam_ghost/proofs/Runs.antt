@@ -92,8 +92,8 @@ row_shown seen row slots = record {
 abbrev pub cells_shown : Seen → ℕ → ℕ → List Cell
 cells_shown seen bucket cells = map (seen.ghost.cells bucket) (numbers_from 0 cells)
 
--- the words that stand there: header, count and data; header, end and data of a slot; tag, owner, begin, end and data of a
--- cell
+-- the words that stand there: header, count and data; header, end and data of a slot; tag, owner, begin, end and data
+-- of a cell
 abbrev pub record_words : Shape → Seen → ℕ → List ℕ
 record_words shape seen row =
     let m = memory shape seen.store.words in

@@ -59,8 +59,8 @@ when_stopped : numbers_of (after_deeds held_shape (guards 29) (Stops 0 ∷ [])) 
 unfolding turns copies load_from
 when_stopped = refl
 
--- 2. A holder: the first record whose lock is held, how many were locked, how many are done; and of the record at hand the
--- words, whether there are any, and the count
+-- 2. A holder: the first record whose lock is held, how many were locked, how many are done; and of the record at hand
+-- the words, whether there are any, and the count
 
 pub record Progress : Type 0 where
   pub from : ℕ
@@ -120,8 +120,8 @@ nothing_held : progress_of (guards 29) ≡ progress 2 2 1 0 false false
 unfolding turns copies load_from
 nothing_held = refl
 
--- 3. A commit that is refused: the second of two records is locked by the other worker, so the first lock is given back; the
--- intent is still told then, and nothing is held
+-- 3. A commit that is refused: the second of two records is locked by the other worker, so the first lock is given
+-- back; the intent is still told then, and nothing is held
 
 abbrev refused : ℕ → Seen
 refused verbs = after_deeds held_shape
@@ -201,8 +201,8 @@ published_records : map (λ commit. commit.records) ((guards 28).ghost.published
 unfolding turns copies load_from
 published_records = refl
 
--- 6. Double collect: two passes that found each other's entry before may be unordered; but then the vector has passed an
--- entry of each that its second pass has not confirmed
+-- 6. Double collect: two passes that found each other's entry before may be unordered; but then the vector has passed
+-- an entry of each that its second pass has not confirmed
 
 abbrev one : List ℕ
 one = 0 ∷ 1 ∷ []

@@ -66,9 +66,9 @@ module _ (shape : Shape) (chains : ℕ → Chain) (rings : ℕ → Ring) where
     pub ending_is : image.ending ≡ stamp_word shape.form (end_at row number)
     pub data_is : HasData (width_at shape.tables row) image.body version.value
 
-  -- The tag says whether the cell is free, written or full; a full cell holds one version whole, and stands in its owner's
-  -- bucket. A tag never falls, and each full tag of a cell is of another generation, so under one tag a cell holds one
-  -- version alone.
+  -- The tag says whether the cell is free, written or full; a full cell holds one version whole, and stands in its
+  -- owner's bucket. A tag never falls, and each full tag of a cell is of another generation, so under one tag a cell
+  -- holds one version alone.
   abbrev pub CellIs : ℕ → CellImage → Cell → Type 0
   CellIs bucket image FreeCell = state_of image.tag ≡ 0
   CellIs bucket image (ClaimedBy worker) = state_of image.tag ≡ 1
@@ -98,9 +98,9 @@ module _ (shape : Shape) (chains : ℕ → Chain) (rings : ℕ → Ring) where
     abbrev pub IsElsewhere : ℕ → ℕ → Type 0
     IsElsewhere row number = IsRow shape row × (number < copied_at row) × IsOverflowed 0 row number
 
--- Each old version is kept by its slot, or stands elsewhere; and where a slot keeps a version that was moved, that version
--- stands elsewhere already. Why: a mover fills a cell before it sets the flag, the mark is written only over the flag, and
--- a collector frees a cell only where the version's end is within the horizon.
+-- Each old version is kept by its slot, or stands elsewhere; and where a slot keeps a version that was moved, that
+-- version stands elsewhere already. Why: a mover fills a cell before it sets the flag, the mark is written only over
+-- the flag, and a collector frees a cell only where the version's end is within the horizon.
 pub record OldOk (place : Place) (Elsewhere : ℕ → Type 0) (chain : Chain) (ring : Ring) : Type 0 where
   pub old : (number : ℕ) → number < current_number chain
       → Keeps (ring.kept (home place number)) number ⊎ Elsewhere number

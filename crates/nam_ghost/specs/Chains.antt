@@ -22,14 +22,14 @@ pub record WrittenBy (version : Version) (nth : ℕ) (observer : Observer) : Typ
   pub seen : Listed version.seen observer.snaps
   pub before : slice_index version.seen nth < version.stamp.number
 
--- The later version's writer had the earlier one in its snapshot. Why: it locked the header of the version before its own
--- only as one that it sees; and it sees those before, since snapshots are ordered: that version's writer had them in its
--- snapshot, and they were published before its own.
+-- The later version's writer had the earlier one in its snapshot. Why: it locked the header of the version before its
+-- own only as one that it sees; and it sees those before, since snapshots are ordered: that version's writer had them
+-- in its snapshot, and they were published before its own.
 abbrev pub IsSeenBy : Version → Version → Type 0
 IsSeenBy earlier later = is_visible earlier.stamp later.seen ≡ true
 
--- Version 0 is the loader's, each later one some client's; each writer had all versions before its own in its snapshot, so
--- no stamp comes twice; and each value has the row's width, since a written value has its table's.
+-- Version 0 is the loader's, each later one some client's; each writer had all versions before its own in its snapshot,
+-- so no stamp comes twice; and each value has the row's width, since a written value has its table's.
 pub record ChainOk (width : ℕ) (observers : List Observer) (chain : Chain) : Type 0 where
   pub first : (version : Version) → IsNth chain 0 version → IsLoaded version
   pub later : (number : ℕ) (version : Version) → IsNth chain (number + 1) version

@@ -103,9 +103,9 @@ copier_now worker state _ = no_copier worker
 
 -- 2. What holds
 
--- The slot of the current version, as the copier knows it: the data words that it has got are the version's; from the mark
--- on the slot has the mark, and what was written behind it is the end and the version's first words; after the header it
--- keeps the version whole, with the copier's stamp as end (a mover may have flagged it by then).
+-- The slot of the current version, as the copier knows it: the data words that it has got are the version's; from the
+-- mark on the slot has the mark, and what was written behind it is the end and the version's first words; after the
+-- header it keeps the version whole, with the copier's stamp as end (a mover may have flagged it by then).
 pub record IsCopy (number : ℕ) (now : Version) (next : Stamp) (slot : Option Kept) : Type 0 where
   pub kept : Kept
   pub is : slot ≡ Some kept
@@ -133,8 +133,8 @@ module _ (shape : Shape) where
   abbrev pub current_slot : (ℕ → Chain) → ℕ → ℕ
   current_slot chains row = home (place_at shape row) (current_number (chains row))
 
-  -- Of the records that it holds only the one that it works on is copied, if any. A slot that it has found free is so until
-  -- it writes the mark: only a lock's holder fills or marks the slot, and a moved flag stays.
+  -- Of the records that it holds only the one that it works on is copied, if any. A slot that it has found free is so
+  -- until it writes the mark: only a lock's holder fills or marks the slot, and a moved flag stays.
   pub record CopierOk (m : Field → ℕ) (chains : ℕ → Chain) (rings : ℕ → Ring) (copier : Copier) : Type 0 where
     pub flag_is : (p : ℕ) → Holds copier.holder p
         → (rings (copier.holder.row p)).copied ≡ (has_copied copier.copying && (p == copier.holder.from))

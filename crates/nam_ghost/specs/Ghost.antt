@@ -21,8 +21,8 @@ use Rattle.si_model.specs.declared.log.Stamp.{Stamp}
 use Rattle.si_model.specs.declared.row.Row.{Row}
 use Rattle.std.specs.Prelude.{List, None, Some, [], false, if◌then◌else◌, map, ℕ}
 
--- By row the version chain and the ring, by bucket and cell what the cell holds, by client what it has published, oldest
--- first; and the stamps of all that was published, in the order of time.
+-- By row the version chain and the ring, by bucket and cell what the cell holds, by client what it has published,
+-- oldest first; and the stamps of all that was published, in the order of time.
 pub record Ghost : Type 0 where
   pub chains : ℕ → Chain
   pub rings : ℕ → Ring

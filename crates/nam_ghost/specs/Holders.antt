@@ -24,10 +24,10 @@ use Rattle.si_model.specs.declared.log.Stamp.{Stamp}
 use Rattle.std.specs.Prelude.{Bool, List, None, Option, Some, [], false, if◌then◌else◌, is_some, length, nat_lt, true}
 use Rattle.std.specs.Prelude.{ℕ, ◌++◌, ◌<◌, ◌∷◌, ◌≡◌, ◌≤◌}
 
--- The records of a commit are numbered from 0: the written ones, then those that are only guarded. It has locked the first
--- of them, under the headers `held`, and those from `from` on are locked still. The first `done` have their new version. Of
--- the record at `from` it has written so many data words, and maybe the count. `counts` are the numbers that it has found
--- of the first written records' current versions. A client without a commit holds nothing.
+-- The records of a commit are numbered from 0: the written ones, then those that are only guarded. It has locked the
+-- first of them, under the headers `held`, and those from `from` on are locked still. The first `done` have their new
+-- version. Of the record at `from` it has written so many data words, and maybe the count. `counts` are the numbers
+-- that it has found of the first written records' current versions. A client without a commit holds nothing.
 pub record Holder : Type 0 where
   pub stamp : Stamp
   pub seen : List ℕ

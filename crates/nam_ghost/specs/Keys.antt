@@ -76,8 +76,8 @@ module _ (shape : Shape) (m : Field → ℕ) where
   IsPast table key passed = (q : ℕ) → q < passed → let word = m (nth_key (path_of shape table key) q) in
       (word ≢ 0) × (word ≢ key_word key)
 
-  -- a position bears a key only where all positions before it on the key's path bear other keys; so a key has at most one
-  -- position
+  -- a position bears a key only where all positions before it on the key's path bear other keys; so a key has at most
+  -- one position
   abbrev pub AreOnPath : Type 0
   AreOnPath = (table key passed : ℕ) → IsTableOf shape table → passed < capacity_of shape table
       → m (nth_key (path_of shape table key) passed) ≡ key_word key → IsPast table key passed

@@ -1,5 +1,5 @@
--- The law of words: what every word, version and call in flight may rely on, group by group. That it holds is not proved
--- here.
+-- The law of words: what every word, version and call in flight may rely on, group by group. That it holds is not
+-- proved here.
 use Rattle.nam_catalog.specs.Fits.{FitsLimits}
 use Rattle.nam_catalog.specs.declared.shape.Shape.{Shape}
 use Rattle.nam_ghost.specs.Chains.{ChainsOk}

@@ -1,5 +1,5 @@
--- Locks: a locked header has one holder, which lists it; the words of a position are those of its current version, but for
--- what its holder has written.
+-- Locks: a locked header has one holder, which lists it; the words of a position are those of its current version, but
+-- for what its holder has written.
 use Rattle.nam_calls.specs.Memory.{memory}
 use Rattle.nam_calls.specs.Record.{word_in}
 use Rattle.nam_calls.specs.Words.{wrapped}
@@ -21,9 +21,9 @@ use Rattle.std.specs.Prelude.{List, false, length, map, slice_index, true, ℕ, 
 
 -- 1. A position's words
 
--- Its header bears the current version, the last that was installed, and the lock, with the holder's name in form Held; its
--- count is that version's number, and one more once the holder has written it; its data are that version's until the holder
--- writes the first data word. Only a holder writes them, and the write of a header ends both marks.
+-- Its header bears the current version, the last that was installed, and the lock, with the holder's name in form Held;
+-- its count is that version's number, and one more once the holder has written it; its data are that version's until
+-- the holder writes the first data word. Only a holder writes them, and the write of a header ends both marks.
 pub record RecordOk (form : Form) (workers width : ℕ) (image : RecordImage) (chain : Chain) : Type 0 where
   pub header_is : image.header ≡ current_word form chain.holder chain.now
   pub fits : FitsStamp form chain.now.stamp
@@ -34,8 +34,8 @@ pub record RecordOk (form : Form) (workers width : ℕ) (image : RecordImage) (c
 
 -- 2. A holder
 
--- A record that it holds: the chain names it; the header that it has kept is the current version's, without the lock, so
--- that writing it back frees the lock and nothing else; its snapshot sees that version, since only such a header is
+-- A record that it holds: the chain names it; the header that it has kept is the current version's, without the lock,
+-- so that writing it back frees the lock and nothing else; its snapshot sees that version, since only such a header is
 -- exchanged; and the number that it has found is that version's.
 pub record HeldOk (form : Form) (holder : Holder) (p : ℕ) (chain : Chain) : Type 0 where
   pub holder_is : chain.holder ≡ holder.stamp.thread
@@ -55,9 +55,9 @@ pub record CleanOk (chain : Chain) : Type 0 where
   pub counted : chain.counted ≡ false
 
 module _ (shape : Shape) where
-  -- The nth client as a holder. Its records are rows, each another one; each that it holds is so, and only at the first of
-  -- them it has written; a row whose chain names its worker is one that it holds; and its records that are done have their
-  -- version.
+  -- The nth client as a holder. Its records are rows, each another one; each that it holds is so, and only at the first
+  -- of them it has written; a row whose chain names its worker is one that it holds; and its records that are done have
+  -- their version.
   pub record HolderOk (m : Field → ℕ) (chains : ℕ → Chain) (nth : ℕ) (holder : Holder) : Type 0 where
     pub worker : holder.stamp.thread ≡ nth + 1
     pub inside : (p : ℕ) → Holds holder p → IsRow shape (holder.row p)
@@ -79,8 +79,8 @@ module _ (shape : Shape) where
     pub rows : (row : ℕ) → IsRow shape row → RowOk m chains row
     pub each : Everyone (HolderOk m chains) holders
 
-  -- What a step owes each other client, the nth: versions stay; the rows that it holds, with their data words, are what they
-  -- were; and it holds no row more. Holders rely on this alone.
+  -- What a step owes each other client, the nth: versions stay; the rows that it holds, with their data words, are what
+  -- they were; and it holds no row more. Holders rely on this alone.
   pub record Spared (m now : Field → ℕ) (chains later : ℕ → Chain) (nth : ℕ) : Type 0 where
     pub grows : (row : ℕ) (version : Version) → IsVersion (chains row) version → IsVersion (later row) version
     pub same : (row : ℕ) → IsRow shape row → (chains row).holder ≡ nth + 1

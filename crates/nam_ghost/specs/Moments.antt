@@ -1,6 +1,6 @@
 -- The moments of snapshots: what a client shows as one that looks at the vector, and what holds of it. A snapshot reads
--- the whole vector twice and is taken where both passes found the same (double collect), so it is what the vector was at
--- one moment, between the passes.
+-- the whole vector twice and is taken where both passes found the same (double collect), so it is what the vector was
+-- at one moment, between the passes.
 use Rattle.nam_calls.specs.Memory.{memory}
 use Rattle.nam_catalog.specs.declared.shape.Shape.{Shape}
 use Rattle.nam_layout.specs.declared.field.Field.{Field}
@@ -39,24 +39,24 @@ AreFound start V count s = (a : ℕ) → a < count → (start ≤ slice_index s 
 abbrev pub IsUnpassed : ℕ → (ℕ → ℕ) → List ℕ → ℕ → Type 0
 IsUnpassed workers V s confirmed = (a : ℕ) → confirmed ≤ a → a < workers → V a ≤ slice_index s a
 
--- Of any snapshots `Candidate s confirmed`, which have so many entries that the second pass has confirmed: each is within
--- the vector, and two are ordered, unless one of them has an entry that isn't confirmed and that the vector has passed. Why:
--- an entry that isn't passed is the vector's own, and of two candidates the one that was begun later found each confirmed
--- entry of the other, or a later one.
+-- Of any snapshots `Candidate s confirmed`, which have so many entries that the second pass has confirmed: each is
+-- within the vector, and two are ordered, unless one of them has an entry that isn't confirmed and that the vector has
+-- passed. Why: an entry that isn't passed is the vector's own, and of two candidates the one that was begun later found
+-- each confirmed entry of the other, or a later one.
 pub record AreMoments (start workers : ℕ) (V : ℕ → ℕ) (Candidate : List ℕ → ℕ → Type 0) : Type 0 where
   pub within : (s : List ℕ) (confirmed : ℕ) → Candidate s confirmed → AreFound start V workers s
   pub ordered : (s t : List ℕ) (k l : ℕ) → Candidate s k → Candidate t l → IsUnpassed workers V s k
       → IsUnpassed workers V t l → AreOrdered workers s t
 
--- how a candidate may have come about: it was one before, and the entries confirmed since then are not passed; or its first
--- pass is over now, and none is confirmed
+-- how a candidate may have come about: it was one before, and the entries confirmed since then are not passed; or its
+-- first pass is over now, and none is confirmed
 abbrev pub HasGrown : ℕ → ℕ → (ℕ → ℕ) → (List ℕ → ℕ → Type 0) → List ℕ → ℕ → Type 0
 HasGrown start workers V Candidate s confirmed =
     ((before : ℕ) × Candidate s before × ((a : ℕ) → before ≤ a → a < confirmed → V a ≤ slice_index s a))
     ⊎ ((confirmed ≡ 0) × AreFound start V workers s)
 
--- 2. A client as an observer of the vector: the number that its worker has published last, the snapshot that it takes, and
--- those that it has taken, whether for transactions or for collections
+-- 2. A client as an observer of the vector: the number that its worker has published last, the snapshot that it takes,
+-- and those that it has taken, whether for transactions or for collections
 
 pub record Observer : Type 0 where
   pub number : ℕ
@@ -68,7 +68,8 @@ pass_of (Some (At (Beginning txn nth at))) = Some at
 pass_of (Some (At (Snapping bucket at))) = Some at
 pass_of _ = None
 
--- a commit that frees its guards, or clears its intent, has published its number; its client will list it with its answer
+-- a commit that frees its guards, or clears its intent, has published its number; its client will list it with its
+-- answer
 abbrev pub has_published : Option (Now CallPoint Answer) → Bool
 has_published (Some (At (InTxn (Committing (Freeing nth))))) = true
 has_published (Some (At (InTxn (Committing Ending)))) = true
@@ -120,8 +121,8 @@ module _ (start workers : ℕ) where
     pub each : Everyone (ObserverOk V) observers
     pub moments : AreMoments start workers V (IsCandidate workers observers)
 
-  -- What the step of the nth client owes, from one vector to the next: no other entry is changed, its own doesn't fall, and
-  -- each candidate that it has now was one or is new. All other clients rely on this alone.
+  -- What the step of the nth client owes, from one vector to the next: no other entry is changed, its own doesn't fall,
+  -- and each candidate that it has now was one or is new. All other clients rely on this alone.
   pub record ObserverNext (V now : ℕ → ℕ) (nth : ℕ) (before after : Observer) : Type 0 where
     pub others : (a : ℕ) → a < workers → a ≢ nth → now a ≡ V a
     pub rises : V nth ≤ now nth

@@ -1,5 +1,5 @@
--- Where versions come from: each is the write of one commit, which was published or is in flight; and what was published is
--- listed by its client.
+-- Where versions come from: each is the write of one commit, which was published or is in flight; and what was
+-- published is listed by its client.
 use Rattle.nam_calls.specs.Memory.{memory}
 use Rattle.nam_calls.specs.Words.{key_word}
 use Rattle.nam_catalog.specs.declared.shape.Shape.{Shape}
@@ -39,8 +39,9 @@ HasOrigin published row version nth client =
     ((commit : Publication) × Listed commit (published nth) × IsPublishedAs commit row version)
     ⊎ IsDoneAs (holder_of client) row version
 
--- Each version but the loader's has such an origin, with its stamp, its value and its writer's snapshot. A commit that has
--- installed a record can't be refused any more; so it is in flight until it is published, or its client is stopped there.
+-- Each version but the loader's has such an origin, with its stamp, its value and its writer's snapshot. A commit that
+-- has installed a record can't be refused any more; so it is in flight until it is published, or its client is stopped
+-- there.
 abbrev pub HaveOrigins : Shape → Store → (ℕ → Chain) → (ℕ → List Publication) → Type 0
 HaveOrigins shape store chains published = (row : ℕ) → IsRow shape row → (number : ℕ) → (version : Version)
     → IsNth (chains row) (number + 1) version → Someone (HasOrigin published row version) store.clients

@@ -39,8 +39,8 @@ abbrev pub IsInstalled : (ℕ → Chain) → Publication → Type 0
 IsInstalled chains commit =
     (p : ℕ) → p < commit.records → IsVersion (chains (commit.row p)) (published_version commit p)
 
--- Of the nth client, whose publications are listed oldest first: they are numbered from the start on, as many as its entry
--- says; and each has installed all its records, since the entry is written after the last header.
+-- Of the nth client, whose publications are listed oldest first: they are numbered from the start on, as many as its
+-- entry says; and each has installed all its records, since the entry is written after the last header.
 pub record PublicationsOk (start : ℕ) (chains : ℕ → Chain) (published : ℕ → List Publication) (nth : ℕ)
     (observer : Observer) : Type 0 where
   pub all : start + length (published nth) ≡ observer.number

@@ -43,8 +43,8 @@ pub record HeaderRead (form : Form) (seen : List ℕ) (chain : Chain) (header nu
   pub some : is_some version.value ≡ true
 
 module _ (place : Place) (seen : List ℕ) (chain : Chain) (ring : Ring) (Elsewhere : ℕ → Type 0) where
-  -- What was got under the header is the version's, as long as it is the current one and no data word of the next one is
-  -- written; once one is, its slot has it whole.
+  -- What was got under the header is the version's, as long as it is the current one and no data word of the next one
+  -- is written; once one is, its slot has it whole.
   abbrev pub CurrentWith : ℕ → List ℕ → Type 0
   CurrentWith header got = (number : ℕ) × (version : Version) × HeaderRead place.form seen chain header number version
       × (number ≡ current_number chain → chain.dirty ≡ false → HasGot got version.value)
@@ -98,9 +98,9 @@ module _ (shape : Shape) (chains : ℕ → Chain) (rings : ℕ → Ring) (m : Fi
     pub hidden : ended ≡ true → is_visible (end_at shape chains rings row number) seen ≡ false
     pub words : HasGot got version.value
 
-  -- The wanted version is after this cell, or has ended, or is in this cell under the tag that was read. It isn't only 'in a
-  -- full cell from this one on': while a cell is tested its tag may be exchanged, and the version stand in a cell before,
-  -- since two movers may put one version into two cells.
+  -- The wanted version is after this cell, or has ended, or is in this cell under the tag that was read. It isn't only
+  -- 'in a full cell from this one on': while a cell is tested its tag may be exchanged, and the version stand in a cell
+  -- before, since two movers may put one version into two cells.
   abbrev pub IsAheadOf : ℕ → ℕ → ℕ → Type 0
   IsAheadOf number cell tag =
       IsOverflowed shape chains rings m cells (cell + 1) row number
@@ -151,8 +151,8 @@ module _ (shape : Shape) (chains : ℕ → Chain) (rings : ℕ → Ring) (m : Fi
       × WantsOld place seen (chains row) (rings row) (IsElsewhere shape chains rings m cells row) number version
       × HorizonAt number worker
 
-  -- What a read may come to: the newest version that its snapshot sees, whole; or the wanted version has ended within the
-  -- horizon, of which the entry that is told is above the snapshot's; never astray.
+  -- What a read may come to: the newest version that its snapshot sees, whole; or the wanted version has ended within
+  -- the horizon, of which the entry that is told is above the snapshot's; never astray.
   abbrev pub ReadEndsAs : Now ReadPoint ReadingEnd → Type 0
   ReadEndsAs (At at) = Unit {0}
   ReadEndsAs (Over (Got value)) =

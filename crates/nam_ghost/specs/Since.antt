@@ -1,5 +1,5 @@
--- Guards: a commit that locks a record stands before each that writes it unseen, in the order of publication and in each
--- snapshot. So overtaking goes in no circle.
+-- Guards: a commit that locks a record stands before each that writes it unseen, in the order of publication and in
+-- each snapshot. So overtaking goes in no circle.
 use Rattle.nam_calls.specs.Memory.{memory}
 use Rattle.nam_catalog.specs.declared.shape.Shape.{Shape}
 use Rattle.nam_ghost.specs.Moments.{IsCandidate, IsUnpassed, Observer, observer_of, vector_of}
@@ -25,10 +25,11 @@ abbrev pub StandsBefore : List Stamp → Stamp → Stamp → Type 0
 StandsBefore order first second =
     (i : ℕ) × (j : ℕ) × (i < j) × (slice_get order i ≡ Some first) × (slice_get order j ≡ Some second)
 
--- Each publication has its place in the order, once. One that is overtaken stands before the one that overtakes it: the other
--- could lock the record only once the first had freed it, after its publication, and it has a version there that the first
--- would have seen, had it stood there before. And a snapshot that contains the second contains the first: it is the vector
--- of one moment. A candidate whose unconfirmed entries the vector has passed may not, and is found out by its second pass.
+-- Each publication has its place in the order, once. One that is overtaken stands before the one that overtakes it: the
+-- other could lock the record only once the first had freed it, after its publication, and it has a version there that
+-- the first would have seen, had it stood there before. And a snapshot that contains the second contains the first: it
+-- is the vector of one moment. A candidate whose unconfirmed entries the vector has passed may not, and is found out by
+-- its second pass.
 pub record IsSince (workers : ℕ) (V : ℕ → ℕ) (observers : List Observer) (published : ℕ → List Publication)
     (order : List Stamp) : Type 0 where
   pub listed : (commit : Publication) → WasPublished published commit → Listed commit.stamp order

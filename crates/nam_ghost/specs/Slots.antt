@@ -16,8 +16,8 @@ pub record Kept : Type 0 where
   pub next : Stamp
   pub moved : Bool
 
--- the ring of a position: what each slot keeps, none where it has the mark; and whether the lock's holder has copied the
--- current version, whole, into its slot
+-- the ring of a position: what each slot keeps, none where it has the mark; and whether the lock's holder has copied
+-- the current version, whole, into its slot
 pub record Ring : Type 0 where
   pub kept : ℕ → Option Kept
   pub copied : Bool
@@ -32,9 +32,9 @@ copied_count chain ring = current_number chain + flag ring.copied
 
 -- 1. Slots
 
--- A slot's words say the version that it keeps, whole: stamp, deleted flag and moved flag, the next version's stamp as end,
--- and its data. The slot is the number's own; and once the next version stands, its stamp is the end, since the commit that
--- copies a version is the one that installs the next.
+-- A slot's words say the version that it keeps, whole: stamp, deleted flag and moved flag, the next version's stamp as
+-- end, and its data. The slot is the number's own; and once the next version stands, its stamp is the end, since the
+-- commit that copies a version is the one that installs the next.
 pub record KeptOk (place : Place) (slot : ℕ) (image : SlotImage) (chain : Chain) (kept : Kept) : Type 0 where
   pub home_is : home place kept.number ≡ slot
   pub version_is : IsNth chain kept.number kept.version
@@ -59,8 +59,8 @@ abbrev pub IsFreeSlot : Option Kept → Type 0
 IsFreeSlot None = Unit {0}
 IsFreeSlot (Some kept) = kept.moved ≡ true
 
--- Each slot is so; none keeps a version that wasn't copied; a copy that is made is whole in its slot; it is made before the
--- first data word is written; and only under a lock.
+-- Each slot is so; none keeps a version that wasn't copied; a copy that is made is whole in its slot; it is made before
+-- the first data word is written; and only under a lock.
 pub record RingOk (place : Place) (images : ℕ → SlotImage) (chain : Chain) (ring : Ring) : Type 0 where
   pub slots : (slot : ℕ) → slot < place.ring → SlotIs place slot (images slot) chain (ring.kept slot)
   pub behind : (slot : ℕ) → slot < place.ring → (kept : Kept) → ring.kept slot ≡ Some kept
@@ -92,11 +92,11 @@ copy_ended ring = record ring { copied = false }
 
 -- 3. What one step may make of a position
 
--- Nothing but the holder and how far it is; the mark in a free slot that keeps an old version; a whole copy of the current
--- version in its slot, which has the mark; the moved flag at a version that stands elsewhere by now; or a new version,
--- where the one before stands in its slot with the new one's stamp as end. All readers, movers and collectors rely on this
--- alone: versions stay with their numbers, so do the ends of copied ones, and a slot comes to keep a version only from the
--- mark.
+-- Nothing but the holder and how far it is; the mark in a free slot that keeps an old version; a whole copy of the
+-- current version in its slot, which has the mark; the moved flag at a version that stands elsewhere by now; or a new
+-- version, where the one before stands in its slot with the new one's stamp as end. All readers, movers and collectors
+-- rely on this alone: versions stay with their numbers, so do the ends of copied ones, and a slot comes to keep a
+-- version only from the mark.
 pub data RowNext (place : Place) (Flagged : ℕ → Type 0) (New : Version → Type 0)
     : Chain → Ring → Chain → Ring → Type 0 where
   Idles : {chain later : Chain} {ring : Ring} → (old : later.old ≡ chain.old) → (now : later.now ≡ chain.now)

@@ -1,5 +1,5 @@
--- What each verb makes of what is known: chains, rings, cells and publications after a point of a call, by the word that its
--- verb found.
+-- What each verb makes of what is known: chains, rings, cells and publications after a point of a call, by the word
+-- that its verb found.
 use Rattle.nam_calls.specs.declared.horizon.CollectPoint.{CollectPoint}
 use Rattle.nam_calls.specs.declared.horizon.CollectPoint.TheVariants.{CollectFree}
 use Rattle.nam_calls.specs.declared.lock.LockPoint.{LockPoint}
@@ -102,8 +102,9 @@ move_rings row (MoveFlag slot header) found rings =
     if found == header then at_ring row rings (flagged slot) else rings
 move_rings row _ found rings = rings
 
--- 3. Cells: claimed by the exchange that succeeds; full, or free again, by the mover's last write; freed by the collector's
--- exchange that succeeds. A tag of the last generation has no next one, and stays: the cell is written for good, by nobody.
+-- 3. Cells: claimed by the exchange that succeeds; full, or free again, by the mover's last write; freed by the
+-- collector's exchange that succeeds. A tag of the last generation has no next one, and stays: the cell is written for
+-- good, by nobody.
 
 -- the number of the version whose header was read
 abbrev pub header_number : Form → Chain → ℕ → ℕ

@@ -98,8 +98,8 @@ module _ (shape : Shape) (chains : ℕ → Chain) (rings : ℕ → Ring) where
     ClaimAt (ClaimLook cell) = Unit {0}
     ClaimAt (ClaimTake cell tag) = state_of tag ≡ 0
 
-    -- A version that it copies is in its slot as it reads; once it has found the header there again, after all words, the
-    -- cell has the version whole; and once the tag says so, it stands elsewhere, whether or not the flag is set.
+    -- A version that it copies is in its slot as it reads; once it has found the header there again, after all words,
+    -- the cell has the version whole; and once the tag says so, it stands elsewhere, whether or not the flag is set.
     abbrev pub MoverAt : ℕ → ℕ → Version → MovePoint → Type 0
     MoverAt row number version MoveCount = Unit {0}
     MoverAt row number version (MoveHead slot) = Unit {0}
@@ -180,9 +180,9 @@ module _ (shape : Shape) where
     pub ending : now (End bucket cell) ≡ m (End bucket cell)
     pub body : (word : ℕ) → word < MOST_WIDTH → now (CellWord bucket cell word) ≡ m (CellWord bucket cell word)
 
-  -- What a step of the nth client owes all others, who rely on this alone. Tags never fall; a cell whose tag stays is what it
-  -- was; only the client that claimed a cell writes its words; a stored version stays under its tag, or its end is within
-  -- the horizon; a cell that another client has claimed stays its own; and no horizon entry falls.
+  -- What a step of the nth client owes all others, who rely on this alone. Tags never fall; a cell whose tag stays is
+  -- what it was; only the client that claimed a cell writes its words; a stored version stays under its tag, or its end
+  -- is within the horizon; a cell that another client has claimed stays its own; and no horizon entry falls.
   pub record CellsNext (m now : Field → ℕ) (chains : ℕ → Chain) (rings : ℕ → Ring) (cells later : CellMap)
       (nth : ℕ) : Type 0 where
     pub rises : (bucket cell : ℕ) → IsCell shape bucket cell → m (Tag bucket cell) ≤ now (Tag bucket cell)

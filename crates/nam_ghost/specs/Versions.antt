@@ -20,9 +20,9 @@ pub record Version : Type 0 where
   pub value : Option (List ℕ)
   pub seen : List ℕ
 
--- The version chain of a position: the versions before the current one, the oldest first, and the current one, which the
--- header bears. The worker that holds the lock, 0 where none does. How far that holder is: whether it has written a data
--- word of its version over the current one's, and whether it has written the count.
+-- The version chain of a position: the versions before the current one, the oldest first, and the current one, which
+-- the header bears. The worker that holds the lock, 0 where none does. How far that holder is: whether it has written a
+-- data word of its version over the current one's, and whether it has written the count.
 pub record Chain : Type 0 where
   pub old : List Version
   pub now : Version
@@ -61,7 +61,8 @@ HasData count body (Some value) = (nth : ℕ) → nth < count → body nth ≡ s
 abbrev pub HasGot : List ℕ → Option (List ℕ) → Type 0
 HasGot got value = HasData (length got) (slice_index got) value
 
--- the header of a position's current version, under the lock of a worker, or of none (0); in form Held it names the holder
+-- the header of a position's current version, under the lock of a worker, or of none (0); in form Held it names the
+-- holder
 abbrev pub current_header : Form → ℕ → Version → Header
 current_header form holder version = record {
   stamp = version.stamp;

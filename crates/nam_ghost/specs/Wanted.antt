@@ -15,7 +15,8 @@ use Rattle.std.specs.Prelude.{Bool, List, Option, Some, [], false, is_some, not,
 
 -- 1. The wanted version: the newest that the snapshot sees
 
--- It stays the wanted one: versions stay with their numbers, and what is installed after a snapshot was taken isn't in it.
+-- It stays the wanted one: versions stay with their numbers, and what is installed after a snapshot was taken isn't in
+-- it.
 pub record Wanted (seen : List ℕ) (chain : Chain) (number : ℕ) (version : Version) : Type 0 where
   pub is : IsNth chain number version
   pub sees : is_visible version.stamp seen ≡ true
@@ -30,8 +31,8 @@ pub record IsNewest (seen : List ℕ) (chain : Chain) (value : Option (List ℕ)
 
 -- 2. A slot in test
 
--- The version whose header was read: what was read of it is its own, while the slot keeps it. It is an old version, or the
--- slot keeps it still; so no other copy of that number comes into the slot, and the claim stays.
+-- The version whose header was read: what was read of it is its own, while the slot keeps it. It is an old version, or
+-- the slot keeps it still; so no other copy of that number comes into the slot, and the claim stays.
 pub record SlotTest (form : Form) (seen : List ℕ) (chain : Chain) (slot : Option Kept) (header : ℕ) (got : List ℕ)
     (ended : Bool) : Type 0 where
   pub number : ℕ
@@ -56,9 +57,9 @@ IsAhead place ring number from =
 abbrev pub IsTested : ℕ → Option Kept → ℕ → Type 0
 IsTested number slot tested = (kept : Kept) → slot ≡ Some kept → kept.number ≡ number → tested ≡ number
 
--- It is ahead, or `Away`. Why no slot is passed wrongly: a slot that keeps the wanted version shows a visible stamp and an
--- end that isn't visible, and one that keeps another version fails one of both, since a visible version whose next one
--- isn't is the wanted one.
+-- It is ahead, or `Away`. Why no slot is passed wrongly: a slot that keeps the wanted version shows a visible stamp and
+-- an end that isn't visible, and one that keeps another version fails one of both, since a visible version whose next
+-- one isn't is the wanted one.
 module _ (place : Place) (seen : List ℕ) (chain : Chain) (ring : Ring) (Away : Type 0) (number : ℕ) where
   abbrev pub TestAt : ℕ → ℕ → List ℕ → Bool → Type 0
   TestAt slot header got ended =

@@ -1,0 +1,4 @@
+pub mod RecordLemmas
+pub mod RowLemmas
+pub mod HolderLemmas
+pub mod HolderKinds

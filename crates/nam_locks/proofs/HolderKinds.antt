@@ -19,6 +19,7 @@ use Rattle.nam_store.proofs.Lists.{put_beside, put_cases, put_here}
 use Rattle.nam_ghost.specs.Versions.{Chain, IsVersion, current_number, current_word}
 use Rattle.nam_ghost.specs.Holders.{Holder, Holds, HoldsRow, version_of}
 use Rattle.nam_ghost.specs.Locks.{CleanOk, HeldOk, HolderOk, RowOk, WrittenOk}
+use Rattle.nam_locks.specs.Kinds.{left_behind, one_more, worked, working}
 use Rattle.nam_ghost.specs.Steps.{locked_for}
 
 module _ (shape : Shape) (m : Field → ℕ) (chains : ℕ → Chain) (nth : ℕ) (holder : Holder)
@@ -41,15 +42,11 @@ module _ (shape : Shape) (m : Field → ℕ) (chains : ℕ → Chain) (nth : ℕ
 
   -- 1. The record at hand is left: its header is written
 
-  abbrev pub left_behind : ℕ → Holder
-  left_behind done =
-      record holder { from = holder.from + 1; done = done; words = 0; dirty = false; counted = false }
-
   pub releases : (now : Field → ℕ) (done : ℕ) (chain : Chain) → Holds holder holder.from → chain.holder ≡ 0
       → ((p : ℕ) → p < done → IsVersion (put chains hand chain (row p)) (version_of holder p))
-      → HolderOk shape now (put chains hand chain) nth (left_behind done)
+      → HolderOk shape now (put chains hand chain) nth (left_behind holder done)
   releases now done chain is unlocked installed =
-      let after = left_behind done in
+      let after = left_behind holder done in
       let later : ℕ → Chain = put chains hand chain in
       let was : (p : ℕ) → Holds after p → Holds holder p = λ p holds.
       record { begins = let b = holds.begins in omega arith; ends = holds.ends } in
@@ -94,9 +91,6 @@ module _ (shape : Shape) (m : Field → ℕ) (chains : ℕ → Chain) (nth : ℕ
 
   -- 2. One lock more is taken
 
-  abbrev pub one_more : ℕ → Holder
-  one_more word = record holder { held = holder.held ++ word ∷ [] }
-
   abbrev next_row : ℕ
   next_row = holder.row (length holder.held)
 
@@ -104,11 +98,11 @@ module _ (shape : Shape) (m : Field → ℕ) (chains : ℕ → Chain) (nth : ℕ
       IsRow shape next_row → holder.from ≤ length holder.held → holder.words ≡ 0 → holder.dirty ≡ false
       → holder.counted ≡ false → length holder.counts ≡ 0 → chain.holder ≡ 0 → CleanOk chain
       → word ≡ current_word shape.form 0 chain.now → is_visible chain.now.stamp holder.seen ≡ true
-      → HolderOk shape now (put chains next_row (locked_for holder.stamp.thread chain)) nth (one_more word)
+      → HolderOk shape now (put chains next_row (locked_for holder.stamp.thread chain)) nth (one_more holder word)
   seizes now word is_row from_less none undirty uncounted uncounted_all free clean is sees =
       let chain : Chain = locked_for holder.stamp.thread (chains next_row) in
       let later : ℕ → Chain = put chains next_row chain in
-      let after = one_more word in
+      let after = one_more holder word in
       let last = length holder.held in
       let long : length after.held ≡ last + 1 = length_push holder.held word in
       let was : (p : ℕ) → Holds after p → p < last → Holds holder p = λ p holds less.
@@ -182,20 +176,14 @@ module _ (shape : Shape) (m : Field → ℕ) (chains : ℕ → Chain) (nth : ℕ
 
   -- 3. A word is written at the record at hand
 
-  abbrev pub working : ℕ → Bool → Bool → Holder
-  working words dirty counted = record holder { words = words; dirty = dirty; counted = counted }
-
-  abbrev pub worked : Bool → Bool → Chain
-  worked dirty counted = record (chains hand) { dirty = dirty; counted = counted }
-
   pub works : (now : Field → ℕ) (words : ℕ) (dirty counted : Bool) → Holds holder holder.from
       → words ≤ width_at shape.tables hand
       → ((word : ℕ) → word < words → now (Word hand word) ≡ word_in (holder.value holder.from) word)
-      → HolderOk shape now (put chains hand (worked dirty counted)) nth (working words dirty counted)
+      → HolderOk shape now (put chains hand (worked (chains hand) dirty counted)) nth (working holder words dirty counted)
   works now words dirty counted is narrow written =
-      let chain = worked dirty counted in
+      let chain = worked (chains hand) dirty counted in
       let later : ℕ → Chain = put chains hand chain in
-      let after = working words dirty counted in
+      let after = working holder words dirty counted in
       let same : (p : ℕ) → Holds after p → Holds holder p = λ p holds.
       record { begins = holds.begins; ends = holds.ends } in
       let here : later hand ≡ chain = put_here chains hand chain in

@@ -2,3 +2,4 @@ pub mod RecordLemmas
 pub mod RowLemmas
 pub mod HolderLemmas
 pub mod HolderKinds
+pub mod WriteKinds

@@ -3,3 +3,4 @@ pub mod RowLemmas
 pub mod HolderLemmas
 pub mod HolderKinds
 pub mod WriteKinds
+pub mod CommitReads

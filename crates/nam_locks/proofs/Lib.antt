@@ -4,3 +4,5 @@ pub mod HolderLemmas
 pub mod HolderKinds
 pub mod WriteKinds
 pub mod CommitReads
+pub mod CommitWrites
+pub mod CommitLemmas

@@ -1,6 +1,7 @@
 -- Which words of current versions a written word leaves as they were.
-use Rattle.std.proofs.Common.{None, Option, Some, ap, refl, sym, ℕ, ◌∙◌, ◌≡◌}
+use Rattle.std.proofs.Common.{⊎_elim, ◌≢◌, subst, None, Option, Some, ap, refl, sym, ℕ, ◌∙◌, ◌≡◌}
 use Rattle.std.proofs.lemmas.Option.{none-some, same_Some}
+use Rattle.std.proofs.lemmas.Bool.{cases_eq}
 use Rattle.nam_catalog.specs.declared.shape.Shape.{Shape}
 use Rattle.nam_layout.specs.Address.{IsField, IsRow}
 use Rattle.nam_layout.specs.declared.field.Field.{Field}
@@ -34,3 +35,15 @@ module _ (shape : Shape) (m now : Field → ℕ) where
   written_nowhere written stays none row is =
       row_same row is (λ field here of_shape. stays field of_shape
       (λ same. none-some row (sym none ∙ ap written_row same ∙ here)))
+
+-- a header was written that was the same before
+pub written_same : (shape : Shape) (m now : Field → ℕ) (row : ℕ) → Changed shape m now (Header row) (m (Header row))
+    → SameRows shape m now
+written_same shape m now row changed other is = record {
+  header =
+      ⊎_elim (λ (e : other ≡ row). subst (λ x. now (Header x) ≡ m (Header x)) (sym e) changed.here)
+      (λ (apart : other ≢ row).
+      changed.others (Header other) is (λ e. apart (same_Some other row (ap current_row e)))) (cases_eq other row);
+  count = changed.others (Count other) is (λ e. cc);
+  word = λ nth less. changed.others (Word other nth) (is, less) (λ e. cc);
+}

@@ -6,3 +6,5 @@ pub mod WriteKinds
 pub mod CommitReads
 pub mod CommitWrites
 pub mod CommitLemmas
+pub mod IdleLemmas
+pub mod StoreLemmas

@@ -13,7 +13,8 @@ pub same_rows : (shape : Shape) (m : Field → ℕ) → SameRows shape m m
 same_rows shape m row is = record { header = refl; count = refl; word = λ nth less. refl }
 
 module _ (shape : Shape) (m now : Field → ℕ) where
-  row_same : (row : ℕ) → IsRow shape row
+  -- a row's words stay where each of them does
+  pub row_same : (row : ℕ) → IsRow shape row
       → ((field : Field) → current_row field ≡ Some row → IsField shape field → now field ≡ m field)
       → SameRow shape m now row
   row_same row is stays = record {

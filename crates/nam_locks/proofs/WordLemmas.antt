@@ -1,4 +1,4 @@
--- Each step of a store keeps what is said of locks.
+-- A word that a client takes keeps what is said of locks, by the sorts of steps.
 use Rattle.std.proofs.Common.{List, Option, Some, ap, length, refl, subst, sym, ℕ, ◌+◌, ◌<◌, ◌∙◌}
 use Rattle.std.proofs.Common.{◌≡◌}
 use Rattle.std.specs.Prelude.{slice_get, slice_set}
@@ -71,6 +71,12 @@ snaps_idle shape client bucket now =
     snap_goes (Idles client) shape client bucket now (λ next e. (tt, refl)) (λ seen e. (tt, refl))
     (λ worker first second e. (tt, refl))
 
+-- what the verb of the nth client does at a point
+pub record Verb (shape : Shape) (m now : Field → ℕ) (nth : ℕ) (before : ClientState) (place : CallPoint) : Type 0 where
+  pub changed : Changed shape m now (target (next_verb shape before)) (left_at m (next_verb shape before))
+  pub leaves : OthersStay shape m now (written_of shape before)
+  pub kinds : (field : Field) → IsField shape field → (MayWrite (nth + 1) place field → ⊥) → now field ≡ m field
+
 -- 1. A word is taken, by the sorts
 
 module _ (shape : Shape) (limits : FitsLimits shape) (m now : Field → ℕ) (chains : ℕ → Chain) (holders : List Holder)
@@ -78,18 +84,12 @@ module _ (shape : Shape) (limits : FitsLimits shape) (m now : Field → ℕ) (ch
   abbrev Comes : (ℕ → Chain) → ClientState → Type 0
   Comes later after = AreHeld shape now later (slice_set holders nth (holder_of after))
 
-  -- what a client's verb does
-  pub record Verb (before : ClientState) (place : CallPoint) : Type 0 where
-    pub changed : Changed shape m now (target (next_verb shape before)) (left_at m (next_verb shape before))
-    pub leaves : OthersStay shape m now (written_of shape before)
-    pub kinds : (field : Field) → IsField shape field → (MayWrite (nth + 1) place field → ⊥) → now field ≡ m field
-
   -- no commit runs, before or after
   idle_word : (before after : ClientState) (place : CallPoint) (found : ℕ)
       → slice_get holders nth ≡ Some (holder_of before) → before.call ≡ Some (At place) → IsIdle (Some (At place))
       → IsIdle after.call → after.worker ≡ before.worker
       → ((field : Field) (row : ℕ) → current_row field ≡ Some row → MayWrite (nth + 1) place field → ⊥)
-      → Verb before place → Comes (chains_after before.txn place found chains) after
+      → Verb shape m now nth before place → Comes (chains_after before.txn place found chains) after
   idle_word before after place found here at idle later worker unwritten verb =
       let same : SameRows shape m now = λ row is. row_same shape m now row is
       (λ field at_row of_shape. verb.kinds field of_shape (unwritten field row at_row)) in
@@ -106,7 +106,7 @@ module _ (shape : Shape) (limits : FitsLimits shape) (m now : Field → ℕ) (ch
   commit_word : (client : ClientState) (attempt : Open) (at : CommitPoint) (found : ℕ)
       → let before = committing_at client attempt at in
       slice_get holders nth ≡ Some (holder_of before) → ClientOk shape nth before
-      → found ≡ found_at m (next_verb shape before) → Verb before (InTxn (Committing at))
+      → found ≡ found_at m (next_verb shape before) → Verb shape m now nth before (InTxn (Committing at))
       → Comes (commit_chains attempt.state at found chains)
       (stepped before attempt (length attempt.state.held) (commit_after attempt.state at found))
   commit_word client attempt at found here own is verb =
@@ -124,7 +124,7 @@ module _ (shape : Shape) (limits : FitsLimits shape) (m now : Field → ℕ) (ch
 
   pub takes_word : (found : ℕ) (before after : ClientState) (place : CallPoint) → StepOf shape found before after
       → before.call ≡ Some (At place) → slice_get holders nth ≡ Some (holder_of before) → ClientOk shape nth before
-      → found ≡ found_at m (next_verb shape before) → Verb before place
+      → found ≡ found_at m (next_verb shape before) → Verb shape m now nth before place
       → Comes (chains_after before.txn place found chains) after
   takes_word found _ _ place (Finds client point is plain anew) at here own e verb =
       let same = same_place place point at in
@@ -170,4 +170,4 @@ module _ (shape : Shape) (limits : FitsLimits shape) (m now : Field → ℕ) (ch
       let same = same_place place (InTxn (Committing point)) at in
       subst (λ p. Comes (chains_after (Some attempt) p found chains) (stepped (committing_at client attempt point)
       attempt (length attempt.state.held) (commit_after attempt.state point found))) (sym same)
-      (commit_word client attempt point found here own e (subst (Verb (committing_at client attempt point)) same verb))
+      (commit_word client attempt point found here own e (subst (Verb shape m now nth (committing_at client attempt point)) same verb))

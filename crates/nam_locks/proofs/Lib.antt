@@ -10,3 +10,4 @@ pub mod IdleLemmas
 pub mod WordLemmas
 pub mod StoreLemmas
 pub mod OpeningLemmas
+pub mod ListedLemmas

@@ -61,7 +61,7 @@ module _ (form : Form) (workers width : ℕ) (image : RecordImage) (chain : Chai
     (ok : RecordOk form workers width image chain) where
   -- 3. What a header that is found says
 
-  header_says : header_of form image.header ≡ current_header form chain.holder chain.now
+  pub header_says : header_of form image.header ≡ current_header form chain.holder chain.now
   header_says =
       let worker = ok.worker in
       ap (header_of form) ok.header_is

@@ -1,6 +1,6 @@
 -- Each word that a commit takes keeps what is said of locks.
-use Rattle.std.proofs.Common.{Bool, List, None, Some, [], arith, false, length, refl, true, ℕ}
-use Rattle.std.proofs.Common.{◌++◌, ◌<◌, ◌==◌, ◌∷◌, ◌≡◌}
+use Rattle.std.proofs.Common.{Bool, List, None, Some, [], arith, false, length, refl, true, ℕ, ◌++◌, ◌<◌, ◌==◌, ◌∷◌}
+use Rattle.std.proofs.Common.{◌≡◌}
 use Rattle.std.specs.Prelude.{if◌then◌else◌, slice_get, slice_set}
 use Rattle.std.proofs.lemmas.Bool.{eqb-true}
 use Rattle.nam_verbs.specs.VerbAt.{found_at, left_at, target}

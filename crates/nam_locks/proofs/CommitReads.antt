@@ -1,7 +1,7 @@
 -- What becomes of the claims on a commit itself with each word that it takes: where it only reads, and after a header
 -- was written back.
-use Rattle.std.proofs.Common.{List, None, Option, Some, [], arith, false, length, refl, subst, sym, ℕ}
-use Rattle.std.proofs.Common.{◌++◌, ◌+◌, ◌<◌, ◌==◌, ◌∙◌, ◌∷◌, ◌≡◌, ◌≤◌}
+use Rattle.std.proofs.Common.{List, None, Option, Some, [], arith, false, length, refl, subst, sym, ℕ, ◌++◌, ◌+◌, ◌<◌}
+use Rattle.std.proofs.Common.{◌==◌, ◌∙◌, ◌∷◌, ◌≡◌, ◌≤◌}
 use Rattle.std.proofs.lemmas.Bool.{eqb-true}
 use Rattle.std.proofs.lemmas.List.{get_or_append_left}
 use Rattle.nam_verbs.proofs.TestLemmas.{by_test}
@@ -15,13 +15,13 @@ use Rattle.nam_calls.specs.Lock.{give_back}
 use Rattle.nam_calls.specs.Record.{install_begin}
 use Rattle.nam_calls.proofs.GoesTests.{give_back_goes, peek_goes, slot_goes}
 use Rattle.nam_protocol.specs.declared.txn.CommitPoint.{CommitPoint}
-use Rattle.nam_protocol.specs.declared.txn.CommitPoint.TheVariants.{Checking, Clearing, Copying, Counting}
-use Rattle.nam_protocol.specs.declared.txn.CommitPoint.TheVariants.{Ending, Listing, Locking, Publishing, Saving}
+use Rattle.nam_protocol.specs.declared.txn.CommitPoint.TheVariants.{Checking, Clearing, Copying, Counting, Ending}
+use Rattle.nam_protocol.specs.declared.txn.CommitPoint.TheVariants.{Listing, Locking, Publishing, Saving}
 use Rattle.nam_protocol.specs.declared.txn.ListPoint.{ListPoint}
 use Rattle.nam_protocol.specs.declared.txn.Refusal.{Refusal}
 use Rattle.nam_protocol.specs.declared.txn.TxnState.{TxnState}
-use Rattle.nam_protocol.specs.Commit.{checked, commit_after, go, on_lock, on_slot, places, record_place}
-use Rattle.nam_protocol.specs.Commit.{refused, tells_intent, value_at}
+use Rattle.nam_protocol.specs.Commit.{checked, commit_after, go, on_lock, on_slot, places, record_place, refused}
+use Rattle.nam_protocol.specs.Commit.{tells_intent, value_at}
 use Rattle.nam_protocol.specs.Txn.{Stepped}
 use Rattle.nam_protocol.proofs.GoesCommit.{next_count_goes, next_free_goes, on_copy_goes, on_list_goes, on_words_goes}
 use Rattle.nam_protocol.proofs.GoesCommit.{refused_goes, with_count}

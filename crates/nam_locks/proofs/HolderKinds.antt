@@ -1,7 +1,7 @@
 -- What a step of a client makes of the claims on itself: a record is left, a lock is taken, a word is written at the
 -- record at hand, a count is found, nothing is held.
-use Rattle.std.proofs.Common.{Bool, List, [], ap, arith, false, length, refl, subst, sym, true, ℕ}
-use Rattle.std.proofs.Common.{⊎_elim, ◌++◌, ◌+◌, ◌<◌, ◌∙◌, ◌∷◌, ◌≡◌, ◌≢◌, ◌≤◌}
+use Rattle.std.proofs.Common.{Bool, List, [], ap, arith, false, length, refl, subst, sym, true, ℕ, ⊎_elim, ◌++◌, ◌+◌}
+use Rattle.std.proofs.Common.{◌<◌, ◌∙◌, ◌∷◌, ◌≡◌, ◌≢◌, ◌≤◌}
 use Rattle.std.specs.Prelude.{slice_index}
 use Rattle.std.proofs.lemmas.Bool.{cases_eq, cases_lt}
 use Rattle.std.proofs.lemmas.List.{get_or_append_left, get_or_push, length_push}
@@ -50,7 +50,8 @@ module _ (shape : Shape) (m : Field → ℕ) (chains : ℕ → Chain) (nth : ℕ
       let later : ℕ → Chain = put chains hand chain in
       let was : (p : ℕ) → Holds after p → Holds holder p = λ p holds.
       record { begins = let b = holds.begins in omega arith; ends = holds.ends } in
-      let past : (p : ℕ) → Holds after p → p ≢ holder.from = λ p holds e. let b = holds.begins in absurd (omega arith) in
+      let past : (p : ℕ) → Holds after p → p ≢ holder.from = λ p holds e.
+      let b = holds.begins in absurd (omega arith) in
       let stays : (p : ℕ) → Holds after p → later (row p) ≡ chains (row p) = λ p holds.
       put_beside chains hand chain (row p) (own.apart p holder.from (was p holds) is (past p holds)) in
       record {
@@ -179,7 +180,8 @@ module _ (shape : Shape) (m : Field → ℕ) (chains : ℕ → Chain) (nth : ℕ
   pub works : (now : Field → ℕ) (words : ℕ) (dirty counted : Bool) → Holds holder holder.from
       → words ≤ width_at shape.tables hand
       → ((word : ℕ) → word < words → now (Word hand word) ≡ word_in (holder.value holder.from) word)
-      → HolderOk shape now (put chains hand (worked (chains hand) dirty counted)) nth (working holder words dirty counted)
+      → HolderOk shape now (put chains hand (worked (chains hand) dirty counted)) nth
+      (working holder words dirty counted)
   works now words dirty counted is narrow written =
       let chain = worked (chains hand) dirty counted in
       let later : ℕ → Chain = put chains hand chain in
@@ -281,7 +283,8 @@ module _ (shape : Shape) (m : Field → ℕ) (chains : ℕ → Chain) (nth : ℕ
   -- 5. Nothing was held, nor is it
 
   pub holds_nothing : (after : Holder) → length holder.held ≤ holder.from → after.stamp.thread ≡ nth + 1
-      → length after.held ≤ after.from → ((p : ℕ) → p < after.done → IsVersion (chains (after.row p)) (version_of after p))
+      → length after.held ≤ after.from
+      → ((p : ℕ) → p < after.done → IsVersion (chains (after.row p)) (version_of after p))
       → HolderOk shape m chains nth after
   holds_nothing after past worker none installed =
       let no : (p : ℕ) → Holds after p → ⊥ = λ p holds.

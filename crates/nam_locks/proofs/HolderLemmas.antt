@@ -1,6 +1,5 @@
 -- A step of one client: what is said of all others stays, by what the step owes them.
-use Rattle.std.proofs.Common.{List, Some, ap, arith, length-set, refl, subst, sym, ℕ}
-use Rattle.std.proofs.Common.{◌+◌, ◌∙◌, ◌≡◌, ◌≢◌}
+use Rattle.std.proofs.Common.{List, Some, ap, arith, length-set, refl, subst, sym, ℕ, ◌+◌, ◌∙◌, ◌≡◌, ◌≢◌}
 use Rattle.std.specs.Prelude.{slice_get, slice_set}
 use Rattle.nam_catalog.specs.declared.shape.Shape.{Shape}
 use Rattle.nam_layout.specs.Address.{IsRow}

@@ -4,7 +4,8 @@ use Rattle.std.proofs.lemmas.Option.{none-some}
 use Rattle.nam_verbs.specs.declared.now.Now.{Now}
 use Rattle.nam_verbs.specs.declared.now.Now.TheVariants.{At, Over}
 use Rattle.nam_layout.specs.declared.field.Field.{Field}
-use Rattle.nam_layout.specs.declared.field.Field.TheVariants.{Begin, CellWord, End, Horizon, Key, Owner, SlotHeader, Tag}
+use Rattle.nam_layout.specs.declared.field.Field.TheVariants.{Begin, CellWord, End, Horizon, Key, Owner, SlotHeader}
+use Rattle.nam_layout.specs.declared.field.Field.TheVariants.{Tag}
 use Rattle.nam_protocol.specs.declared.client.Answer.{Answer}
 use Rattle.nam_protocol.specs.declared.client.CallPoint.{CallPoint}
 use Rattle.nam_protocol.specs.declared.client.CallPoint.TheVariants.{InTxn}

@@ -1,6 +1,6 @@
 -- What is said of locks, in words of clients and headers alone.
-use Rattle.std.proofs.Common.{List, None, Option, Some, ap, arith, refl, subst, sym, true, ℕ, ◌+◌, ◌<◌, ◌∙◌}
-use Rattle.std.proofs.Common.{option_map, ◌≡◌}
+use Rattle.std.proofs.Common.{List, None, Option, Some, ap, arith, option_map, refl, subst, sym, true, ℕ, ◌+◌, ◌<◌}
+use Rattle.std.proofs.Common.{◌∙◌, ◌≡◌}
 use Rattle.std.specs.Prelude.{nat_lt, ◌-◌}
 use Rattle.std.proofs.lemmas.Bool.{lt-ltb, ltb-true}
 use Rattle.std.proofs.lemmas.Option.{slice_get-map}
@@ -56,7 +56,7 @@ holds_lists row client (Some (At (InTxn (Committing at)))) (Some attempt) holds 
   attempt = attempt;
   runs = refl;
   opened = refl;
-  record_is = holds.0;
+  number = holds.0;
   begins = holds.1.begins;
   ends = holds.1.ends;
   row_is = holds.2;
@@ -71,7 +71,7 @@ lists_holds row client lists =
     (sym lists.runs)
     (subst (λ (opened : Option Open).
     HoldsRow (holder_in client.worker (Some (At (InTxn (Committing lists.at)))) opened) row) (sym lists.opened)
-    (lists.record_is, record { begins = lists.begins; ends = lists.ends }, lists.row_is))
+    (lists.number, record { begins = lists.begins; ends = lists.ends }, lists.row_is))
 
 -- 2. A store with its chains
 
@@ -89,9 +89,10 @@ module _ (shape : Shape) (store : Store) (base : BaseOk shape store) (chains : �
       → IsRow shape row × ((chains row).holder ≡ nth + 1)
   holder_is nth client here lists =
       let own = view nth client here in
-      let holds = lists_holds row client lists in
-      (subst (IsRow shape) holds.2 (own.inside holds.0 holds.1),
-      ap (λ r. (chains r).holder) (sym holds.2) ∙ (own.held holds.0 holds.1).holder_is ∙ own.worker)
+      let holds = lists_holds row client lists in (
+        subst (IsRow shape) holds.2 (own.inside holds.0 holds.1),
+        ap (λ r. (chains r).holder) (sym holds.2) ∙ (own.held holds.0 holds.1).holder_is ∙ own.worker,
+      )
 
   module _ (is : IsRow shape row) where
     abbrev width : ℕ
@@ -126,7 +127,8 @@ module _ (shape : Shape) (store : Store) (base : BaseOk shape store) (chains : �
         let e : (chains row).holder ≡ nth + 1 = omega arith in
         let client = client_of shape store base nth (omega arith) in
         let own = view nth client.0 client.1 in
-        (nth, (client.0, (client.1, (holds_lists row client.0 client.0.call client.0.txn (own.owns row is e), named nth e))))
+        let lists = holds_lists row client.0 client.0.call client.0.txn (own.owns row is e) in
+        (nth, (client.0, (client.1, (lists, named nth e))))
 
 -- 3. Every store
 
@@ -134,9 +136,10 @@ module _ (shape : Shape) (store : Store) (base : BaseOk shape store) (chains : �
 known : (shape : Shape) → FitsLimits shape → (rows : List Row) → AreLoaded shape rows → (store : Store)
     → IsReached shape rows store → BaseOk shape store × ((chains : ℕ → Chain) × LocksOk shape store chains)
 known shape limits rows loaded store reached =
-    let with_ghost = ghost_rides shape rows (opening_ghost shape rows) (ghost_step shape) store tt reached in
-    (reached_law shape limits rows loaded store reached,
-    (with_ghost.0.chains, locks_reached shape limits rows loaded store with_ghost.0 with_ghost.1))
+    let with_ghost = ghost_rides shape rows (opening_ghost shape rows) (ghost_step shape) store tt reached in (
+      reached_law shape limits rows loaded store reached,
+      (with_ghost.0.chains, locks_reached shape limits rows loaded store with_ghost.0 with_ghost.1),
+    )
 
 pub locked_listed : LockedLaw
 locked_listed shape limits rows loaded store reached row is locked =

@@ -1,7 +1,7 @@
 -- At the opening nothing is locked, and each position has its loaded version.
-use Rattle.std.proofs.Common.{false, suc, true, zero, Bool, List, None, Some, [], ap, arith, map, refl, subst, sym, ℕ, ⊎_elim}
-use Rattle.std.proofs.Common.{◌+◌, ◌<◌, ◌∙◌, ◌∷◌, ◌≡◌}
-use Rattle.std.specs.Prelude.{slice_index, if◌then◌else◌}
+use Rattle.std.proofs.Common.{Bool, List, None, Some, [], ap, arith, false, map, refl, subst, suc, sym, true, zero, ℕ}
+use Rattle.std.proofs.Common.{⊎_elim, ◌+◌, ◌<◌, ◌∙◌, ◌∷◌, ◌≡◌}
+use Rattle.std.specs.Prelude.{if◌then◌else◌, slice_index}
 use Rattle.std.proofs.lemmas.List.{length-map}
 use Rattle.std.proofs.lemmas.Option.{none-some, same_Some}
 use Rattle.nam_catalog.specs.declared.form.Form.{Form}

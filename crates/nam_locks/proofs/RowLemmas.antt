@@ -1,5 +1,5 @@
 -- Which words of current versions a written word leaves as they were.
-use Rattle.std.proofs.Common.{⊎_elim, ◌≢◌, subst, None, Option, Some, ap, refl, sym, ℕ, ◌∙◌, ◌≡◌}
+use Rattle.std.proofs.Common.{None, Option, Some, ap, refl, subst, sym, ℕ, ⊎_elim, ◌∙◌, ◌≡◌, ◌≢◌}
 use Rattle.std.proofs.lemmas.Option.{none-some, same_Some}
 use Rattle.std.proofs.lemmas.Bool.{cases_eq}
 use Rattle.nam_catalog.specs.declared.shape.Shape.{Shape}

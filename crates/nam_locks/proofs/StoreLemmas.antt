@@ -1,6 +1,5 @@
 -- Each step of a store keeps what is said of locks.
-use Rattle.std.proofs.Common.{List, Option, Some, ap, arith, map, refl, subst, sym, ℕ, ◌+◌, ◌∙◌}
-use Rattle.std.proofs.Common.{option_map, ◌≡◌}
+use Rattle.std.proofs.Common.{List, Option, Some, ap, arith, map, option_map, refl, subst, sym, ℕ, ◌+◌, ◌∙◌, ◌≡◌}
 use Rattle.std.specs.Prelude.{slice_get, slice_set}
 use Rattle.std.proofs.lemmas.List.{map-set}
 use Rattle.std.proofs.lemmas.Option.{slice_get-map}

@@ -1,6 +1,5 @@
 -- A word that a client takes keeps what is said of locks, by the sorts of steps.
-use Rattle.std.proofs.Common.{List, Option, Some, ap, length, refl, subst, sym, ℕ, ◌+◌, ◌<◌, ◌∙◌}
-use Rattle.std.proofs.Common.{◌≡◌}
+use Rattle.std.proofs.Common.{List, Option, Some, ap, length, refl, subst, sym, ℕ, ◌+◌, ◌<◌, ◌∙◌, ◌≡◌}
 use Rattle.std.specs.Prelude.{slice_get, slice_set}
 use Rattle.nam_verbs.specs.declared.now.Now.{Now}
 use Rattle.nam_verbs.specs.declared.now.Now.TheVariants.{At}
@@ -21,8 +20,8 @@ use Rattle.nam_protocol.specs.declared.txn.CommitPoint.{CommitPoint}
 use Rattle.nam_protocol.specs.declared.txn.TxnPoint.TheVariants.{Committing}
 use Rattle.nam_protocol.specs.Client.{on_begin, on_snap}
 use Rattle.nam_protocol.specs.Commit.{commit_after}
-use Rattle.nam_protocol.specs.Sorts.{Begins, Collects, Commits}
-use Rattle.nam_protocol.specs.Sorts.{Finds, IsKeyPlace, Moves, Reads, Snaps, StepOf, committing_at, word_taken}
+use Rattle.nam_protocol.specs.Sorts.{Begins, Collects, Commits, Finds, IsKeyPlace, Moves, Reads, Snaps, StepOf}
+use Rattle.nam_protocol.specs.Sorts.{committing_at, word_taken}
 use Rattle.nam_protocol.specs.Reader.{reader_at}
 use Rattle.nam_protocol.specs.Telling.{go, stepped}
 use Rattle.nam_protocol.specs.Txn.{Stepped}
@@ -170,4 +169,5 @@ module _ (shape : Shape) (limits : FitsLimits shape) (m now : Field → ℕ) (ch
       let same = same_place place (InTxn (Committing point)) at in
       subst (λ p. Comes (chains_after (Some attempt) p found chains) (stepped (committing_at client attempt point)
       attempt (length attempt.state.held) (commit_after attempt.state point found))) (sym same)
-      (commit_word client attempt point found here own e (subst (Verb shape m now nth (committing_at client attempt point)) same verb))
+      (commit_word client attempt point found here own e
+      (subst (Verb shape m now nth (committing_at client attempt point)) same verb))

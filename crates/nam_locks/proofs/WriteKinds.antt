@@ -1,7 +1,7 @@
 -- The kinds of write to a record's current version: a lock, a header written back, a data word, the count, the new
 -- header. Each keeps what is said of locks.
-use Rattle.std.proofs.Common.{List, None, Option, Some, ap, arith, false, length, refl, subst, sym, true, ℕ}
-use Rattle.std.proofs.Common.{⊎_elim, ◌+◌, ◌<◌, ◌∙◌, ◌≡◌, ◌≤◌}
+use Rattle.std.proofs.Common.{List, None, Option, Some, ap, arith, false, length, refl, subst, sym, true, ℕ, ⊎_elim}
+use Rattle.std.proofs.Common.{◌+◌, ◌<◌, ◌∙◌, ◌≡◌, ◌≤◌}
 use Rattle.std.specs.Prelude.{Bool, is_some, not, slice_get, slice_index, slice_set}
 use Rattle.std.proofs.lemmas.Bool.{cases_lt}
 use Rattle.nam_catalog.specs.Fits.{FitsLimits}

@@ -48,10 +48,10 @@ pub record Lists (row : ℕ) (client : ClientState) : Type 0 where
   pub attempt : Open
   pub runs : client.call ≡ Some (At (InTxn (Committing at)))
   pub opened : client.txn ≡ Some attempt
-  pub record_is : ℕ
-  pub begins : from_at attempt.state at ≤ record_is
-  pub ends : record_is < length attempt.state.held
-  pub row_is : record_row attempt.state record_is ≡ row
+  pub number : ℕ
+  pub begins : from_at attempt.state at ≤ number
+  pub ends : number < length attempt.state.held
+  pub row_is : record_row attempt.state number ≡ row
 
 abbrev pub header_at : Shape → Store → ℕ → ℕ
 header_at shape store row = memory shape store.words (Header row)

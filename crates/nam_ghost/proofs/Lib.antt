@@ -1,0 +1,13 @@
+pub mod Runs
+mod RunsLemmas
+pub mod CommitExample
+pub mod MoveExample
+pub mod Small
+mod ClaimsExample
+mod ViewsExample
+mod ReadsExample
+mod UpkeepExample
+mod OriginsExample
+mod KeysExample
+pub mod LawExample
+mod LawsExample

@@ -1,0 +1,13 @@
+pub mod RecordLemmas
+pub mod RowLemmas
+pub mod HolderLemmas
+pub mod HolderKinds
+pub mod WriteKinds
+pub mod CommitReads
+pub mod CommitWrites
+pub mod CommitLemmas
+pub mod IdleLemmas
+pub mod WordLemmas
+pub mod StoreLemmas
+pub mod OpeningLemmas
+pub mod ListedLemmas

@@ -103,7 +103,7 @@ pub fn steps_of(stints: &[Stint]) -> u64
 }
 
 /// The first table of a name.
-#[inline]
+#[inline(always)]
 pub fn place_of(tables: &[Table], name: &[u8]) -> Result<Found, Kind>
     requires { length tables.now ≤ 8 }
     ensures place { result ≡ place_of tables.now name.now }

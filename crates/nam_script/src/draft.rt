@@ -186,7 +186,7 @@ impl Draft {
     }
 
     /// Finds a table by its name.
-    #[inline]
+    #[inline(always)]
     pub fn find(&self, name: &[u8]) -> Result<Found, Kind>
         ensures place { result ≡ place_of self.now.shape.tables name.now }
         ensures few { IfOk result (λ found. found.table < 8) }

@@ -1,4 +1,5 @@
-//! The lines of a script, each read from its fields and taken at once.
+//! The lines of a script, each read from its fields and taken at once. The lines of transactions are most of a script:
+//! they are read within the loop over all lines, and what settings and values need stays out of it.
 
 ghost use Rattle.nam_text.specs.Kinds.{line_at};
 ghost use Rattle.nam_script.specs.Lines.{version_line, header_line, workers_line, tries_line, tidy_line, start_line};
@@ -17,6 +18,7 @@ use std::alloc::Global;
 pub type Taken = Option<Result<(), LineEnd>>;
 
 impl Draft {
+    #[inline(never)]
     #[tactic(auto, unfolding(crate::specs::Admit::admit))]
     fn version_line(&mut self, fields: &mut Fields) -> Taken
         ensures { TakesLine result self.new self.old (line_at version_line fields.old) }
@@ -26,6 +28,7 @@ impl Draft {
         Some(self.version())
     }
 
+    #[inline(never)]
     #[tactic(auto, unfolding(crate::specs::Admit::admit))]
     fn header_line(&mut self, fields: &mut Fields) -> Taken
         ensures { TakesLine result self.new self.old (line_at header_line fields.old) }
@@ -35,6 +38,7 @@ impl Draft {
         Some(self.header(form))
     }
 
+    #[inline(never)]
     #[tactic(auto, unfolding(crate::specs::Admit::admit))]
     fn workers_line(&mut self, fields: &mut Fields) -> Taken
         ensures { TakesLine result self.new self.old (line_at workers_line fields.old) }
@@ -44,6 +48,7 @@ impl Draft {
         Some(self.workers(workers))
     }
 
+    #[inline(never)]
     #[tactic(auto, unfolding(crate::specs::Admit::admit))]
     fn tries_line(&mut self, fields: &mut Fields) -> Taken
         ensures { TakesLine result self.new self.old (line_at tries_line fields.old) }
@@ -53,6 +58,7 @@ impl Draft {
         Some(self.tries(tries))
     }
 
+    #[inline(never)]
     #[tactic(auto, unfolding(crate::specs::Admit::admit))]
     fn tidy_line(&mut self, fields: &mut Fields) -> Taken
         ensures { TakesLine result self.new self.old (line_at tidy_line fields.old) }
@@ -62,6 +68,7 @@ impl Draft {
         Some(self.tidy(on))
     }
 
+    #[inline(never)]
     #[tactic(auto, unfolding(crate::specs::Admit::admit))]
     fn start_line(&mut self, fields: &mut Fields) -> Taken
         ensures { TakesLine result self.new self.old (line_at start_line fields.old) }
@@ -71,6 +78,7 @@ impl Draft {
         Some(self.start(start))
     }
 
+    #[inline(never)]
     #[tactic(auto, unfolding(crate::specs::Admit::admit))]
     fn overflow_line(&mut self, fields: &mut Fields) -> Taken
         ensures { TakesLine result self.new self.old (line_at overflow_line fields.old) }
@@ -81,6 +89,7 @@ impl Draft {
         Some(self.overflow(buckets, cells))
     }
 
+    #[inline(never)]
     #[tactic(auto, unfolding(crate::specs::Admit::admit))]
     fn table_line(&mut self, fields: &mut Fields) -> Taken
         ensures { TakesLine result self.new self.old (line_at table_line fields.old) }
@@ -96,6 +105,7 @@ impl Draft {
         Some(self.table(name, width, capacity, ring))
     }
 
+    #[inline(never)]
     #[tactic(auto, unfolding(crate::specs::Admit::admit))]
     fn row_line(&mut self, fields: &mut Fields) -> Taken
         ensures { TakesLine result self.new self.old (line_at row_line fields.old) }
@@ -125,6 +135,7 @@ impl Draft {
         Some(self.get(table, key))
     }
 
+    #[inline(never)]
     #[tactic(auto, unfolding(crate::specs::Admit::admit))]
     fn put_line(&mut self, fields: &mut Fields) -> Taken
         ensures { TakesLine result self.new self.old (line_at put_line fields.old) }
@@ -198,6 +209,7 @@ impl Draft {
         Some(self.end(alloc))
     }
 
+    #[inline(never)]
     #[tactic(auto, unfolding(crate::specs::Admit::admit))]
     fn turns_line(&mut self, alloc: Global, fields: &mut Fields) -> Taken
         ensures { TakesLine result self.new self.old (line_at turns_line fields.old) }
@@ -208,6 +220,7 @@ impl Draft {
         }
     }
 
+    #[inline(never)]
     #[tactic(auto, unfolding(crate::specs::Admit::admit))]
     fn seed_line(&mut self, fields: &mut Fields) -> Taken
         ensures { TakesLine result self.new self.old (line_at seed_line fields.old) }
@@ -289,6 +302,7 @@ impl Draft {
     }
 
     /// Takes the line that fields spell.
+    #[inline(always)]
     #[tactic(auto, unfolding(crate::specs::Lines::line_of))]
     pub fn admit_line(&mut self, alloc: Global, fields: &mut Fields) -> Taken
         ensures { TakesLine result self.new self.old (line_of fields.old) }

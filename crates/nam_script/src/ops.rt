@@ -40,6 +40,7 @@ fn push_stints(stints: &mut List<Stint>, more: &[Stint]) -> Result<(), AllocErro
 }
 
 impl Draft {
+    #[inline(always)]
     pub fn txn(&mut self, worker: Number) -> Result<(), LineEnd>
         ensures { Takes result self.new (admit_txn self.old worker) }
     {
@@ -67,6 +68,7 @@ impl Draft {
         Ok(())
     }
 
+    #[inline(always)]
     pub fn get(&mut self, table: &[u8], key: Number) -> Result<(), LineEnd>
         ensures { Takes result self.new (admit_get self.old table.now key) }
     {
@@ -82,6 +84,7 @@ impl Draft {
         self.push_op(op, 1)
     }
 
+    #[inline(always)]
     pub fn put(&mut self, table: &[u8], key: Number, values: Numbers) -> Result<(), LineEnd>
         ensures { Takes result self.new (admit_put self.old table.now key values) }
     {
@@ -102,6 +105,7 @@ impl Draft {
         self.push_op(op, 1)
     }
 
+    #[inline(always)]
     pub fn add(
         &mut self,
         table: &[u8],
@@ -128,6 +132,7 @@ impl Draft {
         self.push_op(op, 1)
     }
 
+    #[inline(always)]
     pub fn del(&mut self, table: &[u8], key: Number) -> Result<(), LineEnd>
         ensures { Takes result self.new (admit_del self.old table.now key) }
     {
@@ -143,6 +148,7 @@ impl Draft {
         self.push_op(op, 1)
     }
 
+    #[inline(always)]
     pub fn need(
         &mut self,
         table: &[u8],
@@ -168,6 +174,7 @@ impl Draft {
         self.push_op(op, 1)
     }
 
+    #[inline(always)]
     pub fn guard(&mut self, table: &[u8], key: Number) -> Result<(), LineEnd>
         ensures { Takes result self.new (admit_guard self.old table.now key) }
     {
@@ -183,6 +190,7 @@ impl Draft {
         self.push_op(op, 1)
     }
 
+    #[inline(always)]
     pub fn scan(&mut self, table: &[u8], low: Number, high: Number) -> Result<(), LineEnd>
         ensures { Takes result self.new (admit_scan self.old table.now low high) }
     {
@@ -203,6 +211,7 @@ impl Draft {
         self.push_op(op, found.capacity)
     }
 
+    #[inline(always)]
     pub fn end(&mut self, alloc: Global) -> Result<(), LineEnd>
         ensures { Takes result self.new (admit_end self.old) }
     {

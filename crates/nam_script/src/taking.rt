@@ -24,6 +24,7 @@ fn turns_of(stage: Stage, stints: List<Stint>, seed: u64, picks: u32) -> Turns
 
 impl Draft {
     /// Takes the next line.
+    #[inline(always)]
     #[tactic(auto, unfolding(crate::specs::Admit::admit_text))]
     pub fn take(&mut self, alloc: Global, text: &[u8]) -> Result<(), LineEnd>
         ensures { Takes result self.new (admit_text self.old text.now) }

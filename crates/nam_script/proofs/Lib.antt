@@ -25,3 +25,4 @@ pub mod BankLemmas
 pub mod BankLimits
 pub mod GroupingLemmas
 pub mod Printed
+pub mod Signs

@@ -4,12 +4,12 @@ ghost use Rattle.std.specs.Prelude.{◌≡◌, ◌≤◌, length, Option, IfOk, 
 ghost use Rattle.std.specs.List.{position};
 ghost use Rattle.nam_text.specs.Token.{number_of};
 ghost use Rattle.nam_text.specs.Read.{Reads, field_at, some_read};
-ghost use Rattle.nam_script.specs.Lines.{form, switch, change, change_of, stint_of};
+ghost use Rattle.nam_script.specs.Lines.{form, switch, change, stint_of};
 
 use crate::line::{Change, Numbers, SpeltStint};
 use lists::List;
 use nam_catalog::Form;
-use nam_text::{Fields, find_byte, is_word, number};
+use nam_text::{Fields, find_byte, is_word, number, number_at};
 use std::alloc::{AllocError, Global};
 
 #[tactic(auto, unfolding(nam_text::specs::Read::field_at))]
@@ -42,29 +42,23 @@ pub fn switch_at(fields: &mut Fields) -> Option<bool>
     }
 }
 
-#[tactic(auto, unfolding(crate::specs::Lines::change_of))]
-fn change(field: &[u8]) -> Option<Change>
-    ensures { result ≡ change_of field.now }
+/// A sign and a number. There is no -0.
+#[inline(always)]
+#[tactic(auto, using(crate::proofs::Signs::signs))]
+pub fn change_at(fields: &mut Fields) -> Option<Change>
+    ensures { Reads result fields.new (field_at change.read fields.old) }
 {
-    match field {
-        [b'+', digits @ ..] => Some(Change {
+    match fields.next_byte()? {
+        b'+' => Some(Change {
             up: true,
-            by: number(digits)?,
+            by: number_at(fields)?,
         }),
-        [b'-', digits @ ..] => match number(digits)? {
+        b'-' => match number_at(fields)? {
             Some(0) => None,
             by => Some(Change { up: false, by }),
         },
         _ => None,
     }
-}
-
-/// A sign and a number. There is no -0.
-#[tactic(auto, unfolding(nam_text::specs::Read::field_at))]
-pub fn change_at(fields: &mut Fields) -> Option<Change>
-    ensures { Reads result fields.new (field_at change.read fields.old) }
-{
-    change(fields.next()?)
 }
 
 /// One to eight numbers, and nothing after them.

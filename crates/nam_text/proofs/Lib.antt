@@ -6,3 +6,4 @@ pub mod Spellings
 pub mod KindLemmas
 pub mod Digits
 pub mod Leading
+pub mod FirstBytes

@@ -19,6 +19,12 @@ field_at read (f ∷ fs) = do
   x ← read f
   Some (x, fs)
 
+-- the first byte of the next field, and the fields with what is left of that one
+unfoldable pub byte_at : List (List ℕ) → Option (ℕ × List (List ℕ))
+byte_at [] = None
+byte_at ([] ∷ fs) = None
+byte_at ((b ∷ field) ∷ fs) = Some (b, field ∷ fs)
+
 -- no field is left
 abbrev pub done : List (List ℕ) → Option (Unit {0})
 done [] = Some tt

@@ -5,7 +5,7 @@ ghost use Rattle.std.specs.List.{position};
 ghost use Rattle.std.specs.Option.{option_copied};
 ghost use Rattle.nam_text.specs.Token.{number_of, is_name};
 ghost use Rattle.nam_text.specs.Fields.{fields_of, fields_left, lines_of};
-ghost use Rattle.nam_text.specs.Read.{field_at};
+ghost use Rattle.nam_text.specs.Read.{Reads, byte_at, field_at};
 ghost use Rattle.nam_text.specs.Spelling.{IsPlain};
 
 use crate::token::{is_led, leading_digits, leading_name};
@@ -85,6 +85,23 @@ impl<'a> Fields<'a> {
                 Some(line)
             }
         }
+    }
+
+    /// The first byte of the next field, whose rest is the next field then. None where no field is left or it is empty.
+    #[tactic(auto, using(crate::proofs::FirstBytes::first_byte), unfolding(crate::specs::Read::byte_at))]
+    pub fn next_byte(&mut self) -> Option<u8>
+        ensures { Reads result self.new (byte_at self.old) }
+    {
+        let line = self.rest?;
+        if line.is_empty() {
+            return None;
+        }
+        let byte = line[0];
+        if byte == b' ' {
+            return None;
+        }
+        self.rest = Some(&line[1..]);
+        Some(byte)
     }
 
     /// The number in the next field, where that is one of fewer than 20 digits, read in one pass. Else None, and no

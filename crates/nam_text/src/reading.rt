@@ -70,6 +70,7 @@ pub fn table_name(text: &[u8]) -> TableName
 }
 
 /// Is no field left?
+#[inline(always)]
 pub fn done(fields: &mut Fields) -> Option<()>
     ensures { result ≡ done fields.old }
 {

@@ -27,6 +27,10 @@ fn fields_are_read(rt: HostRuntime) {
     assert!(rt; number_at(&mut fields) == Some(None));
     assert!(rt; number_at(&mut fields).is_none());
     assert!(rt; fields.next().is_none());
+    let mut signed = Fields::new(b"+7  ");
+    assert!(rt; signed.next_byte() == Some(b'+'));
+    assert!(rt; number_at(&mut signed) == Some(Some(7)));
+    assert!(rt; signed.next_byte().is_none());
 }
 
 #[test]

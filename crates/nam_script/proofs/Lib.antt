@@ -26,3 +26,4 @@ pub mod BankLimits
 pub mod GroupingLemmas
 pub mod Printed
 pub mod Signs
+pub mod FirstWords

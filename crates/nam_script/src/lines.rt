@@ -1,6 +1,7 @@
 //! The lines of a script, each read from its fields and taken at once. The lines of transactions are most of a script:
 //! they are read within the loop over all lines, and what settings and values need stays out of it.
 
+ghost use Rattle.nam_text.specs.Fields.{fields_of};
 ghost use Rattle.nam_text.specs.Kinds.{line_at};
 ghost use Rattle.nam_script.specs.Lines.{version_line, header_line, workers_line, tries_line, tidy_line, start_line};
 ghost use Rattle.nam_script.specs.Lines.{overflow_line, table_line, row_line, txn_line, get_line, put_line, add_line};
@@ -116,6 +117,7 @@ impl Draft {
         Some(self.row(table, key, values))
     }
 
+    #[inline(always)]
     #[tactic(auto, unfolding(crate::specs::Admit::admit))]
     fn txn_line(&mut self, fields: &mut Fields) -> Taken
         ensures { TakesLine result self.new self.old (line_at txn_line fields.old) }
@@ -125,6 +127,7 @@ impl Draft {
         Some(self.txn(worker))
     }
 
+    #[inline(always)]
     #[tactic(auto, unfolding(crate::specs::Admit::admit))]
     fn get_line(&mut self, fields: &mut Fields) -> Taken
         ensures { TakesLine result self.new self.old (line_at get_line fields.old) }
@@ -146,6 +149,7 @@ impl Draft {
         Some(self.put(table, key, values))
     }
 
+    #[inline(always)]
     #[tactic(auto, unfolding(crate::specs::Admit::admit))]
     fn add_line(&mut self, fields: &mut Fields) -> Taken
         ensures { TakesLine result self.new self.old (line_at add_line fields.old) }
@@ -168,6 +172,7 @@ impl Draft {
         Some(self.del(table, key))
     }
 
+    #[inline(always)]
     #[tactic(auto, unfolding(crate::specs::Admit::admit))]
     fn need_line(&mut self, fields: &mut Fields) -> Taken
         ensures { TakesLine result self.new self.old (line_at need_line fields.old) }
@@ -201,6 +206,7 @@ impl Draft {
         Some(self.scan(table, low, high))
     }
 
+    #[inline(always)]
     #[tactic(auto, unfolding(crate::specs::Admit::admit))]
     fn end_line(&mut self, alloc: Global, fields: &mut Fields) -> Taken
         ensures { TakesLine result self.new self.old (line_at end_line fields.old) }
@@ -301,13 +307,36 @@ impl Draft {
         }
     }
 
-    /// Takes the line that fields spell.
-    #[inline(always)]
+    /// Takes the line that fields spell, of any kind.
+    #[inline(never)]
     #[tactic(auto, unfolding(crate::specs::Lines::line_of))]
-    pub fn admit_line(&mut self, alloc: Global, fields: &mut Fields) -> Taken
+    fn admit_fields(&mut self, alloc: Global, fields: &mut Fields) -> Taken
         ensures { TakesLine result self.new self.old (line_of fields.old) }
     {
         let word = fields.next()?;
         self.admit_word(alloc, word, fields)
+    }
+
+    /// Takes the line that a text spells. Most lines are of transactions, so their words come first.
+    #[inline(always)]
+    #[tactic(auto, using(crate::proofs::FirstWords::first_words))]
+    pub fn admit_line(&mut self, alloc: Global, text: &[u8]) -> Taken
+        ensures { TakesLine result self.new self.old (line_of (fields_of text.now)) }
+    {
+        let mut fields = Fields::new(text);
+        let word = fields.next()?;
+        if is_word(word, b"add") {
+            self.add_line(&mut fields)
+        } else if is_word(word, b"need") {
+            self.need_line(&mut fields)
+        } else if is_word(word, b"get") {
+            self.get_line(&mut fields)
+        } else if is_word(word, b"txn") {
+            self.txn_line(&mut fields)
+        } else if is_word(word, b"end") {
+            self.end_line(alloc, &mut fields)
+        } else {
+            self.admit_fields(alloc, &mut Fields::new(text))
+        }
     }
 }

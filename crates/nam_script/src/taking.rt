@@ -9,7 +9,6 @@ use crate::refusal::{Kind, LineEnd};
 use crate::script::{Script, Stint, Turns};
 use crate::stage::Stage;
 use lists::List;
-use nam_text::Fields;
 use std::alloc::Global;
 
 fn turns_of(stage: Stage, stints: List<Stint>, seed: u64, picks: u32) -> Turns
@@ -29,7 +28,7 @@ impl Draft {
     pub fn take(&mut self, alloc: Global, text: &[u8]) -> Result<(), LineEnd>
         ensures { Takes result self.new (admit_text self.old text.now) }
     {
-        match self.admit_line(alloc, &mut Fields::new(text)) {
+        match self.admit_line(alloc, text) {
             Some(taken) => taken,
             None => Err(LineEnd::Bad(Kind::Word)),
         }

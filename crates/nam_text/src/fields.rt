@@ -70,6 +70,7 @@ impl<'a> Fields<'a> {
     }
 
     /// The next field, where one is left.
+    #[inline(always)]
     #[tactic(auto, using(crate::proofs::Splits::split_at_position, crate::proofs::Splits::split_no_position))]
     pub fn next(&mut self) -> Option<&'a [u8]>
         ensures { MatchOption result ((self.old ≡ []) × (self.new ≡ [])) (λ field. self.old ≡ field.now ∷ self.new) }
@@ -88,6 +89,7 @@ impl<'a> Fields<'a> {
     }
 
     /// The first byte of the next field, whose rest is the next field then. None where no field is left or it is empty.
+    #[inline(always)]
     #[tactic(auto, using(crate::proofs::FirstBytes::first_byte), unfolding(crate::specs::Read::byte_at))]
     pub fn next_byte(&mut self) -> Option<u8>
         ensures { Reads result self.new (byte_at self.old) }
@@ -106,6 +108,7 @@ impl<'a> Fields<'a> {
 
     /// The number in the next field, where that is one of fewer than 20 digits, read in one pass. Else None, and no
     /// field is taken.
+    #[inline(always)]
     #[tactic(auto, unfolding(crate::specs::Read::field_at), using(crate::proofs::Leading::leading_number, crate::proofs::Leading::leading_plain))]
     pub(crate) fn next_short_number(&mut self) -> Option<u64>
         ensures some { IfSome result (λ number. field_at number_of self.old ≡ Some (Some number, self.new)) }
@@ -121,6 +124,7 @@ impl<'a> Fields<'a> {
     }
 
     /// The next field, where that is a name, read in one pass. Else None, and no field is taken.
+    #[inline(always)]
     #[tactic(auto, unfolding(crate::specs::Read::field_at), using(crate::proofs::Leading::leading_name_plain))]
     pub(crate) fn next_name(&mut self) -> Option<&'a [u8]>
         ensures some { IfSome result (λ field. self.old ≡ field.now ∷ self.new) }

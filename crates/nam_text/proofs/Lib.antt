@@ -7,3 +7,4 @@ pub mod KindLemmas
 pub mod Digits
 pub mod Leading
 pub mod FirstBytes
+pub mod Newlines

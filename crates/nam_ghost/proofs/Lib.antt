@@ -1,5 +1,6 @@
 pub mod Runs
 mod RunsLemmas
+pub mod RowLemmas
 pub mod CommitExample
 pub mod MoveExample
 pub mod Small

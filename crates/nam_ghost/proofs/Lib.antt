@@ -7,8 +7,9 @@ pub mod Small
 mod ClaimsExample
 mod ViewsExample
 mod ReadsExample
-mod UpkeepExample
+pub mod UpkeepExample
 mod OriginsExample
 mod KeysExample
 pub mod LawExample
 mod LawsExample
+mod EdgesExample

@@ -123,7 +123,7 @@ overflowed_13 : IsOverflowed narrow_shape (chains 13) (rings 13) (m 13) (cells 1
 unfolding turns copies load_from number_by
 overflowed_13 = inl (0, omega arith, omega arith, refl)
 
-abbrev is_stored : Cell → Bool
+abbrev pub is_stored : Cell → Bool
 is_stored (Stores row number) = true
 is_stored cell = false
 

@@ -1,5 +1,6 @@
 -- Each step of a store keeps what holds of it whatever else its words say.
-use Rattle.std.proofs.Common.{List, Some, arith, false, length, length-set, subst, sym, ℕ, ◌==◌, ◌∙◌, ◌≡◌}
+use Rattle.std.proofs.Common.{List, None, Some, arith, false, length, length-set, subst, ℕ, ◌+◌, ◌<◌, ◌==◌, ◌∙◌, ◌≡◌}
+use Rattle.std.proofs.lemmas.Option.{slice_get_within}
 use Rattle.std.specs.Prelude.{slice_index, slice_set}
 use Rattle.nam_verbs.specs.declared.now.Now.TheVariants.{At}
 use Rattle.nam_verbs.specs.Verb.{after_verb}
@@ -15,17 +16,23 @@ use Rattle.nam_protocol.specs.declared.client.Call.{Call}
 use Rattle.nam_protocol.specs.declared.client.CallPoint.{CallPoint}
 use Rattle.nam_protocol.specs.declared.client.ClientState.{ClientState}
 use Rattle.nam_protocol.specs.HoldsWords.{CallHolds}
-use Rattle.nam_protocol.specs.Own.{MayAsk, Rests}
+use Rattle.nam_protocol.specs.Own.{MayAsk, OwnOpen, Rests}
+use Rattle.nam_protocol.specs.Client.{client_after, client_ask}
+use Rattle.nam_protocol.specs.Sorts.{AskOf, StepOf}
 use Rattle.nam_protocol.proofs.HoldsVerbs.{client_writes}
+use Rattle.nam_protocol.proofs.SortsLemmas.{ask_sort, word_sort}
 use Rattle.nam_store.specs.Base.{BaseOk, ClientOk}
 use Rattle.nam_store.specs.BaseLaw.{KeepsLaw}
-use Rattle.nam_store.specs.Changed.{Does}
-use Rattle.nam_store.specs.Store.{Abandons, Asks, Cuts, Store, StepsTo, Takes, abandon, ask, client_at, cut, found_word}
+use Rattle.nam_store.specs.Changed.{OthersStay, written_of}
+use Rattle.nam_store.specs.Kinds.{Writes}
+use Rattle.nam_store.specs.Store.{Abandons, Asks, Cuts, Store, Takes, abandon, ask, client_at, cut, found_word}
 use Rattle.nam_store.specs.Store.{next_verb, step, with_client}
 use Rattle.nam_store.specs.StoreLaw.{DoesLaw}
 use Rattle.nam_store.proofs.ClientLemmas.{client_abandons, client_asked, client_stops, client_takes}
-use Rattle.nam_store.proofs.Lists.{everyone_put}
-use Rattle.nam_store.proofs.StepLemmas.{client_does, verb_stands}
+use Rattle.nam_store.proofs.KindsLemmas.{AllWritten, written_may}
+use Rattle.nam_store.proofs.Lists.{everyone_put, some_within}
+use Rattle.nam_store.proofs.StepLemmas.{read_leaves, verb_at_field, verb_changed, verb_leaves, verb_stands}
+use Rattle.nam_store.proofs.StepLemmas.{verb_whole, written_is}
 
 -- 1. Words
 
@@ -46,15 +53,52 @@ module _ (shape : Shape) (words : List ℕ) (all : AreWords words) where
 
 -- 2. A store
 
+-- each worker has a client
+pub client_of : (shape : Shape) (store : Store) → BaseOk shape store → (nth : ℕ) → nth < shape.workers
+    → (client : ClientState) × (client_at store nth ≡ Some client)
+client_of shape store base nth less =
+    let same = base.workers in some_within store.clients nth (omega arith)
+
 -- what a client's verb does to the words
 pub does_law : DoesLaw
 does_law shape store base nth client place here at =
-    client_does shape client place at base.limits (base.clients nth client here).fits store nth base.whole
+    let ok = base.clients nth client here in
+    let verb = next_verb shape client in
+    let is = verb_at_field shape client place at base.limits ok.fits in
+    let leaves = subst (OthersStay shape (memory shape store.words) (memory shape (step shape store nth client).words))
+    (written_is shape client place at) (verb_leaves shape store.words verb base.whole is) in
+    let own = subst (λ w. OwnOpen w client.last client.log.snaps client.txn) ok.own.worker_is ok.own.opened in
+    record {
+      at_field = is;
+      changes = verb_changed shape store.words verb base.whole is;
+      leaves = leaves;
+      kinds = λ field of_shape unwritten.
+          leaves field of_shape (λ (same : written_of shape client ≡ Some field).
+          unwritten (subst (AllWritten (Writes (nth + 1) client)) same
+          (written_may shape (nth + 1) client place at own)));
+      whole = verb_whole shape store.words verb base.whole is;
+    }
 
 module _ (shape : Shape) (store : Store) (base : BaseOk shape store) (nth : ℕ) (client : ClientState)
     (here : client_at store nth ≡ Some client) where
   ok : ClientOk shape nth client
   ok = base.clients nth client here
+
+  pub client_within : nth < shape.workers
+  client_within = let within = slice_get_within store.clients nth client here in let same = base.workers in omega arith
+
+  -- of which sort its step is, and what it is asked
+  pub step_sort : (place : CallPoint) → client.call ≡ Some (At place)
+      → let found = found_word shape store client in StepOf shape found client (client_after shape client found)
+  step_sort place at = word_sort shape (found_word shape store client) client place ok.fits at
+
+  pub asked_sort : (asked : Call) → MayAsk shape client asked → AskOf shape client (client_ask shape client asked)
+  asked_sort asked may = ask_sort shape client asked may.fits
+
+  -- where its point only reads, all words stay
+  pub words_stay : (place : CallPoint) → client.call ≡ Some (At place) → written_of shape client ≡ None
+      → (step shape store nth client).words ≡ store.words
+  words_stay place at none = read_leaves shape store.words _ (written_is shape client place at ∙ none)
 
   -- the words are others, or the client
   moved : (words : List ℕ) (later : ClientState) → length words ≡ length store.words → AreWords words
@@ -71,9 +115,10 @@ module _ (shape : Shape) (store : Store) (base : BaseOk shape store) (nth : ℕ)
       → BaseOk shape (step shape store nth client)
   base_step place runs at =
       let verb = next_verb shape client in
-      let stands = verb_stands shape client place at runs in
+      let writes = client_writes shape base.limits client verb ok.fits ok.holds (verb_stands shape client place at runs)
+      in
       moved _ _ (does_law shape store base nth client place here at).whole
-      (left_hold shape store.words base.words verb (client_writes shape base.limits client verb ok.fits ok.holds stands))
+      (left_hold shape store.words base.words verb writes)
       (client_takes shape base.limits nth client ok place (found_word shape store client) runs at
       (found_holds shape store.words base.words verb))
 
@@ -91,6 +136,8 @@ module _ (shape : Shape) (store : Store) (base : BaseOk shape store) (nth : ℕ)
   pub base_cut : BaseOk shape (cut store nth client)
   base_cut =
       moved store.words _ (λ k. length store.words) base.words (client_stops shape base.limits nth client ok)
+
+-- 3. One step
 
 pub base_keeps : KeepsLaw
 base_keeps shape before _ (Takes nth client place here runs at) base =

@@ -1,7 +1,7 @@
 -- Lists in which one element was put in place of another, and functions that were changed at one number.
-use Rattle.std.proofs.Common.{List, Some, [], ap, arith, inl, inr, refl, subst, suc, sym, zero, ⊎_elim, ℕ, ◌≡◌, ◌≢◌, ◌⊎◌}
-use Rattle.std.proofs.Common.{◌∷◌}
-use Rattle.std.specs.Prelude.{◌==◌, slice_get, slice_set}
+use Rattle.std.proofs.Common.{List, Some, [], ap, arith, inl, inr, refl, subst, suc, sym, zero, ⊎_elim}
+use Rattle.std.proofs.Common.{ℕ, ◌∷◌, ◌≡◌, ◌≢◌, ◌⊎◌}
+use Rattle.std.specs.Prelude.{◌<◌, ◌==◌, length, slice_get, slice_set}
 use Rattle.std.proofs.lemmas.Bool.{cond_both, eqb-false, eqb-true}
 use Rattle.std.proofs.lemmas.Option.{none-some, same_Some}
 use Rattle.nam_store.specs.Everyone.{Everyone, Someone, put}
@@ -35,6 +35,22 @@ module _ {A : Type 0} where
       (λ (t : (other ≢ nth) × (slice_get xs other ≡ Some z)). let apart = t.0 in
       inr ((λ same. apart (omega arith)), t.1))
       (get_cases xs nth other y z e)
+
+  pub set_twice : (xs : List A) (nth : ℕ) (x y : A) → slice_set (slice_set xs nth x) nth y ≡ slice_set xs nth y
+  set_twice [] nth x y = refl
+  set_twice (a ∷ xs) zero x y = refl
+  set_twice (a ∷ xs) (suc nth) x y = ap (λ ys. a ∷ ys) (set_twice xs nth x y)
+
+  -- by what it was
+  pub set_same : (xs : List A) (nth : ℕ) (x : A) → slice_get xs nth ≡ Some x → slice_set xs nth x ≡ xs
+  set_same [] nth x e = refl
+  set_same (a ∷ xs) zero x e = ap (λ b. b ∷ xs) (sym (same_Some a x e))
+  set_same (a ∷ xs) (suc nth) x e = ap (λ ys. a ∷ ys) (set_same xs nth x e)
+
+  pub some_within : (xs : List A) (nth : ℕ) → nth < length xs → (x : A) × (slice_get xs nth ≡ Some x)
+  some_within [] nth less = absurd (omega arith)
+  some_within (a ∷ xs) zero less = (a, refl)
+  some_within (a ∷ xs) (suc nth) less = some_within xs nth (omega arith)
 
   -- 2. All elements, and some element
 

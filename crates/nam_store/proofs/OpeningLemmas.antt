@@ -3,17 +3,15 @@ use Rattle.std.proofs.Common.{List, Some, [], ap, arith, length, refl, subst, su
 use Rattle.std.specs.Prelude.{false, slice_get}
 use Rattle.std.proofs.lemmas.Option.{none-some, same_Some}
 use Rattle.si_model.specs.declared.row.Row.{Row}
-use Rattle.si_model.specs.declared.op.Policy.{Policy}
 use Rattle.nam_catalog.specs.declared.shape.Shape.{Shape}
-use Rattle.nam_catalog.specs.Fits.{FitsLimits}
 use Rattle.nam_protocol.specs.declared.client.ClientState.{ClientState}
 use Rattle.nam_protocol.specs.Telling.{new_client}
 use Rattle.nam_protocol.proofs.HoldsOpening.{new_world_holds}
 use Rattle.nam_protocol.proofs.OpeningLemmas.{opening_law}
 use Rattle.nam_store.specs.Base.{ClientOk}
 use Rattle.nam_store.specs.BaseLaw.{OpensLaw}
-use Rattle.nam_store.specs.Everyone.{Everyone}
-use Rattle.nam_store.specs.Opening.{new_clients}
+use Rattle.nam_store.specs.Opening.{new_clients, opening_store}
+use Rattle.nam_store.specs.Store.{client_at}
 use Rattle.nam_store.proofs.ClientLemmas.{client_new}
 
 -- 1. New clients
@@ -37,6 +35,12 @@ new_at start worker (suc n) (suc nth) client e =
 
 -- 2. The opening
 
+-- each client there is new
+pub opening_client : (shape : Shape) (rows : List Row) (nth : ℕ) (client : ClientState)
+    → client_at (opening_store shape rows) nth ≡ Some client
+    → (nth < shape.workers) × (client ≡ new_client (nth + 1) shape.start)
+opening_client shape rows nth client e = new_at shape.start 1 shape.workers nth client e
+
 pub opening_ok : OpensLaw
 opening_ok shape limits rows loaded = record {
   limits = limits;
@@ -44,6 +48,6 @@ opening_ok shape limits rows loaded = record {
   words = (new_world_holds shape limits rows record { tries = 1; tidy = false } [] loaded.words tt).0;
   workers = new_workers shape.start 1 shape.workers;
   clients = λ nth client e.
-      let t = new_at shape.start 1 shape.workers nth client e in
+      let t = opening_client shape rows nth client e in
       subst (ClientOk shape nth) (sym t.1) (client_new shape limits nth t.0);
 }

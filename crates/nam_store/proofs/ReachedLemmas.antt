@@ -8,6 +8,7 @@ use Rattle.nam_store.specs.BaseLaw.{ReachedLaw}
 use Rattle.nam_store.specs.Opening.{AreLoaded, opening_store}
 use Rattle.nam_store.specs.Reached.{GhostStep, IsReached, Opened, Reached, Stepped, no_ghost}
 use Rattle.nam_store.specs.Store.{Store, StepsTo}
+use Rattle.nam_store.specs.Turns.{Goes, Stays, StepsOn}
 use Rattle.nam_store.proofs.BaseLemmas.{base_keeps}
 use Rattle.nam_store.proofs.OpeningLemmas.{opening_ok}
 
@@ -53,6 +54,22 @@ module _ {G : Type 0} (shape : Shape) (rows : List Row) (first : G) (next : Ghos
       → IsReached shape rows store
   ghost_leaves _ _ Opened = Opened
   ghost_leaves _ _ (Stepped before after ghost was goes) = Stepped before after tt (ghost_leaves before ghost was) goes
+
+-- 3. Steps one after another
+
+pub path_keeps : (shape : Shape) (first : Store) (P : Store → Type 0)
+    → ((before after : Store) → StepsTo shape before after → P before → P after) → P first → (after : Store)
+    → StepsOn shape first after → P after
+path_keeps shape first P kept p _ Stays = p
+path_keeps shape first P kept p _ (Goes before after was goes) =
+    kept before after goes (path_keeps shape first P kept p before was)
+
+-- they lead from a store that comes about to such stores
+pub path_reached : (shape : Shape) (rows : List Row) (first after : Store) → StepsOn shape first after
+    → IsReached shape rows first → IsReached shape rows after
+path_reached shape rows first after path reached =
+    path_keeps shape first (IsReached shape rows)
+    (λ before later goes was. Stepped before later tt was goes) reached after path
 
 pub reached_law : ReachedLaw
 reached_law shape limits rows loaded store reached =

@@ -1,5 +1,5 @@
 -- What a client's step does to the words, and that it is its verb.
-use Rattle.std.proofs.Common.{Bool, None, Option, Some, ap, false, length, refl, subst, sym, true, ℕ, List, ◌∙◌, ◌≡◌, ◌≢◌}
+use Rattle.std.proofs.Common.{Bool, None, Option, Some, ap, false, length, refl, subst, sym, true, ℕ, List, ◌∙◌, ◌≡◌}
 use Rattle.std.specs.Prelude.{if◌then◌else◌}
 use Rattle.std.proofs.Common.{length-set}
 use Rattle.std.proofs.lemmas.Option.{none-some, same_Some}
@@ -18,16 +18,13 @@ use Rattle.nam_calls.proofs.MemoryLemmas.{verb_changes}
 use Rattle.nam_protocol.specs.declared.client.Answer.{Answer}
 use Rattle.nam_protocol.specs.declared.client.CallPoint.{CallPoint}
 use Rattle.nam_protocol.specs.declared.client.ClientState.{ClientState}
-use Rattle.nam_protocol.specs.CallWrites.{call_writes}
 use Rattle.nam_protocol.specs.Client.{call_verb, client_after, client_verb, verb_of}
 use Rattle.nam_protocol.specs.ClientFits.{ClientFits}
 use Rattle.nam_protocol.specs.FieldLaw.{IsAtField}
-use Rattle.nam_protocol.specs.Sorts.{StepOf}
 use Rattle.nam_protocol.proofs.CallWrites.{call_written}
 use Rattle.nam_protocol.proofs.FieldLemmas.{call_fields}
-use Rattle.nam_protocol.proofs.SortsLemmas.{word_sort}
-use Rattle.nam_store.specs.Changed.{Changed, Does, OthersStay}
-use Rattle.nam_store.specs.Store.{Abandons, Asks, Cuts, Store, StepsTo, Takes, client_at, found_word, next_verb, step, verb_at}
+use Rattle.nam_store.specs.Changed.{Changed, OthersStay, written_at, written_of}
+use Rattle.nam_store.specs.Store.{Abandons, Asks, Cuts, Store, StepsTo, Takes, client_at, next_verb, step, verb_at}
 use Rattle.nam_store.specs.Store.{with_client}
 use Rattle.nam_store.specs.StoreLaw.{ChangesOne, OthersLaw, StepByLaw, done_by}
 use Rattle.nam_store.proofs.Lists.{get_beside}
@@ -65,6 +62,12 @@ module _ (shape : Shape) (words : List ℕ) where
   verb_leaves (ExchangeAt at expect word) whole is field of_shape other =
       (verb_changed (ExchangeAt at expect word) whole is).others field of_shape (λ same. other (ap Some (sym same)))
 
+  -- a read changes nothing
+  pub read_leaves : (verb : VerbAt Field) → written_by verb ≡ None → after_verb words (verb_there shape verb) ≡ words
+  read_leaves (ReadAt at) none = refl
+  read_leaves (WriteAt at word) none = absurd (none-some at (sym none))
+  read_leaves (ExchangeAt at expect word) none = absurd (none-some at (sym none))
+
 -- 2. The verb of a client's point
 
 module _ (shape : Shape) (client : ClientState) (place : CallPoint) (at : client.call ≡ Some (At place)) where
@@ -72,8 +75,10 @@ module _ (shape : Shape) (client : ClientState) (place : CallPoint) (at : client
   verb_is = ap (λ (call : Option (Now CallPoint Answer)). verb_at shape client call) at
 
   -- which field it may change
-  pub written_is : written_by (next_verb shape client) ≡ call_writes shape client place
-  written_is = ap (λ (verb : VerbAt Field). written_by verb) verb_is ∙ call_written shape client place
+  pub written_is : written_by (next_verb shape client) ≡ written_of shape client
+  written_is =
+      ap (λ (verb : VerbAt Field). written_by verb) verb_is ∙ call_written shape client place
+      ∙ ap (λ (call : Option (Now CallPoint Answer)). written_at shape client call) (sym at)
 
   -- it stands, where the client isn't cut
   pub verb_stands : client.cut ≡ false → client_verb shape client ≡ Some (next_verb shape client)
@@ -84,23 +89,6 @@ module _ (shape : Shape) (client : ClientState) (place : CallPoint) (at : client
   module _ (limits : FitsLimits shape) (fits : ClientFits shape client) where
     pub verb_at_field : IsAtField shape (next_verb shape client)
     verb_at_field = subst (IsAtField shape) (sym verb_is) (call_fields shape limits client place fits at)
-
-    module _ (store : Store) (nth : ℕ) (whole : length store.words ≡ words_of shape) where
-      pub client_does : Does shape store nth client place
-      client_does =
-          let verb = next_verb shape client in record {
-            at_field = verb_at_field;
-            changes = verb_changed shape store.words verb whole verb_at_field;
-            leaves =
-                subst (OthersStay shape (memory shape store.words) (memory shape (step shape store nth client).words))
-                written_is (verb_leaves shape store.words verb whole verb_at_field);
-            whole = verb_whole shape store.words verb whole verb_at_field;
-          }
-
-      -- and of which sort it is
-      pub client_sort : let found = found_word shape store client in
-          StepOf shape found client (client_after shape client found)
-      client_sort = word_sort shape (found_word shape store client) client place fits at
 
 -- 3. A verb that stands is that of the client's point
 

@@ -1,5 +1,5 @@
--- What holds of a store whatever else its words say: how many there are, that each is one, and what each client keeps by
--- itself.
+-- What holds of a store whatever else its words say: how many they are, that each is below 2^64, and what each client
+-- keeps by itself.
 use Rattle.std.specs.Prelude.{◌≡◌, ℕ, ◌+◌, length}
 use Rattle.nam_catalog.specs.declared.shape.Shape.{Shape}
 use Rattle.nam_catalog.specs.Fits.{FitsLimits}
@@ -13,9 +13,9 @@ use Rattle.nam_protocol.specs.Own.{OpenClient, OwnOk, StageClient, UnreadClient}
 use Rattle.nam_store.specs.Everyone.{Everyone}
 use Rattle.nam_store.specs.Store.{Store}
 
--- the nth client by itself: it is its worker's, each point fits, a transaction is open exactly for its calls, its commit's
--- point says so much, nothing that was read is at hand but to its call, it has what its call has found, and all that it
--- may still write is below 2^64
+-- The nth client by itself: it is its worker's, its point fits, a transaction is open exactly for its calls, its
+-- commit's point says so much, nothing that was read is at hand but to its call, it has what its call has found, and
+-- all that it may still write is below 2^64.
 pub record ClientOk (shape : Shape) (nth : ℕ) (client : ClientState) : Type 0 where
   pub own : OwnOk shape (nth + 1) client
   pub fits : ClientFits shape client

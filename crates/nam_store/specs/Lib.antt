@@ -1,8 +1,11 @@
 pub mod Everyone
 pub mod Store
+pub mod Kinds
 pub mod Changed
 pub mod Opening
 pub mod Reached
 pub mod Base
 pub mod StoreLaw
 pub mod BaseLaw
+pub mod LoadedLaw
+pub mod Turns

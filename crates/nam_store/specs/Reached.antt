@@ -1,4 +1,4 @@
--- The stores that come about from an opening, whatever its clients do one after another, and what is said along of them.
+-- The stores that come about from an opening, whatever their clients do one after another, and ghosts that go along.
 use Rattle.std.specs.Prelude.{ℕ, List, [], ◌∷◌, ◌++◌}
 use Rattle.si_model.specs.declared.row.Row.{Row}
 use Rattle.nam_catalog.specs.declared.shape.Shape.{Shape}

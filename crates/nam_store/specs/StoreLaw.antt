@@ -28,7 +28,7 @@ StepByLaw = (shape : Shape) (store : Store) (nth : ℕ) (client : ClientState) (
 -- what the verb does, seen by fields
 abbrev pub DoesLaw : Type 0
 DoesLaw = (shape : Shape) (store : Store) → BaseOk shape store → (nth : ℕ) (client : ClientState) (place : CallPoint)
-    → client_at store nth ≡ Some client → client.call ≡ Some (At place) → Does shape store nth client place
+    → client_at store nth ≡ Some client → client.call ≡ Some (At place) → Does shape store nth client
 
 -- one client alone is changed by a step
 pub record ChangesOne (before after : Store) : Type 0 where

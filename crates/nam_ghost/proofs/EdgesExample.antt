@@ -7,7 +7,7 @@ use Rattle.nam_calls.specs.declared.record.InstallPoint.TheVariants.{InstallCoun
 use Rattle.nam_catalog.specs.declared.form.Form.TheVariants.{Narrow}
 use Rattle.nam_ghost.proofs.CommitExample.{commits}
 use Rattle.nam_ghost.proofs.MoveExample.{collects, first, narrow_shape, second, third, tidies}
-use Rattle.nam_ghost.proofs.Runs.{Calls, Seen, Turns, after_deeds, chain, client_of, stamp, turns, version}
+use Rattle.nam_ghost.proofs.Runs.{Calls, Seen, Turns, after_deeds, chain, client_of, stamp, turns}
 use Rattle.nam_ghost.proofs.Small.{below_1, fits_by, of_none, of_some}
 use Rattle.nam_ghost.proofs.UpkeepExample.{is_stored}
 use Rattle.nam_ghost.specs.Cells.{InCell, IsEnded}
@@ -32,7 +32,7 @@ use Rattle.si_model.specs.Lists.{Pairwise}
 use Rattle.std.proofs.Common.{List, None, Some, [], ap, arith, false, inl, inr, map, refl, suc, true, zero, ℕ, ◌<◌}
 use Rattle.std.proofs.Common.{◌∷◌, ◌≡◌, ◌≤◌}
 use Rattle.std.specs.Prelude.{slice_index}
-use Rattle.std.proofs.lemmas.Bool.{false≢true, true≢false}
+use Rattle.std.proofs.lemmas.Bool.{false≢true}
 
 abbrev m : Seen → Field → ℕ
 m seen = memory narrow_shape seen.store.words
@@ -182,8 +182,12 @@ LateSo at = ReadOkAt narrow_shape (late 5).ghost.chains (late 5).ghost.rings (m 
 
 at_horizon : LateSo (ReadHorizon 1)
 unfolding turns copies load_from number_by
-at_horizon = (0, first, (wanted, omega arith),
-    ((omega arith, omega arith, omega arith), (1, omega arith, omega arith, omega arith, omega arith)))
+at_horizon = (
+  0,
+  first,
+  (wanted, omega arith),
+  ((omega arith, omega arith, omega arith), (1, omega arith, omega arith, omega arith, omega arith)),
+)
 
 too_old : ReadEndsAs narrow_shape (late 5).ghost.chains (late 5).ghost.rings (m (late 5)) (late 5).ghost.cells
     (0 ∷ 0 ∷ []) 0 (Over (Passed 1 0 2))

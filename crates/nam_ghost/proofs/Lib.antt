@@ -1,6 +1,7 @@
 pub mod Runs
 mod RunsLemmas
 pub mod RowLemmas
+pub mod LawLemmas
 pub mod CommitExample
 pub mod MoveExample
 pub mod Small

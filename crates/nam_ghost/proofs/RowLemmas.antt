@@ -1,8 +1,7 @@
 -- What follows from what one step may make of a row: versions stay with their numbers, as many were copied at least, the
 -- ends of copied versions stay, and each slot goes on as it may.
-use Rattle.nam_calls.specs.Words.{wrapped}
 use Rattle.nam_ghost.specs.Cells.{end_by, version_end}
-use Rattle.nam_ghost.specs.Slots.{IsFreeSlot, Keeps, Kept, KeptOk, Ring, RingOk, SlotIs, copied_count, copy_ended}
+use Rattle.nam_ghost.specs.Slots.{IsFreeSlot, Kept, KeptOk, Ring, RingOk, SlotIs, copied_count, copy_ended}
 use Rattle.nam_ghost.specs.Slots.{GetsCopy, GetsFlag, GetsMark, KeepsOn, SlotNext, copy_of, flagged, home, marked}
 use Rattle.nam_ghost.specs.Slots.{Copies, Flags, Idles, Marks, Renews, RowNext, moved_of, with_copy}
 use Rattle.nam_ghost.specs.Versions.{Chain, IsNth, SlotImage, Version, current_number, versions}

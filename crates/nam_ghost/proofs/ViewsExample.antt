@@ -134,6 +134,12 @@ refused verbs = after_deeds held_shape
 abbrev holders_of : Seen → List ℕ
 holders_of seen = map (λ row. (seen.ghost.chains row).holder) (0 ∷ 1 ∷ [])
 
+-- in the commit with a guard both rows are locked, and each lock ends with its header
+both_rows_locked : map (λ verbs. holders_of (guards verbs)) (10 ∷ 12 ∷ 27 ∷ 28 ∷ 29 ∷ [])
+    ≡ (1 ∷ 0 ∷ []) ∷ (1 ∷ 1 ∷ []) ∷ (0 ∷ 1 ∷ []) ∷ (0 ∷ 1 ∷ []) ∷ (0 ∷ 0 ∷ []) ∷ []
+unfolding turns copies load_from
+both_rows_locked = refl
+
 each_holds_one : holders_of (refused 12) ≡ 1 ∷ 2 ∷ []
 unfolding turns copies load_from
 each_holds_one = refl

@@ -1,4 +1,4 @@
--- What follows from what one step may make of a row: versions stay with their numbers, as many were copied at least, the
+-- What follows from what one step may make of a row: versions stay with their numbers, at least as many were copied, the
 -- ends of copied versions stay, and each slot goes on as it may.
 use Rattle.nam_ghost.specs.Cells.{end_by, version_end}
 use Rattle.nam_ghost.specs.Slots.{IsFreeSlot, Kept, KeptOk, Ring, RingOk, SlotIs, copied_count, copy_ended}
@@ -10,7 +10,8 @@ use Rattle.nam_verbs.proofs.TestLemmas.{by_test}
 use Rattle.nam_layout.specs.declared.field.Place.{Place}
 use Rattle.nam_store.specs.Everyone.{put}
 use Rattle.si_model.specs.declared.log.Stamp.{Stamp}
-use Rattle.std.proofs.Common.{Bool, List, None, Option, Some, [], ap, arith, eqb, false, length, refl, slice_get, subst, suc, sym}
+use Rattle.std.proofs.Common.{Bool, List, None, Option, Some, [], ap, arith, eqb, false, length, refl, slice_get}
+use Rattle.std.proofs.Common.{subst, suc, sym}
 use Rattle.std.proofs.Common.{true, zero, ℕ, ⊎_elim, ◌++◌, ◌+◌, ◌<◌, ◌≡◌, ◌≢◌, ◌≤◌, ◌∙◌, ◌∷◌}
 use Rattle.std.proofs.lemmas.Bool.{cases_lt, eqb-false, eqb-true}
 use Rattle.std.proofs.lemmas.List.{length_push}
@@ -41,7 +42,8 @@ get_at_end (x ∷ xs) y = get_at_end xs y
 put_cases : {A : Type 0} (P : A → Type 0) (f : ℕ → A) (n : ℕ) (x : A) (other : ℕ) → (other ≡ n → P x)
     → (other ≢ n → P (f other)) → P (put f n x other)
 put_cases P f n x other here there =
-    by_test P (eqb other n) x (f other) (λ same. here (eqb-true other n same)) (λ apart. there (eqb-false other n apart))
+    by_test P (eqb other n) x (f other) (λ same. here (eqb-true other n same))
+    (λ apart. there (eqb-false other n apart))
 
 flag_most : (b : Bool) → flag b ≤ 1
 flag_most true = omega arith
@@ -117,7 +119,8 @@ module _ (place : Place) (some : 1 ≤ place.ring) (images : ℕ → SlotImage) 
     abbrev Next : Chain → Ring → Type 0
     Next later next = RowNext place Flagged New chain ring later next
 
-    pub count_rises : (later : Chain) (next : Ring) → Next later next → copied_count chain ring ≤ copied_count later next
+    pub count_rises : (later : Chain) (next : Ring) → Next later next
+        → copied_count chain ring ≤ copied_count later next
     count_rises later _ (Idles old now clean) = let same = ap length old in omega arith
     count_rises _ _ (Marks slot free before) = omega arith
     count_rises _ _ (Copies next empty) = let none = ap flag (uncopied empty) in omega arith
@@ -154,7 +157,8 @@ module _ (place : Place) (some : 1 ≤ place.ring) (images : ℕ → SlotImage) 
     ends_stay _ _ (Copies next empty) number less =
         let none = ap flag (uncopied empty) in
         let version = old_next number (omega arith) in
-        ends_by chain (with_copy chain next (home place (current_number chain)) ring) number version.0 version.1 version.1
+        ends_by chain (with_copy chain next (home place (current_number chain)) ring) number version.0 version.1
+        version.1
     ends_stay _ _ (Flags slot elsewhere) number less =
         end_same (slice_get (versions chain) (number + 1)) ((flagged slot ring).kept (home place number))
         (ring.kept (home place number))

@@ -14,3 +14,4 @@ mod KeysExample
 pub mod LawExample
 mod LawsExample
 mod EdgesExample
+mod SearchExample

@@ -16,6 +16,7 @@ use Rattle.nam_ghost.specs.Copiers.{copier_of}
 use Rattle.nam_ghost.specs.Holders.{dirty_in, holder_of, words_in}
 use Rattle.nam_ghost.specs.Moments.{Observer, observer_of}
 use Rattle.nam_ghost.specs.Publications.{IsInstalled, Publication, published_version}
+use Rattle.nam_ghost.specs.Publications.{PublicationsOk}
 use Rattle.nam_ghost.specs.Reads.{IsAheadOf, ReadEndsAs, ReadOkAt}
 use Rattle.nam_ghost.specs.Slots.{KeptOk}
 use Rattle.nam_ghost.specs.Versions.{Chain, IsNth, IsVersion, Version, number_by, slot_image, versions}
@@ -29,7 +30,9 @@ use Rattle.nam_protocol.specs.declared.client.Call.TheVariants.{Txn}
 use Rattle.nam_protocol.specs.declared.txn.TxnCall.TheVariants.{Get}
 use Rattle.nam_verbs.specs.declared.now.Now.TheVariants.{Over}
 use Rattle.si_model.specs.Lists.{Pairwise}
+use Rattle.si_model.specs.Lists.{Listed}
 use Rattle.std.proofs.Common.{List, None, Some, [], ap, arith, false, inl, inr, map, refl, suc, true, zero, ℕ, ◌<◌}
+use Rattle.std.proofs.Common.{slice_get, subst, ◌+◌}
 use Rattle.std.proofs.Common.{◌∷◌, ◌≡◌, ◌≤◌}
 use Rattle.std.specs.Prelude.{slice_index}
 use Rattle.std.proofs.lemmas.Bool.{false≢true}
@@ -124,6 +127,19 @@ commit_of = record {
 
 installed : IsInstalled (λ row. two) commit_of
 installed = below_1 (λ p. IsVersion two (published_version commit_of p)) (inr (inl refl))
+
+stamped : (k : ℕ) (commit : Publication) → slice_get (commit_of ∷ []) k ≡ Some commit
+    → commit.stamp ≡ record { thread = 1; number = 0 + k + 1 }
+stamped zero commit is = of_some (λ (c : Publication). c.stamp ≡ stamp 1 1) commit_of refl commit is
+stamped (suc k) commit is = of_none (λ (c : Publication). c.stamp ≡ record { thread = 1; number = 0 + suc k + 1 }) commit is
+
+installed_each : (commit : Publication) → Listed commit (commit_of ∷ []) → IsInstalled (λ row. two) commit
+installed_each commit (inl same) = subst (IsInstalled (λ row. two)) same installed
+installed_each commit (inr none) = absurd none
+
+publications_ok : PublicationsOk 0 (λ row. two) (λ nth. commit_of ∷ []) 0
+    (record { number = 1; pass = None; snaps = (0 ∷ 0 ∷ []) ∷ [] })
+publications_ok = record { all = refl; stamped = stamped; installed = installed_each }
 
 -- 5. Where a version stands: its cell is this one or comes after it; its end is within the horizon where both are equal
 

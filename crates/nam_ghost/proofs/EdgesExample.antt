@@ -131,7 +131,8 @@ installed = below_1 (λ p. IsVersion two (published_version commit_of p)) (inr (
 stamped : (k : ℕ) (commit : Publication) → slice_get (commit_of ∷ []) k ≡ Some commit
     → commit.stamp ≡ record { thread = 1; number = 0 + k + 1 }
 stamped zero commit is = of_some (λ (c : Publication). c.stamp ≡ stamp 1 1) commit_of refl commit is
-stamped (suc k) commit is = of_none (λ (c : Publication). c.stamp ≡ record { thread = 1; number = 0 + suc k + 1 }) commit is
+stamped (suc k) commit is =
+    of_none (λ (c : Publication). c.stamp ≡ record { thread = 1; number = 0 + suc k + 1 }) commit is
 
 installed_each : (commit : Publication) → Listed commit (commit_of ∷ []) → IsInstalled (λ row. two) commit
 installed_each commit (inl same) = subst (IsInstalled (λ row. two)) same installed

@@ -1,5 +1,5 @@
--- What follows from what one step may make of a row: versions stay with their numbers, at least as many were copied, the
--- ends of copied versions stay, and each slot goes on as it may.
+-- What follows from what one step may make of a row: versions stay with their numbers, at least as many were copied,
+-- the ends of copied versions stay, and each slot goes on as it may.
 use Rattle.nam_ghost.specs.Cells.{end_by, version_end}
 use Rattle.nam_ghost.specs.Slots.{IsFreeSlot, Kept, KeptOk, Ring, RingOk, SlotIs, copied_count, copy_ended}
 use Rattle.nam_ghost.specs.Slots.{GetsCopy, GetsFlag, GetsMark, KeepsOn, SlotNext, copy_of, flagged, home, marked}

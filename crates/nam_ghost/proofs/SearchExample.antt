@@ -1,5 +1,5 @@
--- A read that finds its version in the ring, one under a locked record, and a mover at its first and last points: what each
--- may rely on, by computing.
+-- A read that finds its version in the ring, one under a locked record, and a mover at its first and last points: what
+-- each may rely on, by computing.
 use Rattle.std.proofs.lemmas.Bool.{true≢false}
 use Rattle.nam_calls.specs.Memory.{memory}
 use Rattle.nam_calls.specs.Reading.{sight_of}
@@ -91,8 +91,8 @@ unfolding turns copies load_from number_by
 ahead = (1, second, (wanted, omega arith), inl ((kept_second, refl, refl), omega arith))
 
 -- and then it is what is tested: its words, and its end, which the snapshot doesn't see
-slot_tested : SlotTest Narrow sees_one ((old_reads 5).ghost.chains 0) (((old_reads 5).ghost.rings 0).kept 0) second_header
-    (6 ∷ []) true
+slot_tested : SlotTest Narrow sees_one ((old_reads 5).ghost.chains 0) (((old_reads 5).ghost.rings 0).kept 0)
+    second_header (6 ∷ []) true
 unfolding turns copies load_from number_by
 slot_tested = record {
   number = 1;
@@ -159,7 +159,12 @@ header_read = record { wanted = wanted_alone; stamp_is = refl; some = refl }
 
 current : ReadsSo (locked_reads 3) sees_none (ReadCurrent (CurrentAgain locked_header (5 ∷ [])))
 unfolding turns copies load_from number_by
-current = (0, first, header_read, (λ same clean. below_1 (λ nth. slice_index (5 ∷ []) nth ≡ slice_index (5 ∷ []) nth) refl))
+current = (
+  0,
+  first,
+  header_read,
+  (λ same clean. below_1 (λ nth. slice_index (5 ∷ []) nth ≡ slice_index (5 ∷ []) nth) refl),
+)
 
 unsure : ReadsSo (locked_reads 4) sees_none (ReadUnsure (5 ∷ []) locked_header (SlotHead 0))
 unfolding turns copies load_from number_by

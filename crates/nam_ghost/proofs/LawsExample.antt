@@ -12,7 +12,7 @@ use Rattle.nam_ghost.specs.Cells.{CellIs, IsElsewhere, IsHorizonBehind, OldOk}
 use Rattle.nam_ghost.specs.Chains.{ChainOk, ChainsOk, IsLoaded}
 use Rattle.nam_ghost.specs.Copiers.{Copier, CopierOk, IsCopy, RowRing, SlotsOk, copier_of, has_copied, is_before}
 use Rattle.nam_ghost.specs.Holders.{Holds}
-use Rattle.nam_ghost.specs.Keys.{AreOnPath, AreUnused, IsUnused, KeyClientOk, KeysOk}
+use Rattle.nam_ghost.specs.Keys.{AreUnused, IsUnused, KeyClientOk, KeysOk}
 use Rattle.nam_ghost.specs.Law.{WordsOk}
 use Rattle.nam_ghost.specs.Moments.{observer_of}
 use Rattle.nam_ghost.specs.Origins.{AreListed, OriginsOk}
@@ -32,6 +32,7 @@ use Rattle.nam_protocol.specs.Reader.{reader_of}
 use Rattle.nam_protocol.specs.Telling.{new_client}
 use Rattle.nam_protocol.specs.declared.client.ClientState.{ClientState}
 use Rattle.nam_protocol.specs.declared.txn.Record.{Record}
+use Rattle.nam_store.specs.LoadedLaw.{KeysStand}
 use Rattle.nam_store.specs.Base.{BaseOk}
 use Rattle.nam_store.specs.Everyone.{put}
 use Rattle.si_model.specs.Lists.{Listed}
@@ -246,7 +247,7 @@ key_0 : m (Key 0) ≡ 1
 unfolding turns copies load_from
 key_0 = refl
 
-paths_ok : AreOnPath narrow_shape m
+paths_ok : KeysStand narrow_shape meets.store.words
 paths_ok t key passed is less bears q before = absurd (below_1 (λ t. passed < capacity_of narrow_shape t → ⊥)
     (λ few. absurd (omega arith)) t is less)
 

@@ -1,13 +1,17 @@
 pub mod Runs
 mod RunsLemmas
+pub mod RowLemmas
+pub mod LawLemmas
 pub mod CommitExample
 pub mod MoveExample
 pub mod Small
 mod ClaimsExample
 mod ViewsExample
 mod ReadsExample
-mod UpkeepExample
+pub mod UpkeepExample
 mod OriginsExample
 mod KeysExample
 pub mod LawExample
 mod LawsExample
+mod EdgesExample
+mod SearchExample

@@ -2,7 +2,9 @@
 use Rattle.nam_ghost.proofs.CommitExample.{held_shape}
 use Rattle.nam_ghost.proofs.Runs.{Calls, Seen, Turns, after_deeds, client_of, opened, stamp, turns, version}
 use Rattle.nam_ghost.specs.Moments.{has_published}
-use Rattle.nam_ghost.specs.Origins.{HasOrigin, IsPublishedAs, listed_commits}
+use Rattle.nam_calls.specs.Memory.{memory}
+use Rattle.nam_ghost.specs.Origins.{AreListed, HasOrigin, IsPublishedAs, listed_commits}
+use Rattle.std.proofs.lemmas.Option.{none-some}
 use Rattle.nam_ghost.specs.Publications.{Publication}
 use Rattle.nam_ghost.specs.Since.{IsOvertaken, StandsBefore}
 use Rattle.nam_ghost.specs.Versions.{Version}
@@ -65,6 +67,12 @@ counted_at_each : map (λ verbs. count_of (guards verbs) + flag (has_published (
     (27 ∷ 28 ∷ 29 ∷ 30 ∷ []) ≡ map (λ verbs. length ((guards verbs).ghost.published 0)) (27 ∷ 28 ∷ 29 ∷ 30 ∷ [])
 unfolding turns copies load_from
 counted_at_each = refl
+
+-- published and not listed yet: the last publication is the one in flight
+not_listed_yet : AreListed held_shape (memory held_shape (guards 29).store.words) (guards 29).ghost.published 0
+    (client_of (guards 29) 0)
+unfolding turns copies load_from
+not_listed_yet = record { count = refl; each = λ k commit listed is none. absurd (none-some listed none) }
 
 listed_so : map (λ listed. listed.snap) (listed_commits (client_of (guards 30) 0)) ≡ (0 ∷ 0 ∷ []) ∷ []
 unfolding turns copies load_from

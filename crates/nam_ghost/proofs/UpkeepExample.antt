@@ -123,7 +123,7 @@ overflowed_13 : IsOverflowed narrow_shape (chains 13) (rings 13) (m 13) (cells 1
 unfolding turns copies load_from number_by
 overflowed_13 = inl (0, omega arith, omega arith, refl)
 
-abbrev is_stored : Cell → Bool
+abbrev pub is_stored : Cell → Bool
 is_stored (Stores row number) = true
 is_stored cell = false
 
@@ -179,7 +179,7 @@ not_known knows = let least : 2 ≤ 0 = knows 0 (omega arith) in absurd (omega a
 
 -- 3. Two movers at one version, each with its cell
 
-abbrev put_alone : Seen
+abbrev pub put_alone : Seen
 put_alone = after_deeds narrow_shape (opened narrow_shape (loaded 0 0 (5 ∷ []) ∷ [])) (put_deeds 0 6)
 
 abbrev both_move : ℕ → ℕ → ℕ → Seen

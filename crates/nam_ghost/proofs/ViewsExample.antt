@@ -5,6 +5,7 @@ use Rattle.nam_ghost.proofs.Runs.{Calls, Seen, Stops, Turns, after_deeds, client
 use Rattle.nam_ghost.specs.Copiers.{Aside, CopyState, EndNext, Fills, MarkNext, Saves, copier_of}
 use Rattle.nam_ghost.specs.Holders.{holder_of}
 use Rattle.nam_ghost.specs.Moments.{AreOrdered, IsUnpassed, observer_of}
+use Rattle.nam_ghost.specs.Moments.{IsCandidateOf}
 use Rattle.nam_layout.specs.declared.field.Field.TheVariants.{Entry}
 use Rattle.nam_protocol.proofs.Shown.{loaded}
 use Rattle.nam_protocol.specs.Opening.{copies, load_from}
@@ -134,6 +135,12 @@ refused verbs = after_deeds held_shape
 abbrev holders_of : Seen → List ℕ
 holders_of seen = map (λ row. (seen.ghost.chains row).holder) (0 ∷ 1 ∷ [])
 
+-- in the commit with a guard both rows are locked, and each lock ends with its header
+both_rows_locked : map (λ verbs. holders_of (guards verbs)) (10 ∷ 12 ∷ 27 ∷ 28 ∷ 29 ∷ [])
+    ≡ (1 ∷ 0 ∷ []) ∷ (1 ∷ 1 ∷ []) ∷ (0 ∷ 1 ∷ []) ∷ (0 ∷ 1 ∷ []) ∷ (0 ∷ 0 ∷ []) ∷ []
+unfolding turns copies load_from
+both_rows_locked = refl
+
 each_holds_one : holders_of (refused 12) ≡ 1 ∷ 2 ∷ []
 unfolding turns copies load_from
 each_holds_one = refl
@@ -188,9 +195,9 @@ both_are_copied = refl
 abbrev stamps_published : Seen → List (List Stamp)
 stamps_published seen = map (λ nth. map (λ commit. commit.stamp) (seen.ghost.published nth)) (0 ∷ 1 ∷ [])
 
-not_yet : stamps_published (guards 27) ≡ [] ∷ [] ∷ []
+nothing_yet : stamps_published (guards 27) ≡ [] ∷ [] ∷ []
 unfolding turns copies load_from
-not_yet = refl
+nothing_yet = refl
 
 published_once : stamps_published (guards 28) ≡ (stamp 1 1 ∷ []) ∷ [] ∷ []
 unfolding turns copies load_from
@@ -201,7 +208,28 @@ published_records : map (λ commit. commit.records) ((guards 28).ghost.published
 unfolding turns copies load_from
 published_records = refl
 
--- 6. Double collect: two passes that found each other's entry before may be unordered; but then the vector has passed
+-- 6. Candidates: in the second pass, with what it has confirmed, and once it was taken, wholly; in the first pass none
+
+abbrev begins : ℕ → Seen
+begins verbs = after_deeds held_shape (opened held_shape []) (Calls 0 (Begin 1 1) ∷ Turns 0 verbs ∷ [])
+
+abbrev CandidateAt : ℕ → ℕ → Type 0
+CandidateAt verbs confirmed = IsCandidateOf 2 (observer_of (client_of (begins verbs) 0)) (0 ∷ 0 ∷ []) confirmed
+
+passing : CandidateAt 3 1
+unfolding turns copies load_from
+passing = inl (refl, refl)
+
+was_taken : CandidateAt 4 2
+unfolding turns copies load_from
+was_taken = inr (refl, inl refl)
+
+not_yet : CandidateAt 1 0 → ⊥
+unfolding turns copies load_from
+not_yet (inl none) = absurd none
+not_yet (inr (confirmed, none)) = absurd none
+
+-- 7. Double collect: two passes that found each other's entry before may be unordered; but then the vector has passed
 -- an entry of each that its second pass has not confirmed
 
 abbrev one : List ℕ

@@ -1,8 +1,7 @@
 -- The index: a key has at most one position, and what was passed on its path stays passed.
-use Rattle.nam_calls.specs.Fits.{IsTableOf}
 use Rattle.nam_calls.specs.Index.{nth_key}
 use Rattle.nam_calls.specs.Memory.{memory}
-use Rattle.nam_calls.specs.Words.{capacity_of, key_word, path_of}
+use Rattle.nam_calls.specs.Words.{key_word, path_of}
 use Rattle.nam_calls.specs.declared.index.ClaimKeyPoint.{ClaimKeyPoint}
 use Rattle.nam_calls.specs.declared.index.ClaimKeyPoint.TheVariants.{KeyLook, KeyTake}
 use Rattle.nam_catalog.specs.declared.shape.Shape.{Shape}
@@ -22,6 +21,7 @@ use Rattle.nam_protocol.specs.declared.txn.Record.{Record}
 use Rattle.nam_protocol.specs.declared.txn.TxnPoint.{TxnPoint}
 use Rattle.nam_protocol.specs.declared.txn.TxnPoint.TheVariants.{Claiming, Committing, Finding, Reading}
 use Rattle.nam_store.specs.Everyone.{Everyone}
+use Rattle.nam_store.specs.LoadedLaw.{KeysStand}
 use Rattle.nam_store.specs.Store.{Store}
 use Rattle.nam_verbs.specs.declared.now.Now.{Now}
 use Rattle.nam_verbs.specs.declared.now.Now.TheVariants.{At}
@@ -76,12 +76,6 @@ module _ (shape : Shape) (m : Field → ℕ) where
   IsPast table key passed = (q : ℕ) → q < passed → let word = m (nth_key (path_of shape table key) q) in
       (word ≢ 0) × (word ≢ key_word key)
 
-  -- a position bears a key only where all positions before it on the key's path bear other keys; so a key has at most
-  -- one position
-  abbrev pub AreOnPath : Type 0
-  AreOnPath = (table key passed : ℕ) → IsTableOf shape table → passed < capacity_of shape table
-      → m (nth_key (path_of shape table key) passed) ≡ key_word key → IsPast table key passed
-
   abbrev pub Bears : ℕ → ℕ → ℕ → Type 0
   Bears table key position = m (field.Key (row_of shape.tables table position)) ≡ key_word key
 
@@ -115,7 +109,9 @@ module _ (shape : Shape) (m : Field → ℕ) where
 abbrev pub KeysNext : Shape → (Field → ℕ) → (Field → ℕ) → Type 0
 KeysNext shape m now = (row : ℕ) → IsRow shape row → m (field.Key row) ≢ 0 → now (field.Key row) ≡ m (field.Key row)
 
+-- A position bears a key only where all positions before it on the key's path bear other keys (`KeysStand`), so a key
+-- has at most one position; positions without a key; and what the clients know.
 pub record KeysOk (shape : Shape) (store : Store) (chains : ℕ → Chain) : Type 0 where
-  pub paths : AreOnPath shape (memory shape store.words)
+  pub paths : KeysStand shape store.words
   pub unused : AreUnused shape (memory shape store.words) chains
   pub clients : Everyone (λ nth client. KeyClientOk shape (memory shape store.words) client) store.clients

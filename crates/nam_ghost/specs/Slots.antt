@@ -115,3 +115,11 @@ pub data RowNext (place : Place) (Flagged : ℕ → Type 0) (New : Version → T
       → (ends : (kept : Kept) → ring.kept (home place (current_number chain)) ≡ Some kept
       → kept.next ≡ later.now.stamp)
       → RowNext place Flagged New chain ring later (copy_ended ring)
+
+-- So a slot goes on in one step: it stays; it gets the mark, where its version was moved; from the mark it comes to
+-- keep the version that is the next to be copied; or its version gets the moved flag.
+pub data SlotNext (copied : ℕ) : Option Kept → Option Kept → Type 0 where
+  KeepsOn : {slot : Option Kept} → SlotNext copied slot slot
+  GetsMark : {kept : Kept} → (was_moved : kept.moved ≡ true) → SlotNext copied (Some kept) None
+  GetsCopy : {kept : Kept} → (number_is : kept.number ≡ copied) → SlotNext copied None (Some kept)
+  GetsFlag : {kept : Kept} → SlotNext copied (Some kept) (Some (record kept { moved = true }))

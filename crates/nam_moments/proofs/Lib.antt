@@ -1,0 +1,3 @@
+pub mod CandidateLemmas
+pub mod NextLemmas
+pub mod SnapLemmas

@@ -1,0 +1,2 @@
+//! The moments of snapshots.
+#![tactic(auto)]

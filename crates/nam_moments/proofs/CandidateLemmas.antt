@@ -1,5 +1,5 @@
 -- Double collect: candidates stay ordered, where the vector doesn't fall and each of them was one or is new.
-use Rattle.std.proofs.Common.{List, arith, inl, inr, ℕ, ◌<◌, ◌≡◌, ◌≤◌, ◌⊎◌}
+use Rattle.std.proofs.Common.{List, arith, inl, inr, ℕ, ◌<◌, ◌≤◌}
 use Rattle.std.specs.Prelude.{slice_index}
 use Rattle.std.proofs.lemmas.Bool.{cases_lt}
 use Rattle.nam_ghost.specs.Moments.{AreFound, AreMoments, AreOrdered, HasGrown, IsUnpassed}

@@ -1,5 +1,5 @@
 -- Which steps of a commit write the vector: the publication alone.
-use Rattle.std.proofs.Common.{List, ap, arith, subst, ℕ, ◌+◌, ◌≡◌}
+use Rattle.std.proofs.Common.{List, ap, arith, ℕ, ◌+◌, ◌≡◌}
 use Rattle.std.specs.Prelude.{slice_index}
 use Rattle.nam_verbs.specs.VerbAt.{target}
 use Rattle.nam_layout.specs.declared.field.Field.{Field}
@@ -13,9 +13,9 @@ use Rattle.nam_calls.specs.declared.ring.CopyPoint.{CopyPoint}
 use Rattle.nam_calls.specs.declared.ring.CopyPoint.TheVariants.{CopyEnding, CopyHead, CopyMark, CopyWord}
 use Rattle.nam_calls.specs.Writes.{copy_writes, install_writes, lock_writes}
 use Rattle.nam_protocol.specs.declared.txn.CommitPoint.{CommitPoint}
-use Rattle.nam_protocol.specs.declared.txn.CommitPoint.TheVariants.{Checking, Clearing, Copying, Counting, Deciding}
-use Rattle.nam_protocol.specs.declared.txn.CommitPoint.TheVariants.{Ending, Freeing, Installing, Listing, Locking}
-use Rattle.nam_protocol.specs.declared.txn.CommitPoint.TheVariants.{Publishing, Returning, Saving}
+use Rattle.nam_protocol.specs.declared.txn.CommitPoint.TheVariants.{Copying}
+use Rattle.nam_protocol.specs.declared.txn.CommitPoint.TheVariants.{Installing, Listing, Locking}
+use Rattle.nam_protocol.specs.declared.txn.CommitPoint.TheVariants.{Publishing}
 use Rattle.nam_protocol.specs.declared.txn.ListPoint.{ListPoint}
 use Rattle.nam_protocol.specs.declared.txn.ListPoint.TheVariants.{ListData, ListKind, ListNumber, ListRow, ListState}
 use Rattle.nam_protocol.specs.declared.txn.TxnState.{TxnState}

@@ -4,3 +4,5 @@ pub mod SnapLemmas
 pub mod ViewLemmas
 pub mod EntryLemmas
 pub mod StepLemmas
+pub mod OpeningLemmas
+pub mod SnapshotLemmas

@@ -1,12 +1,12 @@
 -- What one client's step owes keeps what holds of all clients as observers of the vector.
-use Rattle.std.proofs.Common.{List, None, Option, Some, arith, inl, inr, length-set, subst, sym, ℕ, ◌+◌, ◌<◌}
+use Rattle.std.proofs.Common.{List, None, Option, Some, arith, inl, inr, length-set, subst, sym, ℕ, ◌<◌}
 use Rattle.std.proofs.Common.{◌∙◌, ◌≡◌, ◌≢◌, ◌≤◌, ◌⊎◌}
-use Rattle.std.specs.Prelude.{length, slice_get, slice_index, slice_set}
+use Rattle.std.specs.Prelude.{slice_get, slice_set}
 use Rattle.std.proofs.lemmas.Bool.{cases_eq}
 use Rattle.std.proofs.lemmas.Option.{slice_get_within}
 use Rattle.nam_vector.specs.declared.snap.SnapPoint.{SnapPoint}
 use Rattle.nam_vector.specs.declared.snap.SnapPoint.TheVariants.{First, Second}
-use Rattle.nam_ghost.specs.Moments.{AreFound, AreObservers, HasGrown, IsCandidate, IsCandidateOf, Observer}
+use Rattle.nam_ghost.specs.Moments.{AreObservers, HasGrown, IsCandidate, IsCandidateOf, Observer}
 use Rattle.nam_ghost.specs.Moments.{ObserverNext, ObserverOk, PassOk}
 use Rattle.nam_store.proofs.Lists.{everyone_set, someone_set}
 use Rattle.nam_moments.proofs.CandidateLemmas.{moments_keep}
@@ -16,9 +16,12 @@ module _ (start workers : ℕ) (V now : ℕ → ℕ) (rises : (a : ℕ) → a < 
   pass_rises : (snaps : List (List ℕ)) (pass : Option SnapPoint) → PassOk start workers V snaps pass
       → PassOk start workers now snaps pass
   pass_rises snaps None ok = tt
-  pass_rises snaps (Some (First got)) ok =
-      (ok.0, (λ a less. let short = ok.0 in let found = ok.1 a less in let rose = rises a (omega arith) in
-      (found.0, omega arith)), ok.2)
+  pass_rises snaps (Some (First got)) ok = (
+    ok.0,
+    (λ a less. let short = ok.0 in let found = ok.1 a less in let rose = rises a (omega arith) in
+        (found.0, omega arith)),
+    ok.2,
+  )
   pass_rises snaps (Some (Second seen at)) ok = ok
 
 module _ (start workers : ℕ) (V : ℕ → ℕ) (observers : List Observer) (ok : AreObservers start workers V observers)

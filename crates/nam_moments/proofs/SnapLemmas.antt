@@ -1,7 +1,7 @@
 -- What a step of a client owes as one of an observer of the vector: nothing new is seen, a snapshot begins, a number is
 -- published, or a word of a snapshot is taken.
 use Rattle.std.proofs.Common.{List, None, Some, [], ap, arith, inl, inr, le_of_eq, length, refl, subst, sym, ℕ}
-use Rattle.std.proofs.Common.{◌++◌, ◌+◌, ◌<◌, ◌∙◌, ◌∷◌, ◌≡◌, ◌≢◌, ◌≤◌, ◌⊎◌, ⊎_elim}
+use Rattle.std.proofs.Common.{◌++◌, ◌+◌, ◌<◌, ◌∙◌, ◌∷◌, ◌≡◌, ◌≢◌, ◌≤◌, ◌⊎◌}
 use Rattle.std.specs.Prelude.{if◌then◌else◌, slice_get, slice_index, ◌==◌}
 use Rattle.std.proofs.lemmas.Bool.{cases_lt}
 use Rattle.std.proofs.lemmas.List.{get_or_append_left, get_or_push, length_push}
@@ -15,7 +15,7 @@ use Rattle.nam_vector.specs.declared.snap.SnapEnd.TheVariants.{Again, Done}
 use Rattle.nam_vector.specs.declared.snap.SnapPoint.{SnapPoint}
 use Rattle.nam_vector.specs.declared.snap.SnapPoint.TheVariants.{First, Second}
 use Rattle.nam_vector.specs.Snap.{snap_after, snap_begin}
-use Rattle.nam_ghost.specs.Moments.{AreFound, AreObservers, AtMost, HasGrown, IsCandidateOf, IsFollowing, IsPassing}
+use Rattle.nam_ghost.specs.Moments.{AreFound, AreObservers, HasGrown, IsCandidateOf, IsFollowing, IsPassing}
 use Rattle.nam_ghost.specs.Moments.{Observer, ObserverNext, ObserverOk, PassOk}
 use Rattle.nam_moments.proofs.NextLemmas.{observer_within}
 
@@ -89,8 +89,11 @@ module _ (start workers : ℕ) (V : ℕ → ℕ) (observers : List Observer) (ok
     rises = omega arith;
     own = record {
       entry = own.entry;
-      pass = (let less = within in omega arith, (λ a less. absurd (omega arith)),
-          (λ t listed a less. absurd (omega arith)));
+      pass = (
+        let less = within in omega arith,
+        (λ a less. absurd (omega arith)),
+        (λ t listed a less. absurd (omega arith)),
+      );
       wide = own.wide;
     };
     grown = taken_grown V;
@@ -166,8 +169,11 @@ module _ (start workers : ℕ) (V : ℕ → ℕ) (observers : List Observer) (ok
           rises = omega arith;
           own = record {
             entry = own.entry;
-            pass = (omega arith, (λ a less. more_found a (omega arith)),
-                (λ t listed a less. more_follows t listed a (omega arith)));
+            pass = (
+              omega arith,
+              (λ a less. more_found a (omega arith)),
+              (λ t listed a less. more_follows t listed a (omega arith)),
+            );
             wide = own.wide;
           };
           grown = taken_grown V;

@@ -1,34 +1,27 @@
 -- Each step of a store keeps what is claimed of the moments of snapshots.
-use Rattle.std.proofs.Common.{List, None, Option, Some, ap, arith, false, length, map, option_map, refl, subst, sym, ℕ}
-use Rattle.std.proofs.Common.{◌+◌, ◌<◌, ◌∙◌, ◌≡◌, ◌≢◌, ◌≤◌}
+use Rattle.std.proofs.Common.{List, Some, ap, arith, length, map, option_map, refl, subst, sym, ℕ}
+use Rattle.std.proofs.Common.{◌+◌, ◌<◌, ◌∙◌, ◌≡◌, ◌≤◌}
 use Rattle.std.specs.Prelude.{slice_get, slice_set}
 use Rattle.std.proofs.lemmas.List.{map-set}
 use Rattle.std.proofs.lemmas.Option.{slice_get-map}
-use Rattle.nam_verbs.specs.declared.now.Now.{Now}
-use Rattle.nam_verbs.specs.declared.now.Now.TheVariants.{At}
 use Rattle.nam_verbs.specs.VerbAt.{found_at}
 use Rattle.nam_catalog.specs.declared.shape.Shape.{Shape}
-use Rattle.nam_layout.specs.declared.field.Field.{Field}
 use Rattle.nam_layout.specs.declared.field.Field.TheVariants.{Entry}
-use Rattle.nam_layout.specs.Address.{IsField}
 use Rattle.nam_vector.specs.declared.snap.SnapPoint.{SnapPoint}
 use Rattle.nam_vector.specs.declared.snap.SnapPoint.TheVariants.{First, Second}
 use Rattle.nam_vector.specs.Snap.{snap_after, snap_begin, snap_verb}
 use Rattle.nam_calls.specs.Memory.{memory}
-use Rattle.nam_protocol.specs.declared.client.Answer.{Answer}
-use Rattle.nam_protocol.specs.declared.client.CallPoint.{CallPoint}
-use Rattle.nam_protocol.specs.declared.client.CallPoint.TheVariants.{Beginning, Collecting, InTxn, Moving, Snapping}
+use Rattle.nam_protocol.specs.declared.client.CallPoint.TheVariants.{Beginning, Snapping}
 use Rattle.nam_protocol.specs.declared.client.ClientState.{ClientState}
 use Rattle.nam_protocol.specs.declared.client.Open.{Open}
 use Rattle.nam_protocol.specs.declared.txn.CommitPoint.{CommitPoint}
 use Rattle.nam_protocol.specs.declared.txn.CommitPoint.TheVariants.{Checking, Clearing, Copying, Counting, Deciding}
 use Rattle.nam_protocol.specs.declared.txn.CommitPoint.TheVariants.{Ending, Freeing, Installing, Listing, Locking}
 use Rattle.nam_protocol.specs.declared.txn.CommitPoint.TheVariants.{Publishing, Returning, Saving}
-use Rattle.nam_protocol.specs.declared.txn.TxnPoint.TheVariants.{Committing}
 use Rattle.nam_protocol.specs.Client.{client_abandon, client_after, client_ask, on_begin, on_snap}
 use Rattle.nam_protocol.specs.Commit.{ask_commit, commit_after}
 use Rattle.nam_protocol.specs.CutClient.{client_cut}
-use Rattle.nam_protocol.specs.Own.{OwnsOpen, Rests}
+use Rattle.nam_protocol.specs.Own.{Rests}
 use Rattle.nam_protocol.specs.Plain.{IsAside, Plain}
 use Rattle.nam_protocol.specs.Sorts.{AskOf, AsksBegin, AsksCollect, AsksCommit, AsksPlain, Begins, Collects, Commits}
 use Rattle.nam_protocol.specs.Sorts.{Finds, Moves, Reads, Snaps, StepOf, committing_at}
@@ -37,10 +30,10 @@ use Rattle.nam_store.specs.Base.{BaseOk, ClientOk}
 use Rattle.nam_store.specs.Changed.{Does}
 use Rattle.nam_store.specs.Kinds.{Writes}
 use Rattle.nam_store.specs.Store.{Abandons, Asks, Cuts, Store, StepsTo, Takes, client_at, found_word, step}
-use Rattle.nam_store.proofs.BaseLemmas.{asked_sort, client_within, does_law, step_sort, words_stay}
+use Rattle.nam_store.proofs.BaseLemmas.{asked_sort, does_law, step_sort, words_stay}
 use Rattle.nam_store.proofs.KindsLemmas.{AllWritten, finds_aside, finds_write, reads_aside, reads_write}
 use Rattle.nam_ghost.specs.Moments.{AreObservers, MomentsOk, Observer, ObserverNext, observer_of, vector_of}
-use Rattle.nam_moments.specs.MomentsLaw.{KeepsLaw, RisesLaw, entry_in}
+use Rattle.nam_moments.specs.MomentsLaw.{KeepsLaw, RisesLaw}
 use Rattle.nam_moments.proofs.EntryLemmas.{IsNoEntry, commit_no_entry, entry_one}
 use Rattle.nam_moments.proofs.NextLemmas.{entries_rise, observers_keep}
 use Rattle.nam_moments.proofs.SnapLemmas.{aside_next, begins_next, entry_of, publishes_next, snap_next, stays_next}

@@ -1,5 +1,5 @@
 -- What a client is as an observer of the vector, after each sort of step, and after what it is asked.
-use Rattle.std.proofs.Common.{List, None, Option, Some, ap, cond, false, length, refl, subst, sym, true, ℕ, ◌+◌}
+use Rattle.std.proofs.Common.{None, Option, Some, ap, cond, false, length, refl, sym, ℕ, ◌+◌}
 use Rattle.std.proofs.Common.{◌∙◌, ◌≡◌}
 use Rattle.nam_verbs.specs.declared.now.Now.{Now}
 use Rattle.nam_verbs.specs.declared.now.Now.TheVariants.{At, Over}
@@ -7,7 +7,6 @@ use Rattle.nam_catalog.specs.declared.shape.Shape.{Shape}
 use Rattle.nam_vector.specs.declared.snap.SnapEnd.{SnapEnd}
 use Rattle.nam_vector.specs.declared.snap.SnapEnd.TheVariants.{Again, Done}
 use Rattle.nam_vector.specs.declared.snap.SnapPoint.{SnapPoint}
-use Rattle.nam_vector.specs.Snap.{snap_begin}
 use Rattle.nam_protocol.specs.declared.client.Answer.{Answer}
 use Rattle.nam_protocol.specs.declared.client.CallPoint.{CallPoint}
 use Rattle.nam_protocol.specs.declared.client.CallPoint.TheVariants.{Beginning, InTxn, Snapping}
@@ -32,7 +31,7 @@ use Rattle.nam_protocol.specs.Txn.{Stepped, over}
 use Rattle.nam_protocol.proofs.GoesCommit.{ask_commit_goes, next_count_goes, next_free_goes, on_copy_goes}
 use Rattle.nam_protocol.proofs.GoesCommit.{on_install_goes, on_list_goes, on_lock_goes, on_return_goes, on_slot_goes}
 use Rattle.nam_protocol.proofs.GoesCommit.{on_words_goes, refused_goes}
-use Rattle.nam_ghost.specs.Moments.{Observer, has_published, number_now, observer_of, pass_of}
+use Rattle.nam_ghost.specs.Moments.{Observer, has_published, observer_of, pass_of}
 use Rattle.nam_moments.proofs.SnapLemmas.{aside, beginning, observed}
 
 -- 1. A snapshot's word

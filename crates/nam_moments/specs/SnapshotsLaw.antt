@@ -20,8 +20,8 @@ abbrev pub IsTaken : Store → List ℕ → Type 0
 IsTaken store snapshot = Someone (λ nth (client : ClientState). Listed snapshot client.log.snaps) store.clients
 
 -- each commit that the first contains the second contains too
-abbrev pub IsWithin : List ℕ → List ℕ → Type 0
-IsWithin s t = (stamp : Stamp) → IsTrue (contains s stamp) → IsTrue (contains t stamp)
+abbrev pub IsContainedIn : List ℕ → List ℕ → Type 0
+IsContainedIn s t = (stamp : Stamp) → IsTrue (contains s stamp) → IsTrue (contains t stamp)
 
 pub record AreSnapshots (shape : Shape) (store : Store) : Type 0 where
   -- one entry for each worker
@@ -30,7 +30,7 @@ pub record AreSnapshots (shape : Shape) (store : Store) : Type 0 where
   pub published : (s : List ℕ) → IsTaken store s → AreFound shape.start (entry_in shape store) shape.workers s
   -- any two are ordered, in each entry, and by what they contain
   pub ordered : (s t : List ℕ) → IsTaken store s → IsTaken store t → AreOrdered shape.workers s t
-  pub prefixes : (s t : List ℕ) → IsTaken store s → IsTaken store t → IsWithin s t ⊎ IsWithin t s
+  pub prefixes : (s t : List ℕ) → IsTaken store s → IsTaken store t → IsContainedIn s t ⊎ IsContainedIn t s
 
 abbrev pub SnapshotsLaw : Type 0
 SnapshotsLaw = (shape : Shape) → FitsLimits shape → (rows : List Row) → AreLoaded shape rows → (store : Store)

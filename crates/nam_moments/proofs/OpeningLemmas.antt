@@ -30,7 +30,8 @@ module _ (shape : Shape) (rows : List Row) (loaded : AreLoaded shape rows) where
   store = opening_store shape rows
 
   entry_starts : (a : ℕ) → a < shape.workers → entry_in shape store a ≡ shape.start
-  entry_starts a less = (opening_law shape rows loaded.of_tables).untouched (Entry (a + 1)) (omega arith, omega arith) tt
+  entry_starts a less =
+      (opening_law shape rows loaded.of_tables).untouched (Entry (a + 1)) (omega arith, omega arith) tt
 
   abbrev starting : ℕ → Observer
   starting nth = observer_of (new_client (nth + 1) shape.start)
@@ -42,7 +43,8 @@ module _ (shape : Shape) (rows : List Row) (loaded : AreLoaded shape rows) where
       let new = opening_client shape rows nth t.0 t.1 in
       (new.0, sym (ap observer_of new.1) ∙ t.2)
 
-  no_candidate : (s : List ℕ) (confirmed : ℕ) → IsCandidate shape.workers (map observer_of store.clients) s confirmed → ⊥
+  no_candidate : (s : List ℕ) (confirmed : ℕ)
+      → IsCandidate shape.workers (map observer_of store.clients) s confirmed → ⊥
   no_candidate s confirmed (nth, (observer, (e, is))) =
       none (subst (λ x. IsCandidateOf shape.workers x s confirmed) (sym (starts nth observer e).1) is)
     where

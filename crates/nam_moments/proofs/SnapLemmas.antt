@@ -207,13 +207,14 @@ module _ (start workers : ℕ) (V : ℕ → ℕ) (observers : List Observer) (ok
     done_grown : (s : List ℕ) (confirmed : ℕ) → V k ≡ slice_index seen k → k + 1 ≡ workers
         → ⊥ ⊎ ((confirmed ≡ workers) × Listed s (before.snaps ++ seen ∷ [])) → Grown V s confirmed
     done_grown s confirmed equal last (inl none) = absurd none
-    done_grown s confirmed equal last (inr (whole, listed)) = elim (listed_append_cases before.snaps (seen ∷ []) s listed) [
-      | inl earlier ↦ was_grown V s confirmed (inr (whole, earlier))
-      | inr new ↦ elim new [
-        | inl same ↦ confirmed_grown s confirmed equal same (omega arith)
-        | inr none ↦ absurd none
-      ]
-    ]
+    done_grown s confirmed equal last (inr (whole, listed)) =
+        elim (listed_append_cases before.snaps (seen ∷ []) s listed) [
+          | inl earlier ↦ was_grown V s confirmed (inr (whole, earlier))
+          | inr new ↦ elim new [
+            | inl same ↦ confirmed_grown s confirmed equal same (omega arith)
+            | inr none ↦ absurd none
+          ]
+        ]
 
     done_wide : (s : List ℕ) → Listed s (before.snaps ++ seen ∷ []) → length s ≡ workers
     done_wide s listed = elim (listed_append_cases before.snaps (seen ∷ []) s listed) [

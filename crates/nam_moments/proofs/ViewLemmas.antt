@@ -179,7 +179,8 @@ module _ (client : ClientState) (attempt : Open) (taken : ℕ) (last_is : attemp
       on_install_goes (Unseen (Installing nth at)) attempt.state nth _ (λ next e. refl) (λ e f. refl) (λ e f. refl)
   commit_observed Publishing found other = absurd (other tt)
   commit_observed (Freeing nth) found other =
-      next_free_goes (Unseen (Freeing nth)) attempt.state (nth + 1) (λ e f. refl) (λ e f. told (Freeing nth)) (λ e. refl)
+      next_free_goes (Unseen (Freeing nth)) attempt.state (nth + 1) (λ e f. refl) (λ e f. told (Freeing nth))
+      (λ e. refl)
   commit_observed (Clearing refusal) found other = refusal_unseen refusal
   commit_observed Ending found other = told Ending
 

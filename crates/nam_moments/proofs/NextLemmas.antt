@@ -65,6 +65,7 @@ module _ (start workers : ℕ) (V : ℕ → ℕ) (observers : List Observer) (ok
             entry = let within = slice_get_within observers other x there in let all = ok.all in
                 next.others other (omega arith) apart ∙ was.entry;
             pass = pass_rises start workers V now entries_rise x.snaps x.pass was.pass;
+            finds_own = was.finds_own;
             wide = was.wide;
           })
           next.own;

@@ -57,7 +57,7 @@ module _ (shape : Shape) (rows : List Row) (loaded : AreLoaded shape rows) where
   opening_each nth observer e =
       let t = starts nth observer e in
       subst (ObserverOk shape.start shape.workers (entry_in shape store) nth) t.1
-      record { entry = entry_starts nth t.0; pass = tt; wide = λ s listed. absurd listed }
+      record { entry = entry_starts nth t.0; pass = tt; finds_own = tt; wide = λ s listed. absurd listed }
 
 pub opening_moments : OpensLaw
 opening_moments shape limits rows loaded = record {

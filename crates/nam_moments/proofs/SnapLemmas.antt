@@ -15,6 +15,7 @@ use Rattle.nam_vector.specs.declared.snap.SnapEnd.TheVariants.{Again, Done}
 use Rattle.nam_vector.specs.declared.snap.SnapPoint.{SnapPoint}
 use Rattle.nam_vector.specs.declared.snap.SnapPoint.TheVariants.{First, Second}
 use Rattle.nam_vector.specs.Snap.{snap_after, snap_begin}
+use Rattle.nam_ghost.specs.Moments.{FindsOwn}
 use Rattle.nam_ghost.specs.Moments.{AreFound, AreObservers, HasGrown, IsCandidateOf, IsFollowing, IsPassing}
 use Rattle.nam_ghost.specs.Moments.{Observer, ObserverNext, ObserverOk, PassOk}
 use Rattle.nam_moments.proofs.NextLemmas.{observer_within}
@@ -79,7 +80,7 @@ module _ (start workers : ℕ) (V : ℕ → ℕ) (observers : List Observer) (ok
   aside_next now same = let here = same nth within in record {
     others = λ a less apart. same a less;
     rises = omega arith;
-    own = record { entry = here ∙ own.entry; pass = tt; wide = own.wide };
+    own = record { entry = here ∙ own.entry; pass = tt; finds_own = tt; wide = own.wide };
     grown = taken_grown now;
   }
 
@@ -94,6 +95,7 @@ module _ (start workers : ℕ) (V : ℕ → ℕ) (observers : List Observer) (ok
         (λ a less. absurd (omega arith)),
         (λ t listed a less. absurd (omega arith)),
       );
+      finds_own = λ less. absurd (omega arith);
       wide = own.wide;
     };
     grown = taken_grown V;
@@ -105,7 +107,7 @@ module _ (start workers : ℕ) (V : ℕ → ℕ) (observers : List Observer) (ok
   publishes_next now next others = record {
     others = others;
     rises = let entry = own.entry in omega arith;
-    own = record { entry = next; pass = tt; wide = own.wide };
+    own = record { entry = next; pass = tt; finds_own = tt; wide = own.wide };
     grown = taken_grown now;
   }
 
@@ -144,6 +146,16 @@ module _ (start workers : ℕ) (V : ℕ → ℕ) (observers : List Observer) (ok
         by_entry (λ a entry. slice_index t a ≤ entry) (pass.2 t listed)
         ((ok.moments.within t workers (nth, (before, (here, inr (refl, listed)))) (length got) pass.0).1)
 
+    -- its own entry is its number
+    own_got : FindsOwn nth before.number (Some (First got))
+    own_got = subst (FindsOwn nth before.number) at own.finds_own
+
+    more_own : nth < length got + 1 → slice_index more nth ≡ before.number
+    more_own less =
+        by_entry (λ a entry. a ≡ nth → entry ≡ before.number)
+        (λ a short same. subst (λ (x : ℕ). x < length got → slice_index got x ≡ before.number) (sym same) own_got short)
+        (λ same. ap V same ∙ own.entry) nth less refl
+
     -- a candidate where the first pass is over
     first_grown : (s : List ℕ) (confirmed : ℕ) → length got + 1 ≡ workers
         → ((more ≡ s) × (0 ≡ confirmed)) ⊎ ((confirmed ≡ workers) × Listed s before.snaps) → Grown V s confirmed
@@ -160,6 +172,7 @@ module _ (start workers : ℕ) (V : ℕ → ℕ) (observers : List Observer) (ok
           own = record {
             entry = own.entry;
             pass = (omega arith, full, (λ t listed a less. more_follows t listed a (omega arith)));
+            finds_own = more_own (let less = within in omega arith);
             wide = own.wide;
           };
           grown = λ s confirmed is. first_grown s confirmed all is;
@@ -174,6 +187,7 @@ module _ (start workers : ℕ) (V : ℕ → ℕ) (observers : List Observer) (ok
               (λ a less. more_found a (omega arith)),
               (λ t listed a less. more_follows t listed a (omega arith)),
             );
+            finds_own = λ less. more_own (omega arith);
             wide = own.wide;
           };
           grown = taken_grown V;
@@ -184,6 +198,9 @@ module _ (start workers : ℕ) (V : ℕ → ℕ) (observers : List Observer) (ok
   module _ (seen : List ℕ) (k : ℕ) (at : before.pass ≡ Some (Second seen k)) where
     passing : PassOk start workers V before.snaps (Some (Second seen k))
     passing = subst (PassOk start workers V before.snaps) at own.pass
+
+    passing_own : slice_index seen nth ≡ before.number
+    passing_own = subst (FindsOwn nth before.number) at own.finds_own
 
     candidate : IsCandidateOf workers before seen k
     candidate = inl (subst (λ pass. IsPassing pass seen k) (sym at) (refl, refl))
@@ -235,13 +252,18 @@ module _ (start workers : ℕ) (V : ℕ → ℕ) (observers : List Observer) (ok
         (λ last. record {
           others = λ a less apart. refl;
           rises = omega arith;
-          own = record { entry = own.entry; pass = tt; wide = done_wide };
+          own = record { entry = own.entry; pass = tt; finds_own = tt; wide = done_wide };
           grown = λ s confirmed is. done_grown s confirmed equal last is;
         })
         (λ more. let less = passing.0 in record {
           others = λ a less apart. refl;
           rises = omega arith;
-          own = record { entry = own.entry; pass = (omega arith, passing.1, passing.2); wide = own.wide };
+          own = record {
+            entry = own.entry;
+            pass = (omega arith, passing.1, passing.2);
+            finds_own = passing_own;
+            wide = own.wide;
+          };
           grown = λ s confirmed is. second_grown s confirmed equal is;
         }))
         (λ other. aside_next V (λ a less. refl))

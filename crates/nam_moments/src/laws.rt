@@ -8,7 +8,7 @@ ghost use Rattle.nam_moments.specs.SnapshotsLaw.{SnapshotsLaw};
 /// A worker's entry is the number that it has published last. A snapshot in its second pass, and each that was taken,
 /// is within the vector, and any two are ordered in every entry, unless one of them has an entry that its second pass
 /// has not confirmed and that the vector has passed. No entry that a pass has found is below that of a snapshot that
-/// the same client has taken before.
+/// the same client has taken before, and that of the client's own worker is the number that it has published.
 ///
 /// The opening has it, with any rows that may be loaded, and each verb, each call that may be asked, each transaction
 /// that is given up and each stop keeps it in a store that meets what is said of every store.

@@ -41,6 +41,25 @@ observed observer (At at) = record observer { pass = Some at }
 observed observer (Over (Done seen)) = record observer { pass = None; snaps = observer.snaps ++ seen ∷ [] }
 observed observer (Over (Again worker first second)) = aside observer
 
+-- a snapshot is done by a word of its second pass
+pub done_is : (workers : ℕ) (point : SnapPoint) (found : ℕ) (seen : List ℕ)
+    → snap_after workers point found ≡ Over (Done seen) → (k : ℕ) × (point ≡ Second seen k)
+done_is workers (First got) found seen e = absurd (cc)
+done_is workers (Second s k) found seen e =
+    by_equal (λ now. now ≡ Over (Done seen) → Was) found (slice_index s k)
+    (if k + 1 == workers then Over (Done s) else At (Second s (k + 1)))
+    (Over (Again (k + 1) (slice_index s k) found))
+    (λ equal. by_equal (λ now. now ≡ Over (Done seen) → Was) (k + 1) workers (Over (Done s)) (At (Second s (k + 1)))
+    (λ last is. (k, ap (λ x. Second x k) (ap (seen_in s) is))) (λ more is. absurd (cc)))
+    (λ other is. absurd (cc)) e
+  where
+    Was : Type 0
+    Was = (j : ℕ) × (Second s k ≡ Second seen j)
+
+    seen_in : List ℕ → Now SnapPoint SnapEnd → List ℕ
+    seen_in none (Over (Done seen)) = seen
+    seen_in none _ = none
+
 module _ (start workers : ℕ) (V : ℕ → ℕ) (observers : List Observer) (ok : AreObservers start workers V observers)
     (nth : ℕ) (before : Observer) (here : slice_get observers nth ≡ Some before) where
   own : ObserverOk start workers V nth before

@@ -6,19 +6,25 @@ use Rattle.std.proofs.lemmas.Bool.{cases_lt}
 use Rattle.std.proofs.lemmas.List.{get_or_past}
 use Rattle.std.proofs.lemmas.Option.{slice_get-map}
 use Rattle.si_model.proofs.SnapshotLemmas.{contains_is, contains_says}
+use Rattle.nam_verbs.specs.declared.now.Now.TheVariants.{Over}
 use Rattle.nam_catalog.specs.declared.shape.Shape.{Shape}
+use Rattle.nam_vector.specs.declared.snap.SnapEnd.TheVariants.{Done}
+use Rattle.nam_vector.specs.declared.snap.SnapPoint.{SnapPoint}
+use Rattle.nam_vector.specs.declared.snap.SnapPoint.TheVariants.{Second}
+use Rattle.nam_vector.specs.Snap.{snap_after}
 use Rattle.nam_protocol.specs.declared.client.ClientState.{ClientState}
+use Rattle.nam_protocol.specs.declared.client.Open.{Open}
+use Rattle.nam_protocol.specs.Own.{OwnOpen}
 use Rattle.nam_store.specs.Reached.{no_ghost}
 use Rattle.nam_store.specs.Store.{Store, client_at}
+use Rattle.nam_store.specs.Base.{BaseOk}
 use Rattle.nam_store.proofs.ReachedLemmas.{reached_holds}
 use Rattle.nam_ghost.specs.Moments.{AreOrdered, AtMost, IsCandidate, MomentsOk, ObserverOk, number_now}
 use Rattle.nam_ghost.specs.Moments.{AreFound, IsPassing, IsUnpassed, observer_of, pass_of}
-use Rattle.nam_vector.specs.declared.snap.SnapPoint.TheVariants.{Second}
-use Rattle.nam_protocol.specs.declared.client.Open.{Open}
-use Rattle.nam_protocol.specs.Own.{OwnOpen}
-use Rattle.nam_store.specs.Base.{BaseOk}
+use Rattle.nam_ghost.specs.Moments.{FindsOwn, IsFollowing, PassOk}
 use Rattle.nam_moments.specs.MomentsLaw.{EntryLaw, ReachedLaw, entry_in}
 use Rattle.nam_moments.specs.SnapshotsLaw.{AreSnapshots, IsTaken, IsContainedIn, SnapshotsLaw}
+use Rattle.nam_moments.proofs.SnapLemmas.{done_is}
 use Rattle.nam_moments.proofs.OpeningLemmas.{opening_moments}
 use Rattle.nam_moments.proofs.StepLemmas.{moments_kept}
 
@@ -122,6 +128,18 @@ module _ (shape : Shape) (store : Store) (ok : MomentsOk shape store) where
     passing_ordered unpassed t taken =
         ok.moments.ordered s t confirmed shape.workers passing_candidate (taken_candidate t taken) unpassed
         (λ a from less. absurd (omega arith))
+
+  -- one that its next word ends is no less than those that the client has taken, and has all that it has published
+  pub done_has : (nth : ℕ) (client : ClientState) → client_at store nth ≡ Some client → (point : SnapPoint)
+      → pass_of client.call ≡ Some point → (found : ℕ) (seen : List ℕ)
+      → snap_after shape.workers point found ≡ Over (Done seen)
+      → IsFollowing shape.workers client.log.snaps seen × (slice_index seen nth ≡ number_now client.call client.last)
+  done_has nth client here point at found seen e =
+      let own = observer_ok nth client here in
+      let done = done_is shape.workers point found seen e in
+      let is : pass_of client.call ≡ Some (Second seen done.0) = at ∙ ap Some done.1 in
+      let pass = subst (PassOk shape.start shape.workers (entry_in shape store) client.log.snaps) is own.pass in
+      (pass.2, subst (FindsOwn nth (number_now client.call client.last)) is own.finds_own)
 
 -- 6. The laws
 

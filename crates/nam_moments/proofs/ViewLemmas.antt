@@ -7,6 +7,7 @@ use Rattle.nam_catalog.specs.declared.shape.Shape.{Shape}
 use Rattle.nam_vector.specs.declared.snap.SnapEnd.{SnapEnd}
 use Rattle.nam_vector.specs.declared.snap.SnapEnd.TheVariants.{Again, Done}
 use Rattle.nam_vector.specs.declared.snap.SnapPoint.{SnapPoint}
+use Rattle.nam_calls.specs.declared.lock.LockPoint.{LockPoint}
 use Rattle.nam_protocol.specs.declared.client.Answer.{Answer}
 use Rattle.nam_protocol.specs.declared.client.CallPoint.{CallPoint}
 use Rattle.nam_protocol.specs.declared.client.CallPoint.TheVariants.{Beginning, InTxn, Snapping}
@@ -18,7 +19,6 @@ use Rattle.nam_protocol.specs.declared.txn.CommitPoint.TheVariants.{Ending, Free
 use Rattle.nam_protocol.specs.declared.txn.CommitPoint.TheVariants.{Publishing, Returning, Saving}
 use Rattle.nam_protocol.specs.declared.txn.Refusal.{Refusal}
 use Rattle.nam_protocol.specs.declared.txn.Refusal.TheVariants as refusal
-use Rattle.nam_calls.specs.declared.lock.LockPoint.{LockPoint}
 use Rattle.nam_protocol.specs.declared.txn.TxnAnswer.TheVariants.{Committed}
 use Rattle.nam_protocol.specs.declared.txn.TxnPoint.TheVariants.{Committing}
 use Rattle.nam_protocol.specs.Client.{abandon_open, client_abandon, on_begin, on_snap}

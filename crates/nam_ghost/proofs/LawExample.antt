@@ -85,7 +85,7 @@ abbrev pub V : ℕ → ℕ
 V = vector_of m
 
 watcher_ok : (nth : ℕ) → V nth ≡ 0 → ObserverOk 0 2 V nth watcher
-watcher_ok nth entry = record { entry = entry; pass = tt; wide = wide_of }
+watcher_ok nth entry = record { entry = entry; pass = tt; finds_own = tt; wide = wide_of }
   where
     wide_of : (s : List ℕ) → Listed s ((0 ∷ 0 ∷ []) ∷ []) → length s ≡ 2
     wide_of s (inl same) = subst (λ (s : List ℕ). length s ≡ 2) same refl

@@ -101,6 +101,13 @@ IsCandidate workers observers s confirmed = Someone (λ _ observer. IsCandidateO
 abbrev pub IsFollowing : ℕ → List (List ℕ) → List ℕ → Type 0
 IsFollowing count snaps s = (t : List ℕ) → Listed t snaps → AtMost count t s
 
+-- its own entry, once it is found, is the number that it has published last, since it publishes nothing meanwhile; so a
+-- snapshot contains all that its own worker has published
+abbrev pub FindsOwn : ℕ → ℕ → Option SnapPoint → Type 0
+FindsOwn nth number (Some (First got)) = nth < length got → slice_index got nth ≡ number
+FindsOwn nth number (Some (Second seen at)) = slice_index seen nth ≡ number
+FindsOwn nth number None = Unit {0}
+
 module _ (start workers : ℕ) where
   -- the entries that the first pass has found, and all of them in the second one
   abbrev pub PassOk : (ℕ → ℕ) → List (List ℕ) → Option SnapPoint → Type 0
@@ -113,6 +120,7 @@ module _ (start workers : ℕ) where
   pub record ObserverOk (V : ℕ → ℕ) (nth : ℕ) (observer : Observer) : Type 0 where
     pub entry : V nth ≡ observer.number
     pub pass : PassOk V observer.snaps observer.pass
+    pub finds_own : FindsOwn nth observer.number observer.pass
     pub wide : (s : List ℕ) → Listed s observer.snaps → length s ≡ workers
 
   pub record AreObservers (V : ℕ → ℕ) (observers : List Observer) : Type 0 where

@@ -1,0 +1,2 @@
+pub mod MomentsLaw
+pub mod SnapshotsLaw

@@ -1,0 +1,44 @@
+-- What is claimed of the moments of snapshots holds of every store that comes about.
+use Rattle.std.specs.Prelude.{List, Some, ℕ, ◌<◌, ◌≡◌, ◌≤◌}
+use Rattle.si_model.specs.declared.row.Row.{Row}
+use Rattle.nam_catalog.specs.Fits.{FitsLimits}
+use Rattle.nam_catalog.specs.declared.shape.Shape.{Shape}
+use Rattle.nam_calls.specs.Memory.{memory}
+use Rattle.nam_protocol.specs.declared.client.ClientState.{ClientState}
+use Rattle.nam_store.specs.Base.{BaseOk}
+use Rattle.nam_store.specs.Opening.{AreLoaded, opening_store}
+use Rattle.nam_store.specs.Reached.{IsReached}
+use Rattle.nam_store.specs.Store.{Store, StepsTo, client_at}
+use Rattle.nam_ghost.specs.Moments.{MomentsOk, number_now, vector_of}
+
+-- 1. The group
+
+abbrev pub OpensLaw : Type 0
+OpensLaw = (shape : Shape) → FitsLimits shape → (rows : List Row) → AreLoaded shape rows
+    → MomentsOk shape (opening_store shape rows)
+
+abbrev pub KeepsLaw : Type 0
+KeepsLaw = (shape : Shape) (before after : Store) → StepsTo shape before after → BaseOk shape before
+    → MomentsOk shape before → MomentsOk shape after
+
+abbrev pub ReachedLaw : Type 0
+ReachedLaw = (shape : Shape) → FitsLimits shape → (rows : List Row) → AreLoaded shape rows → (store : Store)
+    → IsReached shape rows store → MomentsOk shape store
+
+-- 2. The vector
+
+-- a client's entry of the vector; clients count from 0
+abbrev pub entry_in : Shape → Store → ℕ → ℕ
+entry_in shape store nth = vector_of (memory shape store.words) nth
+
+-- a worker's entry is the number of its last commit, and one more from its publication on to the commit's answer
+abbrev pub EntryLaw : Type 0
+EntryLaw = (shape : Shape) → FitsLimits shape → (rows : List Row) → AreLoaded shape rows → (store : Store)
+    → IsReached shape rows store → (nth : ℕ) (client : ClientState) → client_at store nth ≡ Some client
+    → entry_in shape store nth ≡ number_now client.call client.last
+
+-- no step lets an entry fall
+abbrev pub RisesLaw : Type 0
+RisesLaw = (shape : Shape) (before after : Store) → StepsTo shape before after → BaseOk shape before
+    → MomentsOk shape before → (nth : ℕ) → nth < shape.workers
+    → entry_in shape before nth ≤ entry_in shape after nth

@@ -15,7 +15,7 @@ use Rattle.nam_ghost.specs.Holders.{Holds}
 use Rattle.nam_ghost.specs.Keys.{AreUnused, IsUnused, KeyClientOk, KeysOk}
 use Rattle.nam_ghost.specs.Law.{WordsOk}
 use Rattle.nam_ghost.specs.Moments.{observer_of}
-use Rattle.nam_ghost.specs.Origins.{AreListed, OriginsOk}
+use Rattle.nam_ghost.specs.Origins.{AreListed, IsStanding, OriginsOk}
 use Rattle.nam_ghost.specs.Publications.{PublicationsOk, PublishedOk}
 use Rattle.nam_ghost.specs.Reads.{ReaderOk, ReadsOk}
 use Rattle.nam_ghost.specs.Since.{SinceOk}
@@ -39,9 +39,9 @@ use Rattle.si_model.specs.Lists.{Listed}
 use Rattle.si_model.specs.Rows.{key_at}
 use Rattle.std.proofs.Common.{List, None, Some, [], arith, false, inl, inr, map, refl, subst, suc, sym, true, zero, ℕ}
 use Rattle.std.proofs.Common.{◌&&◌, ◌+◌, ◌<◌, ◌==◌, ◌∙◌, ◌∷◌, ◌≡◌, ◌≤◌}
+use Rattle.std.proofs.lemmas.Bool.{false≢true}
 use Rattle.std.proofs.lemmas.Option.{none-some, slice_get_within}
 use Rattle.std.specs.Prelude.{slice_index}
-use Rattle.std.proofs.lemmas.Option.{none-some, slice_get_within}
 
 -- 1. Versions: the loader's alone
 
@@ -299,16 +299,30 @@ listed_other : ListedSo 1 other
 unfolding turns copies load_from
 listed_other = record { count = refl; each = λ k commit listed none is. absurd (none-some commit none) }
 
+abbrev StandsSo : ℕ → ClientState → Type 0
+StandsSo nth client = IsStanding meets.ghost.published nth client
+
+stands_one : StandsSo 0 one
+unfolding turns copies load_from
+stands_one = λ attempt none opened. absurd (false≢true none)
+
+stands_other : StandsSo 1 other
+unfolding turns copies load_from
+stands_other = λ attempt none opened. absurd (false≢true none)
+
 origins_ok : OriginsOk narrow_shape meets.store chains meets.ghost.published
 origins_ok = record {
   versions_are = λ row is number version newer. absurd (no_later row is number version newer);
+  standing = everyone_of StandsSo (new_client 0 0) clients two_clients stands_one stands_other;
   listed = everyone_of ListedSo (new_client 0 0) clients two_clients listed_one listed_other;
 }
 
 since_ok : SinceOk narrow_shape meets.store meets.ghost.published meets.ghost.order
 unfolding turns copies load_from
 since_ok = record {
+  inside = λ nth commit none. absurd none;
   listed = λ commit published. absurd published.1;
+  comes = λ stamp none. absurd none;
   once = tt;
   before = λ first second published later overtaken. absurd published.1;
   contained = λ first second published later overtaken s confirmed candidate unpassed sees. absurd published.1;

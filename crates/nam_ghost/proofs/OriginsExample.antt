@@ -14,8 +14,9 @@ use Rattle.nam_protocol.proofs.Shown.{loaded}
 use Rattle.nam_protocol.specs.Opening.{copies, load_from}
 use Rattle.nam_protocol.specs.declared.client.Call.TheVariants.{Begin, Txn}
 use Rattle.nam_protocol.specs.declared.txn.TxnCall.TheVariants.{Commit, Guard, Put}
+use Rattle.si_model.specs.Lists.{last_of}
 use Rattle.si_model.specs.declared.log.Stamp.{Stamp}
-use Rattle.std.proofs.Common.{None, Some, [], ap, arith, false, inr, length, map, refl, slice_index_or, true, ℕ, ◌+◌}
+use Rattle.std.proofs.Common.{None, Some, [], ap, arith, false, inr, length, map, option_map, refl, slice_index_or, true, ℕ, ◌+◌}
 use Rattle.std.proofs.Common.{◌∷◌, ◌≡◌}
 
 -- The second client has taken its snapshot. The first writes key 0 and guards key 1, after so many verbs of its commit.
@@ -73,6 +74,11 @@ not_listed_yet : AreListed held_shape (memory held_shape (guards 29).store.words
     (client_of (guards 29) 0)
 unfolding turns copies load_from
 not_listed_yet = record { count = refl; each = λ k commit listed is none. absurd (none-some listed none) }
+
+stands_last : option_map (λ (commit : Publication). commit.stamp) (last_of ((guards 29).ghost.published 0))
+    ≡ Some (stamp 1 1)
+unfolding turns copies load_from
+stands_last = refl
 
 listed_so : map (λ listed. listed.snap) (listed_commits (client_of (guards 30) 0)) ≡ (0 ∷ 0 ∷ []) ∷ []
 unfolding turns copies load_from

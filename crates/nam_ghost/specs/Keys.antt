@@ -9,6 +9,7 @@ use Rattle.nam_ghost.specs.Versions.{Chain}
 use Rattle.nam_layout.specs.Address.{IsRow}
 use Rattle.nam_layout.specs.Rows.{row_of}
 use Rattle.nam_layout.specs.declared.field.Field.{Field}
+use Rattle.nam_protocol.specs.Scan.{position_of}
 use Rattle.nam_protocol.specs.declared.client.Answer.{Answer}
 use Rattle.nam_protocol.specs.declared.client.CallPoint.{CallPoint}
 use Rattle.nam_protocol.specs.declared.client.CallPoint.TheVariants.{InTxn, Moving, Scanning, Seeking}
@@ -90,10 +91,10 @@ module _ (shape : Shape) (m : Field → ℕ) where
   ClaimsOk (Some attempt) =
       (claim : Record) → Listed claim attempt.state.claims → m (field.Key claim.place.row) ≡ key_word claim.key.key
 
-  -- and so do those that a running scan has found on its way
+  -- and so do those that a running scan has found on its way, before the position that it is at
   abbrev pub ScannedOk : Option (Now CallPoint Answer) → List Scanned → Type 0
   ScannedOk (Some (At (Scanning table low high at))) scanned =
-      (row : Scanned) → Listed row scanned → Bears table row.key row.position
+      (row : Scanned) → Listed row scanned → (row.position < position_of at) × Bears table row.key row.position
   ScannedOk _ scanned = Unit {0}
 
   pub record KeyClientOk (client : ClientState) : Type 0 where

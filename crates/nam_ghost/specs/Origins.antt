@@ -5,7 +5,7 @@ use Rattle.nam_calls.specs.Words.{key_word}
 use Rattle.nam_catalog.specs.declared.shape.Shape.{Shape}
 use Rattle.nam_ghost.specs.Holders.{Holder, holder_of, version_of}
 use Rattle.nam_ghost.specs.Moments.{has_published}
-use Rattle.nam_ghost.specs.Publications.{Publication, published_version}
+use Rattle.nam_ghost.specs.Publications.{Publication, publication_of, published_version}
 use Rattle.nam_ghost.specs.Versions.{Chain, IsNth, Version}
 use Rattle.nam_header.specs.Header.{flag}
 use Rattle.nam_layout.specs.Address.{IsRow}
@@ -13,14 +13,15 @@ use Rattle.nam_layout.specs.Rows.{table_of}
 use Rattle.nam_layout.specs.declared.field.Field.{Field}
 use Rattle.nam_layout.specs.declared.field.Field.TheVariants.{Key}
 use Rattle.nam_protocol.specs.declared.client.ClientState.{ClientState}
+use Rattle.nam_protocol.specs.declared.client.Open.{Open}
 use Rattle.nam_store.specs.Everyone.{Everyone, Someone}
 use Rattle.nam_store.specs.Store.{Store}
 use Rattle.si_model.specs.Commits.{Published, published_of}
 use Rattle.si_model.specs.History.{stamp_of}
-use Rattle.si_model.specs.Lists.{Listed}
+use Rattle.si_model.specs.Lists.{Listed, last_of}
 use Rattle.si_model.specs.Tells.{tells_with}
 use Rattle.si_model.specs.declared.row.Item.{Item}
-use Rattle.std.specs.Prelude.{List, Some, [], length, slice_get, ℕ, ◌+◌, ◌<◌, ◌≡◌, ◌⊎◌}
+use Rattle.std.specs.Prelude.{List, Some, [], length, slice_get, true, ℕ, ◌+◌, ◌<◌, ◌≡◌, ◌⊎◌}
 
 -- 1. Versions
 
@@ -61,6 +62,12 @@ pub record IsListedAs (shape : Shape) (m : Field → ℕ) (commit : Publication)
       → (table_of shape.tables (commit.row p) ≡ item.table) × (m (Key (commit.row p)) ≡ key_word item.key)
       × (commit.value p ≡ item.value)
 
+-- a commit that has published, and frees its guards or clears its intent, is the last of its client's publications
+abbrev pub IsStanding : (ℕ → List Publication) → ℕ → ClientState → Type 0
+IsStanding published nth client =
+    (attempt : Open) → has_published client.call ≡ true → client.txn ≡ Some attempt
+    → last_of (published nth) ≡ Some (publication_of attempt.state)
+
 -- The publications of a client are its listed commits, in order; but the last of them isn't listed yet while its commit
 -- frees the guards or clears the intent.
 pub record AreListed (shape : Shape) (m : Field → ℕ) (published : ℕ → List Publication) (nth : ℕ)
@@ -72,4 +79,5 @@ pub record AreListed (shape : Shape) (m : Field → ℕ) (published : ℕ → Li
 pub record OriginsOk (shape : Shape) (store : Store) (chains : ℕ → Chain) (published : ℕ → List Publication)
     : Type 0 where
   pub versions_are : HaveOrigins shape store chains published
+  pub standing : Everyone (IsStanding published) store.clients
   pub listed : Everyone (AreListed shape (memory shape store.words) published) store.clients

@@ -25,14 +25,17 @@ abbrev pub StandsBefore : List Stamp → Stamp → Stamp → Type 0
 StandsBefore order first second =
     (i : ℕ) × (j : ℕ) × (i < j) × (slice_get order i ≡ Some first) × (slice_get order j ≡ Some second)
 
--- Each publication has its place in the order, once. One that is overtaken stands before the one that overtakes it: the
--- other could lock the record only once the first had freed it, after its publication, and it has a version there that
--- the first would have seen, had it stood there before. And a snapshot that contains the second contains the first: it
--- is the vector of one moment. A candidate whose unconfirmed entries the vector has passed may not, and is found out by
--- its second pass.
+-- Each publication is some worker's, and has its place in the order, once; nothing else has one. One that is overtaken
+-- stands before the one that overtakes it: the other could lock the record only once the first had freed it, after its
+-- publication, and it has a version there that the first would have seen, had it stood there before. And a snapshot
+-- that contains the second contains the first: it is the vector of one moment. A candidate whose unconfirmed entries
+-- the vector has passed may not, and is found out by its second pass.
 pub record IsSince (workers : ℕ) (V : ℕ → ℕ) (observers : List Observer) (published : ℕ → List Publication)
     (order : List Stamp) : Type 0 where
+  pub inside : (nth : ℕ) (commit : Publication) → Listed commit (published nth) → nth < workers
   pub listed : (commit : Publication) → WasPublished published commit → Listed commit.stamp order
+  pub comes : (stamp : Stamp) → Listed stamp order
+      → (commit : Publication) × WasPublished published commit × (commit.stamp ≡ stamp)
   pub once : Pairwise (λ (a b : Stamp). a ≢ b) order
   pub before : (first second : Publication) → WasPublished published first → WasPublished published second
       → IsOvertaken first second → StandsBefore order first.stamp second.stamp

@@ -43,11 +43,11 @@ use Rattle.nam_locks.proofs.CommitLemmas.{commit_locks}
 use Rattle.nam_locks.proofs.IdleLemmas.{aside_idle, idle_chains, idle_holder, not_collects, not_key, not_moves}
 use Rattle.nam_locks.proofs.IdleLemmas.{stepped_holder}
 
-abbrev RunsAt : CallPoint → Option (Now CallPoint Answer)
+abbrev pub RunsAt : CallPoint → Option (Now CallPoint Answer)
 RunsAt place = Some (At place)
 
 -- where two points are of one call
-same_place : (place point : CallPoint) → RunsAt point ≡ RunsAt place → place ≡ point
+pub same_place : (place point : CallPoint) → RunsAt point ≡ RunsAt place → place ≡ point
 same_place place point e = ap place_in (sym e)
   where
     place_in : Option (Now CallPoint Answer) → CallPoint
@@ -55,16 +55,16 @@ same_place place point e = ap place_in (sym e)
     place_in _ = point
 
 -- a snapshot that is taken is no commit
-abbrev Idles : ClientState → ClientState → Type 0
+abbrev pub Idles : ClientState → ClientState → Type 0
 Idles client after = IsIdle after.call × (after.worker ≡ client.worker)
 
-begins_idle : (shape : Shape) (client : ClientState) (txn nth : ℕ) (now : Now SnapPoint SnapEnd)
+pub begins_idle : (shape : Shape) (client : ClientState) (txn nth : ℕ) (now : Now SnapPoint SnapEnd)
     → Idles client (on_begin shape client txn nth now)
 begins_idle shape client txn nth now =
     begin_goes (Idles client) shape client txn nth now (λ next e. (tt, refl)) (λ seen e. (tt, refl))
     (λ worker first second e. (tt, refl))
 
-snaps_idle : (shape : Shape) (client : ClientState) (bucket : ℕ) (now : Now SnapPoint SnapEnd)
+pub snaps_idle : (shape : Shape) (client : ClientState) (bucket : ℕ) (now : Now SnapPoint SnapEnd)
     → Idles client (on_snap shape client bucket now)
 snaps_idle shape client bucket now =
     snap_goes (Idles client) shape client bucket now (λ next e. (tt, refl)) (λ seen e. (tt, refl))

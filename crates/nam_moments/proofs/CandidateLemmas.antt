@@ -7,10 +7,10 @@ use Rattle.nam_ghost.specs.Moments.{AreFound, AreMoments, AreOrdered, HasGrown, 
 module _ (start workers : ℕ) (V now : ℕ → ℕ) (Was Is : List ℕ → ℕ → Type 0)
     (rises : (a : ℕ) → a < workers → V a ≤ now a) where
   -- the entries that were confirmed since then are not passed
-  abbrev Agrees : List ℕ → ℕ → ℕ → Type 0
+  abbrev pub Agrees : List ℕ → ℕ → ℕ → Type 0
   Agrees s before confirmed = (a : ℕ) → before ≤ a → a < confirmed → now a ≤ slice_index s a
 
-  unpassed_before : (s : List ℕ) (before confirmed : ℕ) → Agrees s before confirmed
+  pub unpassed_before : (s : List ℕ) (before confirmed : ℕ) → Agrees s before confirmed
       → IsUnpassed workers now s confirmed → IsUnpassed workers V s before
   unpassed_before s before confirmed agrees unpassed a from less = elim (cases_lt a confirmed) [
     | inl short ↦ let rose = rises a less in let at_most = agrees a from short in omega arith

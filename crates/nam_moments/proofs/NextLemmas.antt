@@ -1,15 +1,15 @@
 -- What one client's step owes keeps what holds of all clients as observers of the vector.
-use Rattle.std.proofs.Common.{List, None, Option, Some, arith, inl, inr, length-set, subst, sym, ℕ, ◌<◌}
+use Rattle.std.proofs.Common.{List, None, Option, Some, ap, arith, inl, inr, length, length-set, subst, sym, ℕ, ◌<◌}
 use Rattle.std.proofs.Common.{◌∙◌, ◌≡◌, ◌≢◌, ◌≤◌, ◌⊎◌}
-use Rattle.std.specs.Prelude.{slice_get, slice_set}
+use Rattle.std.specs.Prelude.{slice_get, slice_index, slice_set}
 use Rattle.std.proofs.lemmas.Bool.{cases_eq}
 use Rattle.std.proofs.lemmas.Option.{slice_get_within}
 use Rattle.nam_vector.specs.declared.snap.SnapPoint.{SnapPoint}
 use Rattle.nam_vector.specs.declared.snap.SnapPoint.TheVariants.{First, Second}
-use Rattle.nam_ghost.specs.Moments.{AreObservers, HasGrown, IsCandidate, IsCandidateOf, Observer}
+use Rattle.nam_ghost.specs.Moments.{AreObservers, HasGrown, IsCandidate, IsCandidateOf, IsPassing, IsUnpassed, Observer}
 use Rattle.nam_ghost.specs.Moments.{ObserverNext, ObserverOk, PassOk}
 use Rattle.nam_store.proofs.Lists.{everyone_set, someone_set}
-use Rattle.nam_moments.proofs.CandidateLemmas.{moments_keep}
+use Rattle.nam_moments.proofs.CandidateLemmas.{moments_keep, unpassed_before}
 
 module _ (start workers : ℕ) (V now : ℕ → ℕ) (rises : (a : ℕ) → a < workers → V a ≤ now a) where
   -- what a pass has found stays within the vector
@@ -56,6 +56,23 @@ module _ (start workers : ℕ) (V : ℕ → ℕ) (observers : List Observer) (ok
         by_client (inr (other, (x, (apart, (there, was))))) =
             inl (confirmed, (other, (x, (there, was))), λ a from less. absurd (omega arith))
 
+    -- one whose unconfirmed entries the vector hasn't passed was such a one before; or it has all entries as they are
+    -- now
+    pub was_or_is : (s : List ℕ) (confirmed : ℕ) → IsCandidate workers (slice_set observers nth after) s confirmed
+        → IsUnpassed workers now s confirmed
+        → ((earlier : ℕ) × IsCandidate workers observers s earlier × IsUnpassed workers V s earlier)
+        ⊎ ((a : ℕ) → a < workers → now a ≤ slice_index s a)
+    was_or_is s confirmed is unpassed = elim (all_grown s confirmed is) [
+      | inl (earlier, was, agrees) ↦
+          inl (
+            earlier,
+            was,
+            unpassed_before start workers V now (IsCandidate workers observers)
+            (IsCandidate workers (slice_set observers nth after)) entries_rise s earlier confirmed agrees unpassed,
+          )
+      | inr (none, found) ↦ inr (λ a less. unpassed a (omega arith) less)
+    ]
+
     pub observers_keep : AreObservers start workers now (slice_set observers nth after)
     observers_keep = record {
       all = length-set observers nth after ∙ ok.all;
@@ -72,3 +89,18 @@ module _ (start workers : ℕ) (V : ℕ → ℕ) (observers : List Observer) (ok
       moments = moments_keep start workers V now (IsCandidate workers observers)
           (IsCandidate workers (slice_set observers nth after)) entries_rise ok.moments all_grown;
     }
+
+-- a snapshot in its second pass, and one that was taken, has an entry for each worker
+passing_wide : (start workers : ℕ) (V : ℕ → ℕ) (snaps : List (List ℕ)) (pass : Option SnapPoint) (s : List ℕ)
+    (confirmed : ℕ) → PassOk start workers V snaps pass → IsPassing pass s confirmed → length s ≡ workers
+passing_wide start workers V snaps None s confirmed ok is = absurd is
+passing_wide start workers V snaps (Some (First got)) s confirmed ok is = absurd is
+passing_wide start workers V snaps (Some (Second seen at)) s confirmed ok is = ap length (sym is.0) ∙ ok.1
+
+pub candidate_wide : (start workers : ℕ) (V : ℕ → ℕ) (observers : List Observer)
+    → AreObservers start workers V observers → (s : List ℕ) (confirmed : ℕ) → IsCandidate workers observers s confirmed
+    → length s ≡ workers
+candidate_wide start workers V observers ok s confirmed (nth, (observer, (here, inl passing))) =
+    passing_wide start workers V observer.snaps observer.pass s confirmed (ok.each nth observer here).pass passing
+candidate_wide start workers V observers ok s confirmed (nth, (observer, (here, inr taken))) =
+    (ok.each nth observer here).wide s taken.1

@@ -5,7 +5,6 @@ use Rattle.std.specs.List.{flat_map}
 use Rattle.std.specs.Fmt.{decimal}
 use Rattle.std.proofs.lemmas.List.{append-nil}
 use Rattle.std.proofs.lemmas.Grind.{flat_map-append}
-use Rattle.si_model.specs.declared.op.Op.{Op}
 use Rattle.nam_catalog.specs.declared.shape.Table.{Table}
 use Rattle.nam_text.specs.Token.{number_text}
 use Rattle.nam_text.specs.Kinds.{behind_spaces}
@@ -15,7 +14,7 @@ use Rattle.nam_script.specs.declared.script.ScriptTxn.{ScriptTxn}
 use Rattle.nam_script.specs.declared.script.Stint.{Stint}
 use Rattle.nam_script.specs.Lines.{spelt_stint_text, spelt_line}
 use Rattle.nam_script.specs.Text.{op_text, txn_text, stint_text, group_text}
-use Rattle.nam_script.specs.Spelling.{somes, spelt, line_text, text_of, op_line, txn_lines, turns_line}
+use Rattle.nam_script.specs.Spelling.{somes, spelt, line_text, text_of, op_line, txn_lines}
 
 -- the words of a value, as numbers
 pub numbers_are : (ws : List ℕ) → map number_text (somes ws) ≡ map decimal ws

@@ -307,14 +307,20 @@ impl Draft {
         }
     }
 
-    /// Takes the line that fields spell, of any kind.
+    /// A line by its first word. What else transactions have comes first.
     #[inline(never)]
-    #[tactic(auto, unfolding(crate::specs::Lines::line_of))]
-    fn admit_fields(&mut self, alloc: Global, fields: &mut Fields) -> Taken
-        ensures { TakesLine result self.new self.old (line_of fields.old) }
+    #[tactic(auto, using(crate::proofs::FirstWords::next_words))]
+    fn admit_fields(&mut self, alloc: Global, word: &[u8], fields: Fields) -> Taken
+        ensures { TakesLine result self.new self.old (word_of word.now fields.entry) }
     {
-        let word = fields.next()?;
-        self.admit_word(alloc, word, fields)
+        let mut fields = fields;
+        if is_word(word, b"put") {
+            self.put_line(&mut fields)
+        } else if is_word(word, b"del") {
+            self.del_line(&mut fields)
+        } else {
+            self.admit_word(alloc, word, &mut fields)
+        }
     }
 
     /// Takes the line that a text spells. Most lines are of transactions, so their words come first.
@@ -336,7 +342,7 @@ impl Draft {
         } else if is_word(word, b"end") {
             self.end_line(alloc, &mut fields)
         } else {
-            self.admit_fields(alloc, &mut Fields::new(text))
+            self.admit_fields(alloc, word, fields)
         }
     }
 }

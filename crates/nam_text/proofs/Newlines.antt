@@ -4,11 +4,7 @@ use Rattle.std.proofs.Common.{Some, None, refl, subst, arith, inl, inr}
 use Rattle.std.specs.List.{position, position_or_len}
 use Rattle.std.proofs.lemmas.Bool.{lt-ltb, le-ltb, ne_eqb, eq-eqb, cases_lt}
 use Rattle.std.proofs.lemmas.List.Sums.{position_or_len_is}
-
--- no newline stands before a place
-pub record IsPassed (text : List ℕ) (at : ℕ) : Type 0 where
-  pub within : at ≤ length text
-  pub none : (k : ℕ) → k < at → get_or text k 0 ≢ 10
+use Rattle.nam_text.specs.Fields.{IsPassed}
 
 pub none_passed : (text : List ℕ) → IsPassed text 0
 none_passed text = record { within = omega arith; none = λ k lt. absurd (omega (arith, lt)) }

@@ -4,7 +4,7 @@ ghost use Rattle.std.specs.Prelude.{◌≡◌, ◌==◌, ◌<◌, ◌≤◌, [],
 ghost use Rattle.std.specs.List.{position};
 ghost use Rattle.std.specs.Option.{option_copied};
 ghost use Rattle.nam_text.specs.Token.{number_of, is_name};
-ghost use Rattle.nam_text.specs.Fields.{fields_of, fields_left, lines_of};
+ghost use Rattle.nam_text.specs.Fields.{fields_of, fields_left, lines_of, IsPassed};
 ghost use Rattle.nam_text.specs.Read.{Reads, byte_at, field_at};
 ghost use Rattle.nam_text.specs.Spelling.{IsPlain};
 
@@ -16,6 +16,19 @@ pub fn find_byte(text: &[u8], byte: u8) -> Option<usize>
     ensures { result ≡ position (λ b. b == byte) text.now }
 {
     text.iter().position(|b| *b == byte)
+}
+
+/// Where a newline stands first, where none stands before a place.
+#[tactic(auto, using(crate::proofs::Newlines::newlines))]
+fn newline_from(text: &[u8], from: usize) -> Option<usize>
+    requires { IsPassed text.now from }
+    ensures { result ≡ position (λ b. b == 10) text.now }
+{
+    let mut at = from;
+    while at < text.len() && text[at] != b'\n' {
+        at += 1;
+    }
+    if at < text.len() { Some(at) } else { None }
 }
 
 /// Where a newline stands first. Most bytes are none, so the end of the text is thought of once in four.
@@ -39,14 +52,7 @@ fn find_newline(text: &[u8]) -> Option<usize>
         }
         at += 4;
     }
-    let mut last = at;
-    while last < text.len() {
-        if text[last] == b'\n' {
-            return Some(last);
-        }
-        last += 1;
-    }
-    None
+    newline_from(text, at)
 }
 
 /// The first line, without its newline, and what follows it. None where no newline stands in the text.

@@ -1,5 +1,5 @@
 use Rattle.std.proofs.Common.{◌-◌, length}
-use Rattle.nam_text.proofs.Newlines.{IsPassed}
+use Rattle.nam_text.specs.Fields.{IsPassed}
 use Rattle.nam_text.proofs.fields.find_newline.Given as goal
 
 abbrev pub decreases-loop-at : goal.decreases-loop-at
@@ -8,9 +8,3 @@ decreases-loop-at l = length l.text - l.at
 -- no newline so far
 abbrev pub invariant-loop-at : goal.invariant-loop-at
 invariant-loop-at l = IsPassed l.text l.at
-
-abbrev pub decreases-loop-last : goal.decreases-loop-last
-decreases-loop-last l = length l.text - l.last
-
-abbrev pub invariant-loop-last : goal.invariant-loop-last
-invariant-loop-last l = IsPassed l.text l.last

@@ -1,0 +1,14 @@
+pub mod ValueLemmas
+pub mod RowLemmas
+pub mod WriteLemmas
+pub mod StayLemmas
+pub mod SlotLemmas
+pub mod MoverReads
+pub mod MoverWrites
+pub mod CollectorLemmas
+pub mod OldLemmas
+pub mod ViewLemmas
+pub mod WordLemmas
+pub mod StoreLemmas
+pub mod OpeningLemmas
+pub mod PlaceLemmas

@@ -1,0 +1,10 @@
+pub mod WordLemmas
+pub mod TellLemmas
+pub mod StayLemmas
+pub mod TxnLemmas
+pub mod ScanLemmas
+pub mod ClientLemmas
+pub mod UnusedLemmas
+pub mod OpeningLemmas
+pub mod StoreLemmas
+pub mod PositionLemmas

@@ -1,0 +1,9 @@
+use Rattle.std.proofs.Common.{◌-◌, length}
+use Rattle.nam_text.specs.Fields.{IsPassed}
+use Rattle.nam_text.proofs.fields.newline_from.Given as goal
+
+abbrev pub decreases-loop-at : goal.decreases-loop-at
+decreases-loop-at l = length l.text - l.at
+
+abbrev pub invariant-loop-at : goal.invariant-loop-at
+invariant-loop-at l = IsPassed l.text l.at

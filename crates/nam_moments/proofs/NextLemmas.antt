@@ -68,7 +68,7 @@ module _ (start workers : ℕ) (V : ℕ → ℕ) (observers : List Observer) (ok
             earlier,
             was,
             unpassed_before start workers V now (IsCandidate workers observers)
-            (IsCandidate workers (slice_set observers nth after)) entries_rise s earlier confirmed agrees unpassed,
+                (IsCandidate workers (slice_set observers nth after)) entries_rise s earlier confirmed agrees unpassed,
           )
       | inr (none, found) ↦ inr (λ a less. unpassed a (omega arith) less)
     ]

@@ -27,7 +27,8 @@ use Rattle.nam_cells.specs.Views.{collector_now}
 use Rattle.nam_cells.specs.Words.{SameUpkeep}
 use Rattle.nam_cells.proofs.MoverWrites.{not_claimed}
 use Rattle.nam_cells.proofs.StayLemmas.{knows_stays, published_stays, tagged_stays}
-use Rattle.nam_cells.proofs.ValueLemmas.{stamp_says, within_below}
+use Rattle.nam_cells.proofs.ValueLemmas.{within_below}
+use Rattle.nam_ghost.proofs.ValueLemmas.{stamp_says}
 use Rattle.nam_cells.proofs.WriteLemmas.{horizon_rises, horizon_spares, quiet, quiet_spares, tag_spares, tag_turns}
 use Rattle.nam_cells.proofs.WriteLemmas.{written_same}
 

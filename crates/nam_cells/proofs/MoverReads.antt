@@ -41,7 +41,7 @@ use Rattle.nam_cells.specs.Views.{mover_now}
 use Rattle.nam_cells.specs.Words.{SameUpkeep}
 use Rattle.nam_cells.proofs.SlotLemmas.{head_begins, kept_there, next_is}
 use Rattle.nam_cells.proofs.StayLemmas.{begun_on, bucket_within, end_on, words_on}
-use Rattle.nam_cells.proofs.ValueLemmas.{got_more, got_none, old_says}
+use Rattle.nam_ghost.proofs.ValueLemmas.{got_more, got_none, old_says}
 use Rattle.nam_cells.proofs.WriteLemmas.{put_here, quiet, tag_spares, tag_turns, written_same}
 
 -- which version, before it has read a header

@@ -38,7 +38,8 @@ use Rattle.nam_cells.specs.Words.{SameUpkeep, inside_of}
 use Rattle.nam_cells.proofs.RowLemmas.{was_there}
 use Rattle.nam_cells.proofs.SlotLemmas.{again_there, kept_there, next_is}
 use Rattle.nam_cells.proofs.StayLemmas.{begun_on, bucket_within, cell_whole, claimer_one, end_on, words_on}
-use Rattle.nam_cells.proofs.ValueLemmas.{number_found, old_says}
+use Rattle.nam_cells.proofs.ValueLemmas.{number_found}
+use Rattle.nam_ghost.proofs.ValueLemmas.{old_says}
 use Rattle.nam_cells.proofs.WriteLemmas.{cell_same, inside_turns, put_here, quiet, tag_cell, tag_spares, tag_turns}
 use Rattle.nam_cells.proofs.WriteLemmas.{written_same}
 

@@ -29,7 +29,7 @@ use Rattle.nam_cells.specs.Views.{UpkeepFits}
 use Rattle.nam_cells.proofs.SlotLemmas.{again_there, kept_there}
 use Rattle.nam_cells.proofs.StayLemmas.{bucket_within}
 use Rattle.nam_cells.proofs.StoreLemmas.{cells_keep, cells_next}
-use Rattle.nam_cells.proofs.ValueLemmas.{once}
+use Rattle.nam_ghost.proofs.ChainLemmas.{once}
 use Rattle.nam_cells.proofs.ViewLemmas.{upkeep_fits}
 
 module _ (shape : Shape) (store : Store) (ghost : Ghost)

@@ -20,7 +20,7 @@ use Rattle.nam_ghost.specs.Upkeep.{MoveBegun}
 use Rattle.nam_ghost.specs.Versions.{CellImage, Chain, Version, slot_image}
 use Rattle.nam_ghost.proofs.RowLemmas.{count_rises, ends_stay, numbers_stay, slots_go}
 use Rattle.nam_cells.specs.Turn.{RowsGo}
-use Rattle.nam_cells.proofs.ValueLemmas.{data_same}
+use Rattle.nam_ghost.proofs.ValueLemmas.{data_same}
 
 -- 1. What one step may make of a row comes to that
 

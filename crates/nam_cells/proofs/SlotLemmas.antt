@@ -20,7 +20,7 @@ use Rattle.nam_ghost.specs.Slots.{Kept, KeptOk, Ring, SlotIs}
 use Rattle.nam_ghost.specs.Upkeep.{MoveBegun}
 use Rattle.nam_ghost.specs.Versions.{Chain, IsNth, Version, old_header, old_word, slot_image}
 use Rattle.nam_ghost.proofs.RowLemmas.{kept_ends}
-use Rattle.nam_cells.proofs.ValueLemmas.{old_says}
+use Rattle.nam_ghost.proofs.ValueLemmas.{old_says}
 
 mark_moved : (form : Form) → is_moved form mark ≡ true
 mark_moved form = refl

@@ -39,7 +39,7 @@ use Rattle.nam_cells.specs.Views.{UpkeepFits}
 use Rattle.nam_cells.proofs.OldLemmas.{old_next, old_rises}
 use Rattle.nam_cells.proofs.RowLemmas.{rows_go}
 use Rattle.nam_cells.proofs.StayLemmas.{elsewhere_stays, upkeep_stays}
-use Rattle.nam_cells.proofs.ValueLemmas.{once}
+use Rattle.nam_ghost.proofs.ChainLemmas.{once}
 use Rattle.nam_cells.proofs.ViewLemmas.{abandoned_view, asked_view, upkeep_fits}
 use Rattle.nam_cells.proofs.WordLemmas.{Known, word_taken}
 use Rattle.nam_cells.proofs.WriteLemmas.{quiet}

@@ -13,9 +13,9 @@ use Rattle.nam_ghost.specs.Chains.{ChainOk, ChainsOk, IsLoaded}
 use Rattle.nam_ghost.specs.Copiers.{Copier, CopierOk, IsCopy, RowRing, SlotsOk, copier_of, has_copied, is_before}
 use Rattle.nam_ghost.specs.Holders.{Holds}
 use Rattle.nam_ghost.specs.Keys.{AreUnused, IsUnused, KeyClientOk, KeysOk}
-use Rattle.nam_ghost.specs.Law.{WordsOk}
+use Rattle.nam_ghost.specs.Law.{GroundOk, WordsOk}
 use Rattle.nam_ghost.specs.Moments.{observer_of}
-use Rattle.nam_ghost.specs.Origins.{AreListed, IsStanding, OriginsOk}
+use Rattle.nam_ghost.specs.Origins.{AreListed, IsStanding, ListedOk, OriginsOk}
 use Rattle.nam_ghost.specs.Publications.{PublicationsOk, PublishedOk}
 use Rattle.nam_ghost.specs.Reads.{ReaderOk, ReadsOk}
 use Rattle.nam_ghost.specs.Since.{SinceOk}
@@ -314,8 +314,10 @@ origins_ok : OriginsOk narrow_shape meets.store chains meets.ghost.published
 origins_ok = record {
   versions_are = λ row is number version newer. absurd (no_later row is number version newer);
   standing = everyone_of StandsSo (new_client 0 0) clients two_clients stands_one stands_other;
-  listed = everyone_of ListedSo (new_client 0 0) clients two_clients listed_one listed_other;
 }
+
+listed_ok : ListedOk narrow_shape meets.store meets.ghost.published
+listed_ok = everyone_of ListedSo (new_client 0 0) clients two_clients listed_one listed_other
 
 since_ok : SinceOk narrow_shape meets.store meets.ghost.published meets.ghost.order
 unfolding turns copies load_from
@@ -330,8 +332,8 @@ since_ok = record {
 
 -- 8. All of it, beside what holds of every store
 
-words_ok : BaseOk narrow_shape meets.store → WordsOk narrow_shape meets.store meets.ghost
-words_ok base = record {
+ground_ok : BaseOk narrow_shape meets.store → GroundOk narrow_shape meets.store meets.ghost
+ground_ok base = record {
   base = base;
   moments = moments_ok;
   locks = locks_ok;
@@ -339,8 +341,10 @@ words_ok base = record {
   published = published_ok;
   slots = slots_ok;
   cells = cells_ok;
-  reads = reads_ok;
   keys = keys_ok;
   origins = origins_ok;
   since = since_ok;
 }
+
+words_ok : BaseOk narrow_shape meets.store → WordsOk narrow_shape meets.store meets.ghost
+words_ok base = record { ground = ground_ok base; reads = reads_ok; listed = listed_ok }

@@ -1,6 +1,8 @@
 pub mod Runs
 mod RunsLemmas
 pub mod RowLemmas
+pub mod ChainLemmas
+pub mod ValueLemmas
 pub mod LawLemmas
 pub mod CommitExample
 pub mod MoveExample

@@ -47,3 +47,10 @@ pub record IsNew (width : ℕ) (observers : List Observer) (version : Version) :
   pub wide : HasWidth width version.value
   pub hidden : (seen : List ℕ) → Someone (λ _ observer. Listed seen observer.snaps) observers
       → is_visible version.stamp seen ≡ false
+
+-- What one step may make of a chain: nothing but its holder, and how far that is; or one version more, which is new.
+pub data ChainNext (width : ℕ) (observers : List Observer) : Chain → Chain → Type 0 where
+  Stands : {chain later : Chain} → (old : later.old ≡ chain.old) → (now : later.now ≡ chain.now)
+      → ChainNext width observers chain later
+  Grows : {chain later : Chain} → (old : later.old ≡ versions chain) → (new : IsNew width observers later.now)
+      → ChainNext width observers chain later

@@ -8,7 +8,7 @@ use Rattle.nam_ghost.specs.Ghost.{Ghost, IsReachedWith}
 use Rattle.nam_ghost.specs.Keys.{KeysOk}
 use Rattle.nam_ghost.specs.Locks.{LocksOk}
 use Rattle.nam_ghost.specs.Moments.{MomentsOk}
-use Rattle.nam_ghost.specs.Origins.{OriginsOk}
+use Rattle.nam_ghost.specs.Origins.{ListedOk, OriginsOk}
 use Rattle.nam_ghost.specs.Publications.{PublishedOk}
 use Rattle.nam_ghost.specs.Reads.{ReadsOk}
 use Rattle.nam_ghost.specs.Since.{SinceOk}
@@ -20,7 +20,8 @@ use Rattle.nam_store.specs.Store.{Store}
 use Rattle.si_model.specs.declared.row.Row.{Row}
 use Rattle.std.specs.Prelude.{List}
 
-pub record WordsOk (shape : Shape) (store : Store) (ghost : Ghost) : Type 0 where
+-- The groups that the others stand on: of words and calls alone.
+pub record GroundOk (shape : Shape) (store : Store) (ghost : Ghost) : Type 0 where
   pub base : BaseOk shape store
   pub moments : MomentsOk shape store
   pub locks : LocksOk shape store ghost.chains
@@ -28,10 +29,15 @@ pub record WordsOk (shape : Shape) (store : Store) (ghost : Ghost) : Type 0 wher
   pub published : PublishedOk shape store ghost.chains ghost.published
   pub slots : SlotsOk shape store ghost.chains ghost.rings
   pub cells : CellsOk shape store ghost.chains ghost.rings ghost.cells
-  pub reads : ReadsOk shape store ghost.chains ghost.rings ghost.cells
   pub keys : KeysOk shape store ghost.chains
   pub origins : OriginsOk shape store ghost.chains ghost.published
   pub since : SinceOk shape store ghost.published ghost.order
+
+-- all of it: with what readers rely on, and what logs list
+pub record WordsOk (shape : Shape) (store : Store) (ghost : Ghost) : Type 0 where
+  pub ground : GroundOk shape store ghost
+  pub reads : ReadsOk shape store ghost.chains ghost.rings ghost.cells
+  pub listed : ListedOk shape store ghost.published
 
 -- it holds with what is known along the steps
 abbrev pub GhostLaw : Type 0

@@ -76,8 +76,12 @@ pub record AreListed (shape : Shape) (m : Field → ℕ) (published : ℕ → Li
   pub each : (k : ℕ) (commit : Publication) (listed : Published) → slice_get (published nth) k ≡ Some commit
       → slice_get (listed_commits client) k ≡ Some listed → IsListedAs shape m commit listed
 
+-- what a commit shows of itself: each version has an origin, and a commit that frees its guards is the last published
 pub record OriginsOk (shape : Shape) (store : Store) (chains : ℕ → Chain) (published : ℕ → List Publication)
     : Type 0 where
   pub versions_are : HaveOrigins shape store chains published
   pub standing : Everyone (IsStanding published) store.clients
-  pub listed : Everyone (AreListed shape (memory shape store.words) published) store.clients
+
+-- what logs show of it: the keys of the written records stand, and they are listed
+abbrev pub ListedOk : Shape → Store → (ℕ → List Publication) → Type 0
+ListedOk shape store published = Everyone (AreListed shape (memory shape store.words) published) store.clients

@@ -1,0 +1,2 @@
+pub mod SinceLaw
+pub mod CircleLaw

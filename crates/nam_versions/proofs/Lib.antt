@@ -1,0 +1,9 @@
+pub mod VisibleLemmas
+pub mod ListLemmas
+pub mod OrderLemmas
+pub mod ChainLemmas
+pub mod PublishedLemmas
+pub mod OpeningLemmas
+pub mod TurnLemmas
+pub mod StoreLemmas
+pub mod SeenLemmas

@@ -1,0 +1,4 @@
+pub mod Turn
+pub mod ChainsLaw
+pub mod PublishedLaw
+pub mod SeenLaw

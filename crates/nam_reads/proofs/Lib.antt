@@ -1,0 +1,14 @@
+pub mod FrontLemmas
+pub mod WantedLemmas
+pub mod CurrentLemmas
+pub mod RingLemmas
+pub mod CellLemmas
+pub mod ReadLemmas
+pub mod RowStays
+pub mod ReadStays
+pub mod CopyLemmas
+pub mod FactsLemmas
+pub mod ReaderLemmas
+pub mod OpeningLemmas
+pub mod FoundLemmas
+pub mod StoreLemmas

@@ -1,0 +1,4 @@
+pub mod ReadsLaw
+pub mod Facts
+pub mod Comes
+pub mod FoundLaw

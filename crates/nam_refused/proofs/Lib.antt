@@ -1,0 +1,10 @@
+pub mod StayLemmas
+pub mod CommitLemmas
+pub mod WordLemmas
+pub mod StoreLemmas
+pub mod AnswerLemmas
+pub mod RecordLemmas
+pub mod LockedLemmas
+pub mod LockerLemmas
+pub mod LockerCommits
+pub mod LockerSteps

@@ -1,0 +1,5 @@
+pub mod Views
+pub mod Refused
+pub mod RefusedLaw
+pub mod Lockers
+pub mod LockersLaw

@@ -1,0 +1,13 @@
+pub mod NewestLemmas
+pub mod RangeLemmas
+pub mod StayLemmas
+pub mod WordLemmas
+pub mod ClientLemmas
+pub mod OwnLemmas
+pub mod StoreLemmas
+pub mod SortLemmas
+pub mod ItemsLemmas
+pub mod ListedLemmas
+pub mod ScannedLemmas
+pub mod FindsLemmas
+pub mod RepeatLemmas

@@ -1,0 +1,7 @@
+pub mod GroundLemmas
+pub mod LawLemmas
+pub mod WorldsLemmas
+pub mod AnswersLemmas
+pub mod EndsLemmas
+pub mod CountLemmas
+pub mod CountsLemmas

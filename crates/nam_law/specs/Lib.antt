@@ -1,0 +1,5 @@
+pub mod WordsLaw
+pub mod WorldsLaw
+pub mod AnswersLaw
+pub mod EndsLaw
+pub mod CountsLaw

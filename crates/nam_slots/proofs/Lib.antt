@@ -1,0 +1,17 @@
+pub mod SlotLemmas
+pub mod RingLemmas
+pub mod SpotLemmas
+pub mod CopierLemmas
+pub mod OwnLemmas
+pub mod AsidePoints
+pub mod CheckPoints
+pub mod HandLemmas
+pub mod CopyPoints
+pub mod CopyWrites
+pub mod InstallPoints
+pub mod CommitLemmas
+pub mod MoveLemmas
+pub mod WordLemmas
+pub mod StoreLemmas
+pub mod OpeningLemmas
+pub mod KeptLemmas

@@ -1,0 +1,5 @@
+pub mod Teller
+pub mod Steps
+pub mod TellsLaw
+pub mod EndsLaw
+pub mod AskedLaw

@@ -37,7 +37,8 @@ module _ (shape : Shape) (limits : FitsLimits shape) (m : Field → ℕ) (chains
       subst (SlotIs (place_at shape row) slot (slot_image m row slot) (chains row)) at (ring.slots slot less)
 
   -- its end
-  pub next_is : (kept : Kept) → (rings row).kept slot ≡ Some kept → kept.next ≡ end_at shape chains rings row kept.number
+  pub next_is : (kept : Kept) → (rings row).kept slot ≡ Some kept
+      → kept.next ≡ end_at shape chains rings row kept.number
   next_is kept at =
       kept_ends (place_at shape row) (place_within_limits shape row limits is).least_ring (slot_image m row)
       (chains row) (rings row) ring slot less kept at

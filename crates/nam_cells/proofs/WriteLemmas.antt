@@ -10,7 +10,8 @@ use Rattle.nam_layout.specs.declared.field.Field.{Field}
 use Rattle.nam_layout.specs.declared.field.Field.TheVariants.{Begin, CellWord, End, Entry, Horizon, Owner, Tag}
 use Rattle.nam_layout.proofs.AddressLemmas.{are_one}
 use Rattle.nam_store.specs.Changed.{Changed}
-use Rattle.nam_ghost.specs.Cells.{Cell, CellIs, CellMap, CellsAre, ClaimedBy, IsEnded, IsHorizonBehind, Stores, put_cell}
+use Rattle.nam_ghost.specs.Cells.{Cell, CellIs, CellMap, CellsAre, ClaimedBy, IsEnded, IsHorizonBehind, Stores}
+use Rattle.nam_ghost.specs.Cells.{put_cell}
 use Rattle.nam_ghost.specs.Upkeep.{CellsNext, SameCell, Upkeep, UpkeepOk}
 use Rattle.nam_ghost.specs.Versions.{cell_image}
 use Rattle.nam_cells.specs.Turn.{Turn, TurnOk}

@@ -16,8 +16,8 @@ use Rattle.nam_protocol.specs.declared.client.Call.TheVariants.{Begin, Txn}
 use Rattle.nam_protocol.specs.declared.txn.TxnCall.TheVariants.{Commit, Guard, Put}
 use Rattle.si_model.specs.Lists.{last_of}
 use Rattle.si_model.specs.declared.log.Stamp.{Stamp}
-use Rattle.std.proofs.Common.{None, Some, [], ap, arith, false, inr, length, map, option_map, refl, slice_index_or, true, ℕ, ◌+◌}
-use Rattle.std.proofs.Common.{◌∷◌, ◌≡◌}
+use Rattle.std.proofs.Common.{None, Some, [], ap, arith, false, inr, length, map, option_map, refl, slice_index_or}
+use Rattle.std.proofs.Common.{true, ℕ, ◌+◌, ◌∷◌, ◌≡◌}
 
 -- The second client has taken its snapshot. The first writes key 0 and guards key 1, after so many verbs of its commit.
 abbrev guards : ℕ → Seen

@@ -1,5 +1,5 @@
--- What a client knows of keys after each word that it takes and each call that it is asked, and which key words its verb
--- changes.
+-- What a client knows of keys after each word that it takes and each call that it is asked, and which key words its
+-- verb changes.
 use Rattle.std.proofs.Common.{None, Option, Some, ap, inl, subst, sym, ℕ, ◌∙◌, ◌≡◌, ◌≢◌}
 use Rattle.std.proofs.lemmas.Option.{none-some}
 use Rattle.nam_verbs.specs.VerbAt.{VerbAt, found_at, left_at, target}

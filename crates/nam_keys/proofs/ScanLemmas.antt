@@ -29,7 +29,8 @@ module _ (shape : Shape) (m : Field → ℕ) (attempt : Open) (claims : AreAtKey
   -- 1. A position is left
 
   -- the rows that were found before it, and maybe that at it
-  skip_tells : (client : ClientState) → ClaimsOk shape m client.txn → AreBefore shape m table (position + 1) client.scanned
+  skip_tells : (client : ClientState) → ClaimsOk shape m client.txn
+      → AreBefore shape m table (position + 1) client.scanned
       → KeyClientOk shape m (on_skip client attempt table low high (scan_skip shape table position))
   skip_tells client opened before =
       by_test (λ now. KeyClientOk shape m (on_skip client attempt table low high now))

@@ -89,7 +89,8 @@ module _ (shape : Shape) (m : Field → ℕ) where
   same_past table key passed other k p is less one_table one_key =
       subst (λ (at : ℕ × ℕ). p < capacity_of shape at.0 → row_on shape at.0 at.1 p ≡ row_on shape table key passed
       → IsPast shape m at.0 at.1 p → IsPast shape m table key passed) (λ i. (sym one_table i, sym one_key i))
-      (λ within one past. subst (IsPast shape m table key) (rows_differ shape table is key p passed within less one) past)
+      (λ within one past.
+      subst (IsPast shape m table key) (rows_differ shape table is key p passed within less one) past)
 
 pub stand_stays : (shape : Shape) (words later : List ℕ) (view : KeyView) → ViewFits shape view
     → ViewOk shape (memory shape words) view → KeysGo shape (memory shape words) (memory shape later) view

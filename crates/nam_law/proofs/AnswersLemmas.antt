@@ -50,9 +50,10 @@ module _ (shape : Shape) (store : Store) (ghost : Ghost) (ok : WordsOk shape sto
   module _ (passed : ℕ) (runs : client.call ≡ Some (At (InTxn (Finding op passed)))) where
     finds : found_word shape store client
         ≡ memory shape store.words (nth_key (path_of shape (op_key op).table (op_key op).key) passed)
-    finds = ap (λ (call : Option (Now CallPoint Answer)). found_at (memory shape store.words) (verb_at shape client call))
-        runs
-        ∙ ap (λ (txn : Option Open). found_at (memory shape store.words) (open_verb shape txn (Finding op passed))) opened
+    finds =
+        let m = memory shape store.words in
+        ap (λ (call : Option (Now CallPoint Answer)). found_at m (verb_at shape client call)) runs
+        ∙ ap (λ (txn : Option Open). found_at m (open_verb shape txn (Finding op passed))) opened
 
     looks : (end : Now ℕ FindEnd) → find_after (op_path shape op) passed (found_word shape store client) ≡ end
         → Goes shape store ghost attempt.state op (on_find shape attempt.state op end)
@@ -60,8 +61,8 @@ module _ (shape : Shape) (store : Store) (ghost : Ghost) (ok : WordsOk shape sto
     looks (Over (found_key.At position)) is = Reads position read_begin
     looks (Over found_key.Absent) is =
         let key = op_key op in
-        Decides None (Nowhere (none_bears shape store ground.base ghost.chains ground.keys nth client here key.table key.key
-        passed (ap key_view runs)
+        Decides None (Nowhere (none_bears shape store ground.base ghost.chains ground.keys nth client here key.table
+        key.key passed (ap key_view runs)
         (subst (λ found. find_after (op_path shape op) passed found ≡ Over found_key.Absent) finds is)))
 
   -- it reads at its position

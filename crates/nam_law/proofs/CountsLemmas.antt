@@ -161,7 +161,8 @@ module _ (shape : Shape) (store : Store) (ghost : Ghost) (ground : GroundOk shap
           (get_at_end (ghost.chains row).old (ghost.chains row).now) in
           let small = few number (ghost.chains row).now at in omega arith
 
-  pub counted : memory shape store.words (Count row) ≡ current_number (ghost.chains row) + flag (ghost.chains row).counted
+  pub counted : memory shape store.words (Count row)
+      ≡ current_number (ghost.chains row) + flag (ghost.chains row).counted
   counted = (ground.locks.rows row is_row).count_is ∙ mod-eq_of_lt (below (ghost.chains row).counted)
     where
       below : (b : Bool) → current_number (ghost.chains row) + flag b < 2 ^ 64

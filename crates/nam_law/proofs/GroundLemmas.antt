@@ -98,8 +98,9 @@ module _ (shape : Shape) (before after : Store) (goes : StepsTo shape before aft
     rows = λ row is.
         let Elsewhere = IsElsewhere shape ghost.chains ghost.rings (memory shape before.words) ghost.cells row in
         row_weaker (place_at shape row) Elsewhere Elsewhere
-        (IsNew (width_at shape.tables row) (map observer_of before.clients)) (λ version. Unit {0}) (λ number there. there)
-        (λ version new. tt) (ghost.chains row) ((ghost_step shape before after goes ghost).chains row) (ghost.rings row)
+        (IsNew (width_at shape.tables row) (map observer_of before.clients)) (λ version. Unit {0})
+        (λ number there. there) (λ version new. tt) (ghost.chains row)
+        ((ghost_step shape before after goes ghost).chains row) (ghost.rings row)
         ((ghost_step shape before after goes ghost).rings row) (rows_go row is);
   }
 

@@ -26,8 +26,8 @@ use Rattle.si_model.specs.declared.row.Key.{Key}
 use Rattle.std.specs.Prelude.{List, None, Option, Some, slice_index, ℕ, ◌-◌, ◌<◌, ◌≡◌}
 
 module _ (shape : Shape) (store : Store) (ghost : Ghost) where
-  -- The snapshot sees this value of a key: that of the newest version that it sees at the position that bears the key; or
-  -- none, where no position bears it.
+  -- The snapshot sees this value of a key: that of the newest version that it sees at the position that bears the key;
+  -- or none, where no position bears it.
   pub data Sees (seen : List ℕ) (key : Key) : Option (List ℕ) → Type 0 where
     AtPosition : (position : ℕ) (value : Option (List ℕ))
         → (bears : Bears shape (memory shape store.words) key.table key.key position)
@@ -35,8 +35,8 @@ module _ (shape : Shape) (store : Store) (ghost : Ghost) where
     Nowhere : (none : (position : ℕ) → position < capacity_of shape key.table
         → (Bears shape (memory shape store.words) key.table key.key position) → ⊥) → Sees seen key None
 
-  -- An operation goes on looking for its key, or reading; or the value that the snapshot sees decides; or a horizon entry
-  -- is above the snapshot's, which ends the transaction. It is never astray.
+  -- An operation goes on looking for its key, or reading; or the value that the snapshot sees decides; or a horizon
+  -- entry is above the snapshot's, which ends the transaction. It is never astray.
   pub data Goes (state : TxnState) (op : Op) : Stepped → Type 0 where
     Looks : (passed : ℕ) → Goes state op (at state (Finding op passed))
     Reads : (position : ℕ) (point : ReadPoint) → Goes state op (at state (Reading op position point))

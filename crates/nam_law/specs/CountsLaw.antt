@@ -1,5 +1,5 @@
--- Counts don't wrap: the word of a row's count is how many versions were written there after the first one, and one more
--- from the write of the count to that of the header.
+-- Counts don't wrap: the word of a row's count is how many versions were written there after the first one, and one
+-- more from the write of the count to that of the header.
 use Rattle.nam_calls.specs.Memory.{memory}
 use Rattle.nam_catalog.specs.declared.shape.Shape.{Shape}
 use Rattle.nam_ghost.specs.Ghost.{Ghost}

@@ -19,8 +19,8 @@ use Rattle.si_model.specs.declared.row.Item.{Item}
 use Rattle.std.specs.Prelude.{List, Some, length, ℕ, ◌+◌, ◌≡◌, ◌≢◌}
 use Rattle.nam_protocol.specs.declared.txn.TxnAnswer.TheVariants as txn_answer
 
--- A scan lists each key of its range at which its transaction finds a value, once, with that value, and nothing else: it
--- passes no key that its snapshot sees.
+-- A scan lists each key of its range at which its transaction finds a value, once, with that value, and nothing else:
+-- it passes no key that its snapshot sees.
 abbrev pub ScanLaw : Type 0
 ScanLaw = (shape : Shape) (store : Store) (ghost : Ghost) → LawOk shape store ghost → (nth : ℕ) (client : ClientState)
     → client_at store nth ≡ Some client → (attempt : Open) (table low high count : ℕ)

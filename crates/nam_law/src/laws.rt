@@ -9,10 +9,10 @@ ghost use Rattle.nam_law.specs.WorldsLaw.{WorldsLaw};
 
 /// What every word, version and call in flight may rely on.
 ///
-/// The opening has all of it (`LawOk`), with any rows that may be loaded (`opening`). Each verb, each call that is asked,
-/// each transaction that is given up and each stop keeps it (`step`); so each store that comes about has it, with what
-/// is known of it along its steps (`reached`): `words` says so of the groups of `nam_ghost`, and `some` without naming
-/// what is known. The groups that the others stand on are kept by themselves (`ground`).
+/// The opening has all of it (`LawOk`), with any rows that may be loaded (`opening`). Each verb, each call that is
+/// asked, each transaction that is given up and each stop keeps it (`step`); so each store that comes about has it,
+/// with what is known of it along its steps (`reached`): `words` says so of the groups of `nam_ghost`, and `some`
+/// without naming what is known. The groups that the others stand on are kept by themselves (`ground`).
 pub fn words_law()
     ensures opening { OpensLaw }
     ensures step { KeepsLaw }
@@ -30,11 +30,11 @@ pub fn worlds_law()
 /// What the answers of a client's calls come to, of a store that meets the law.
 ///
 /// An operation that looks for its key and reads there is decided by the value that its transaction's snapshot sees: of
-/// the newest version that it sees at the position that bears the key, whole, whoever writes meanwhile; or none, where no
-/// position bears the key. Or the transaction is too old: the horizon entry that the answer tells stands, and is above
-/// its snapshot's. A read is never astray (`value`). A scan lists exactly the rows of its range that its transaction
-/// finds (`scan`). Where a commit is refused by Newer, a record of it has a version that its snapshot doesn't see
-/// (`newer`); a lock that stands in its way is another client's, which lists it (`locked`).
+/// the newest version that it sees at the position that bears the key, whole, whoever writes meanwhile; or none, where
+/// no position bears the key. Or the transaction is too old: the horizon entry that the answer tells stands, and is
+/// above its snapshot's. A read is never astray (`value`). A scan lists exactly the rows of its range that its
+/// transaction finds (`scan`). Where a commit is refused by Newer, a record of it has a version that its snapshot
+/// doesn't see (`newer`); a lock that stands in its way is another client's, which lists it (`locked`).
 pub fn answers_law()
     ensures value { AnswersLaw }
     ensures scan { ScanLaw }

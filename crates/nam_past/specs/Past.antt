@@ -43,9 +43,9 @@ pub record IsNext (start workers : ℕ) (order : List Stamp) (place : ℕ) (stam
   pub inside : worker < workers
   pub stamp_is : stamp ≡ record { thread = worker + 1; number = entry_after start order place worker + 1 }
 
--- Stamps stand in the order by rising numbers of each worker. The vector is what it comes to after the whole order. Each
--- snapshot in its second pass, and each that was taken, has its moment. It keeps it, since the order only grows at its
--- end.
+-- Stamps stand in the order by rising numbers of each worker. The vector is what it comes to after the whole order.
+-- Each snapshot in its second pass, and each that was taken, has its moment. It keeps it, since the order only grows at
+-- its end.
 pub record ArePast (start workers : ℕ) (V : ℕ → ℕ) (observers : List Observer) (order : List Stamp) : Type 0 where
   pub numbered : (place : ℕ) (stamp : Stamp) → slice_get order place ≡ Some stamp
       → IsNext start workers order place stamp

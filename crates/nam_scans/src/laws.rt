@@ -17,8 +17,8 @@ pub fn scans_law()
 /// What a scan lists in the end.
 ///
 /// At each key of a table a transaction finds one value, and one alone: that of its own write, or else of the newest
-/// version that its snapshot sees at the key's position, and none where no position bears the key (`finds`). While it is
-/// open no step changes what it finds (`stays`). Where a client's next word ends its scan, the client lists as read
+/// version that its snapshot sees at the key's position, and none where no position bears the key (`finds`). While it
+/// is open no step changes what it finds (`stays`). Where a client's next word ends its scan, the client lists as read
 /// each key of the range at which its transaction finds a value, once, with that value, by rising keys, and nothing
 /// else: so no key is passed at which its snapshot sees a value (`complete`). These are the items of the range of any
 /// rows that have what the transaction finds there (`items`).

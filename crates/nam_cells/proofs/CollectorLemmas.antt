@@ -1,36 +1,38 @@
 -- What a collector's words owe: horizon entries, then the cells of its bucket.
 use Rattle.std.proofs.Common.{List, [], ap, arith, eqb, false, length, refl, subst, sym, true, ℕ, ⊎_elim, ◌&&◌, ◌*◌}
 use Rattle.std.proofs.Common.{◌++◌, ◌+◌, ◌<◌, ◌∙◌, ◌∷◌, ◌≡◌, ◌≤◌}
-use Rattle.std.specs.Prelude.{Bool, if◌then◌else◌, nat_lt, slice_index, ◌==◌}
 use Rattle.std.proofs.lemmas.Bool.{and_parts, cases_lt, eqb-true, ltb-true}
 use Rattle.std.proofs.lemmas.List.{get_or_append_left, get_or_push, length_push}
-use Rattle.si_model.specs.declared.log.Stamp.{Stamp}
-use Rattle.nam_verbs.specs.declared.now.Now.{Now}
-use Rattle.nam_verbs.specs.declared.now.Now.TheVariants.{At, Over}
-use Rattle.nam_verbs.proofs.TestLemmas.{by_equal, by_test}
+use Rattle.std.specs.Prelude.{Bool, if◌then◌else◌, nat_lt, slice_index, ◌==◌}
 use Rattle.nam_calls.specs.Horizon.{collect_after, collect_next, entry_known}
 use Rattle.nam_calls.specs.declared.horizon.CollectPoint.{CollectPoint}
 use Rattle.nam_calls.specs.declared.horizon.CollectPoint.TheVariants.{CollectEnding, CollectFree, CollectTag}
 use Rattle.nam_calls.specs.declared.horizon.CollectPoint.TheVariants.{HorizonLook, HorizonRaise}
 use Rattle.nam_catalog.specs.declared.shape.Shape.{Shape}
+use Rattle.nam_cells.proofs.MoverWrites.{not_claimed}
+use Rattle.nam_cells.proofs.StayLemmas.{knows_stays, published_stays}
+use Rattle.nam_cells.proofs.ValueLemmas.{within_below}
+use Rattle.nam_cells.proofs.WriteLemmas.{horizon_rises, horizon_spares, quiet, quiet_spares, tag_spares, tag_turns}
+use Rattle.nam_cells.proofs.WriteLemmas.{written_same}
+use Rattle.nam_cells.specs.Turn.{TurnOk}
+use Rattle.nam_cells.specs.Views.{collector_now}
+use Rattle.nam_cells.specs.Words.{SameUpkeep}
+use Rattle.nam_ghost.proofs.CellLemmas.{tagged_stays}
+use Rattle.nam_ghost.proofs.ValueLemmas.{stamp_says}
+use Rattle.nam_ghost.specs.Cells.{Cell, CellIs, CellMap, ClaimedBy, FreeCell, Stores, end_at, put_cell}
+use Rattle.nam_ghost.specs.Turn.{Turn}
+use Rattle.nam_ghost.specs.Upkeep.{CellsNext, IsPublished, Knows, UpkeepOk, WhileTagged}
+use Rattle.nam_ghost.specs.Versions.{cell_image}
 use Rattle.nam_header.specs.Stamp.{is_within, stamp_in}
 use Rattle.nam_header.specs.Tag.{freed, generation_of, has_next, is_full, state_of}
 use Rattle.nam_layout.specs.Place.{cells_of}
 use Rattle.nam_layout.specs.declared.field.Cells.{Cells}
 use Rattle.nam_layout.specs.declared.field.Field.TheVariants.{End, Entry, Horizon, Tag}
 use Rattle.nam_store.specs.Changed.{Changed}
-use Rattle.nam_ghost.specs.Cells.{Cell, CellIs, CellMap, ClaimedBy, FreeCell, Stores, end_at, put_cell}
-use Rattle.nam_ghost.specs.Upkeep.{CellsNext, IsPublished, Knows, UpkeepOk, WhileTagged}
-use Rattle.nam_ghost.specs.Versions.{cell_image}
-use Rattle.nam_cells.specs.Turn.{Turn, TurnOk}
-use Rattle.nam_cells.specs.Views.{collector_now}
-use Rattle.nam_cells.specs.Words.{SameUpkeep}
-use Rattle.nam_cells.proofs.MoverWrites.{not_claimed}
-use Rattle.nam_cells.proofs.StayLemmas.{knows_stays, published_stays, tagged_stays}
-use Rattle.nam_cells.proofs.ValueLemmas.{within_below}
-use Rattle.nam_ghost.proofs.ValueLemmas.{stamp_says}
-use Rattle.nam_cells.proofs.WriteLemmas.{horizon_rises, horizon_spares, quiet, quiet_spares, tag_spares, tag_turns}
-use Rattle.nam_cells.proofs.WriteLemmas.{written_same}
+use Rattle.nam_verbs.proofs.TestLemmas.{by_equal, by_test}
+use Rattle.nam_verbs.specs.declared.now.Now.{Now}
+use Rattle.nam_verbs.specs.declared.now.Now.TheVariants.{At, Over}
+use Rattle.si_model.specs.declared.log.Stamp.{Stamp}
 
 row_in : Cell → ℕ
 row_in (Stores row number) = row

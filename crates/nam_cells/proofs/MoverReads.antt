@@ -1,12 +1,9 @@
 -- What a mover's words owe while it reads the version and claims a cell.
 use Rattle.std.proofs.Common.{List, Some, [], ap, arith, eqb, false, length, refl, subst, sym, true, ℕ, ◌++◌, ◌+◌, ◌<◌}
 use Rattle.std.proofs.Common.{◌∙◌, ◌∷◌, ◌≡◌}
-use Rattle.std.specs.Prelude.{Bool, None, if◌then◌else◌, ◌==◌}
 use Rattle.std.proofs.lemmas.Bool.{eqb-true}
 use Rattle.std.proofs.lemmas.Option.{same_Some}
-use Rattle.nam_verbs.specs.declared.now.Now.{Now}
-use Rattle.nam_verbs.specs.declared.now.Now.TheVariants.{At, Over}
-use Rattle.nam_verbs.proofs.TestLemmas.{by_equal, by_test}
+use Rattle.std.specs.Prelude.{Bool, None, if◌then◌else◌, ◌==◌}
 use Rattle.nam_calls.specs.Mover.{move_after, on_claim}
 use Rattle.nam_calls.specs.Overflow.{claim_next}
 use Rattle.nam_calls.specs.declared.mover.MoveAnswer.{MoveAnswer}
@@ -19,10 +16,23 @@ use Rattle.nam_calls.specs.declared.overflow.ClaimPoint.{ClaimPoint}
 use Rattle.nam_calls.specs.declared.overflow.ClaimPoint.TheVariants.{ClaimLook, ClaimTake}
 use Rattle.nam_calls.specs.declared.overflow.FillPoint.TheVariants.{FillOwner}
 use Rattle.nam_catalog.specs.declared.shape.Shape.{Shape}
-use Rattle.nam_header.specs.declared.header.Header.{Header}
+use Rattle.nam_cells.proofs.SlotLemmas.{head_begins, kept_there, next_is}
+use Rattle.nam_cells.proofs.StayLemmas.{begun_on, end_on, words_on}
+use Rattle.nam_cells.proofs.WriteLemmas.{put_here, quiet, tag_spares, tag_turns, written_same}
+use Rattle.nam_cells.specs.Turn.{TurnOk}
+use Rattle.nam_cells.specs.Views.{mover_now}
+use Rattle.nam_cells.specs.Words.{SameUpkeep}
+use Rattle.nam_ghost.proofs.CellLemmas.{bucket_within}
+use Rattle.nam_ghost.proofs.ValueLemmas.{got_more, got_none, old_says}
+use Rattle.nam_ghost.specs.Cells.{Cell, CellIs, CellMap, ClaimedBy, Stores, end_at, put_cell}
+use Rattle.nam_ghost.specs.Slots.{Kept}
+use Rattle.nam_ghost.specs.Turn.{Turn}
+use Rattle.nam_ghost.specs.Upkeep.{EndWas, MoveBegun, Mover, MoverAt, Owns, UpkeepOk}
+use Rattle.nam_ghost.specs.Versions.{HasData, IsNth, Version, cell_image}
 use Rattle.nam_header.specs.Header.{header_of, word_of}
 use Rattle.nam_header.specs.Stamp.{is_moved, stamp_word, without_moved}
 use Rattle.nam_header.specs.Tag.{is_free, state_of, written}
+use Rattle.nam_header.specs.declared.header.Header.{Header}
 use Rattle.nam_layout.specs.Address.{IsCell, IsRow}
 use Rattle.nam_layout.specs.Place.{bucket_of, cells_of, place_at}
 use Rattle.nam_layout.specs.Rows.{ring_at, width_at}
@@ -30,19 +40,11 @@ use Rattle.nam_layout.specs.declared.field.Cells.{Cells}
 use Rattle.nam_layout.specs.declared.field.Field.TheVariants.{SlotEnd, SlotHeader, SlotWord, Tag}
 use Rattle.nam_layout.specs.declared.field.Place.{Place}
 use Rattle.nam_store.specs.Changed.{Changed}
-use Rattle.nam_ghost.specs.Cells.{Cell, CellIs, CellMap, ClaimedBy, Stores, end_at, put_cell}
-use Rattle.nam_ghost.specs.Slots.{Kept}
-use Rattle.nam_ghost.specs.Upkeep.{EndWas, MoveBegun, Mover, MoverAt, Owns, UpkeepOk}
-use Rattle.nam_ghost.specs.Versions.{HasData, IsNth, Version, cell_image}
+use Rattle.nam_verbs.proofs.TestLemmas.{by_equal, by_test}
+use Rattle.nam_verbs.specs.declared.now.Now.{Now}
+use Rattle.nam_verbs.specs.declared.now.Now.TheVariants.{At, Over}
 use Rattle.nam_calls.specs.declared.mover.MoveAnswer.TheVariants as answer
 use Rattle.nam_calls.specs.declared.overflow.Version as filled
-use Rattle.nam_cells.specs.Turn.{Turn, TurnOk}
-use Rattle.nam_cells.specs.Views.{mover_now}
-use Rattle.nam_cells.specs.Words.{SameUpkeep}
-use Rattle.nam_cells.proofs.SlotLemmas.{head_begins, kept_there, next_is}
-use Rattle.nam_cells.proofs.StayLemmas.{begun_on, bucket_within, end_on, words_on}
-use Rattle.nam_ghost.proofs.ValueLemmas.{got_more, got_none, old_says}
-use Rattle.nam_cells.proofs.WriteLemmas.{put_here, quiet, tag_spares, tag_turns, written_same}
 
 -- which version, before it has read a header
 pub no_version : Version

@@ -1,11 +1,8 @@
 -- What a mover's words owe once it has read the version: the cell's words, the slot's header again, the tags, the flag.
 use Rattle.std.proofs.Common.{List, None, Option, Some, ap, arith, false, inl, length, refl, subst, sym, true, ℕ}
 use Rattle.std.proofs.Common.{⊎_elim, ◌*◌, ◌+◌, ◌<◌, ◌∙◌, ◌≡◌, ◌≢◌, ◌≤◌}
-use Rattle.std.specs.Prelude.{Bool, if◌then◌else◌, slice_index, ◌==◌}
 use Rattle.std.proofs.lemmas.Bool.{cases_lt}
-use Rattle.nam_verbs.specs.declared.now.Now.{Now}
-use Rattle.nam_verbs.specs.declared.now.Now.TheVariants.{At, Over}
-use Rattle.nam_verbs.proofs.TestLemmas.{by_equal}
+use Rattle.std.specs.Prelude.{Bool, if◌then◌else◌, slice_index, ◌==◌}
 use Rattle.nam_calls.specs.Mover.{move_after, on_fill}
 use Rattle.nam_calls.specs.declared.mover.MoveAnswer.{MoveAnswer}
 use Rattle.nam_calls.specs.declared.mover.MovePoint.{MovePoint}
@@ -13,10 +10,28 @@ use Rattle.nam_calls.specs.declared.mover.MovePoint.TheVariants.{MoveAgain, Move
 use Rattle.nam_calls.specs.declared.overflow.FillPoint.{FillPoint}
 use Rattle.nam_calls.specs.declared.overflow.FillPoint.TheVariants.{FillBegin, FillEnding, FillOwner, FillWord}
 use Rattle.nam_catalog.specs.declared.shape.Shape.{Shape}
-use Rattle.nam_header.specs.declared.header.Header.{Header}
+use Rattle.nam_cells.proofs.RowLemmas.{was_there}
+use Rattle.nam_cells.proofs.SlotLemmas.{again_there, kept_there, next_is}
+use Rattle.nam_cells.proofs.StayLemmas.{begun_on, cell_whole, claimer_one, end_on, words_on}
+use Rattle.nam_cells.proofs.ValueLemmas.{number_found}
+use Rattle.nam_cells.proofs.WriteLemmas.{cell_same, inside_turns, put_here, quiet, tag_cell, tag_spares, tag_turns}
+use Rattle.nam_cells.proofs.WriteLemmas.{written_same}
+use Rattle.nam_cells.specs.Turn.{TurnOk}
+use Rattle.nam_cells.specs.Views.{mover_now}
+use Rattle.nam_cells.specs.Words.{SameUpkeep, inside_of}
+use Rattle.nam_ghost.proofs.CellLemmas.{bucket_within}
+use Rattle.nam_ghost.proofs.ValueLemmas.{old_says}
+use Rattle.nam_ghost.specs.Cells.{Cell, CellIs, CellMap, ClaimedBy, FreeCell, IsWhole, Stores, end_at, put_cell}
+use Rattle.nam_ghost.specs.Steps.{header_number}
+use Rattle.nam_ghost.specs.Turn.{Turn}
+use Rattle.nam_ghost.specs.Upkeep.{EndWas, HasWritten, MoveBegun, Mover, NoUpkeep, Owns, SameCell, UpkeepOk, While}
+use Rattle.nam_ghost.specs.Upkeep.{WordsWere}
+use Rattle.nam_ghost.specs.Versions.{HasData, HasGot, Version, cell_image, versions}
 use Rattle.nam_header.specs.Header.{header_of}
 use Rattle.nam_header.specs.Stamp.{FitsStamp, stamp_in, stamp_word}
 use Rattle.nam_header.specs.Tag.{freed, full, generation_of, has_next, state_of}
+use Rattle.nam_header.specs.declared.header.Header.{Header}
+use Rattle.nam_layout.proofs.LimitLemmas.{place_within_limits}
 use Rattle.nam_layout.specs.Address.{IsCell, IsRow}
 use Rattle.nam_layout.specs.Place.{bucket_of, cells_of, place_at}
 use Rattle.nam_layout.specs.Rows.{ring_at, width_at}
@@ -24,24 +39,11 @@ use Rattle.nam_layout.specs.declared.field.Cells.{Cells}
 use Rattle.nam_layout.specs.declared.field.Field.{Field}
 use Rattle.nam_layout.specs.declared.field.Field.TheVariants.{Begin, CellWord, End, Owner, SlotHeader, Tag}
 use Rattle.nam_layout.specs.declared.field.Place.{Place}
-use Rattle.nam_layout.proofs.LimitLemmas.{place_within_limits}
 use Rattle.nam_store.specs.Changed.{Changed}
-use Rattle.nam_ghost.specs.Cells.{Cell, CellIs, CellMap, ClaimedBy, FreeCell, IsWhole, Stores, end_at, put_cell}
-use Rattle.nam_ghost.specs.Steps.{header_number}
-use Rattle.nam_ghost.specs.Upkeep.{EndWas, HasWritten, MoveBegun, Mover, NoUpkeep, Owns, SameCell, UpkeepOk}
-use Rattle.nam_ghost.specs.Upkeep.{While, WordsWere}
-use Rattle.nam_ghost.specs.Versions.{HasData, HasGot, Version, cell_image, versions}
+use Rattle.nam_verbs.proofs.TestLemmas.{by_equal}
+use Rattle.nam_verbs.specs.declared.now.Now.{Now}
+use Rattle.nam_verbs.specs.declared.now.Now.TheVariants.{At, Over}
 use Rattle.nam_calls.specs.declared.overflow.Version as filled
-use Rattle.nam_cells.specs.Turn.{Turn, TurnOk}
-use Rattle.nam_cells.specs.Views.{mover_now}
-use Rattle.nam_cells.specs.Words.{SameUpkeep, inside_of}
-use Rattle.nam_cells.proofs.RowLemmas.{was_there}
-use Rattle.nam_cells.proofs.SlotLemmas.{again_there, kept_there, next_is}
-use Rattle.nam_cells.proofs.StayLemmas.{begun_on, bucket_within, cell_whole, claimer_one, end_on, words_on}
-use Rattle.nam_cells.proofs.ValueLemmas.{number_found}
-use Rattle.nam_ghost.proofs.ValueLemmas.{old_says}
-use Rattle.nam_cells.proofs.WriteLemmas.{cell_same, inside_turns, put_here, quiet, tag_cell, tag_spares, tag_turns}
-use Rattle.nam_cells.proofs.WriteLemmas.{written_same}
 
 word_in : Field → ℕ
 word_in (CellWord bucket cell word) = word

@@ -1,16 +1,17 @@
 -- Where old versions stand, under each thing that a step may make of a row.
-use Rattle.std.proofs.Common.{None, Option, Some, ap, arith, inl, inr, length, refl, subst, sym, true, ℕ, ⊎_elim}
-use Rattle.std.proofs.Common.{◌<◌, ◌∙◌, ◌≡◌, ◌≤◌, ◌⊎◌}
+use Rattle.std.proofs.Common.{None, Option, Some, ap, arith, inl, inr, length, refl, subst, sym, true, ℕ, ⊎_elim, ◌<◌}
+use Rattle.std.proofs.Common.{◌∙◌, ◌≡◌, ◌≤◌, ◌⊎◌}
 use Rattle.std.proofs.lemmas.Bool.{cases_lt, true≢false}
 use Rattle.std.proofs.lemmas.List.{length_push}
 use Rattle.std.proofs.lemmas.Option.{none-some, same_Some}
-use Rattle.nam_layout.specs.declared.field.Place.{Place}
-use Rattle.nam_store.specs.Everyone.{put}
-use Rattle.nam_store.proofs.Lists.{put_cases}
+use Rattle.nam_ghost.proofs.RowLemmas.{moved_keeps}
 use Rattle.nam_ghost.specs.Cells.{OldOk}
 use Rattle.nam_ghost.specs.Slots.{Copies, Flags, Idles, IsFreeSlot, Keeps, Kept, Marks, Renews, Ring, RowNext, copy_of}
 use Rattle.nam_ghost.specs.Slots.{home, moved_of}
 use Rattle.nam_ghost.specs.Versions.{Chain, Version, current_number}
+use Rattle.nam_layout.specs.declared.field.Place.{Place}
+use Rattle.nam_store.proofs.Lists.{put_cases}
+use Rattle.nam_store.specs.Everyone.{put}
 
 module _ (place : Place) (some : 1 ≤ place.ring) (E : ℕ → Type 0) (New : Version → Type 0) where
   abbrev Stands : (ℕ → Option Kept) → ℕ → Type 0
@@ -44,11 +45,6 @@ module _ (place : Place) (some : 1 ≤ place.ring) (E : ℕ → Type 0) (New : V
   marked_stands chain ring ok slot less (Some kept) at free number keeps =
       subst E (ap (λ (k : Kept). k.number) (same_Some kept keeps.0 keeps.1) ∙ keeps.2)
       (ok.gone slot less kept at free)
-
-  flagged_stands : (o : Option Kept) (number : ℕ) → Keeps o number → Keeps (moved_of o) number
-  flagged_stands None number keeps = absurd (none-some keeps.0 keeps.1)
-  flagged_stands (Some kept) number keeps =
-      (record kept { moved = true }, refl, ap (λ (k : Kept). k.number) (same_Some kept keeps.0 keeps.1) ∙ keeps.2)
 
   flagged_gone : (o : Option Kept) → ((k : Kept) → o ≡ Some k → E k.number) → (k : Kept) → moved_of o ≡ Some k
       → E k.number
@@ -84,7 +80,7 @@ module _ (place : Place) (some : 1 ≤ place.ring) (E : ℕ → Type 0) (New : V
   old_next chain _ ring _ (Flags slot elsewhere) ok = record {
     old = λ number less.
         put_stands ring.kept slot (moved_of (ring.kept slot)) number
-        (λ same keeps. inl (flagged_stands (ring.kept slot) number keeps)) (ok.old number less);
+        (λ same keeps. inl (moved_keeps (ring.kept slot) number keeps)) (ok.old number less);
     gone = put_gone ring.kept slot (moved_of (ring.kept slot)) ok.gone
         (λ k at moved. flagged_gone (ring.kept slot) elsewhere k at);
   }

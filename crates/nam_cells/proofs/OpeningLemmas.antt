@@ -2,16 +2,16 @@
 use Rattle.std.proofs.Common.{ap, arith, subst, sym, ℕ, ◌+◌}
 use Rattle.std.proofs.lemmas.Option.{none-some}
 use Rattle.nam_calls.specs.Memory.{memory}
+use Rattle.nam_cells.specs.CellsLaw.{OpensLaw}
+use Rattle.nam_ghost.specs.Ghost.{opening_ghost}
+use Rattle.nam_ghost.specs.Upkeep.{UpkeepOk, upkeep_of}
 use Rattle.nam_header.specs.Tag.{state_of}
 use Rattle.nam_layout.specs.declared.field.Field.{Field}
 use Rattle.nam_layout.specs.declared.field.Field.TheVariants.{Entry, Horizon, Tag}
+use Rattle.nam_protocol.proofs.OpeningLemmas.{opening_law}
 use Rattle.nam_protocol.specs.Opening.{opening_words}
 use Rattle.nam_protocol.specs.declared.client.ClientState.{ClientState}
-use Rattle.nam_protocol.proofs.OpeningLemmas.{opening_law}
 use Rattle.nam_store.proofs.OpeningLemmas.{opening_client}
-use Rattle.nam_ghost.specs.Ghost.{opening_ghost}
-use Rattle.nam_ghost.specs.Upkeep.{UpkeepOk, upkeep_of}
-use Rattle.nam_cells.specs.CellsLaw.{OpensLaw}
 
 pub cells_open : OpensLaw
 cells_open shape limits rows loaded =

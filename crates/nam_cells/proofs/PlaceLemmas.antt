@@ -4,16 +4,13 @@ use Rattle.std.proofs.lemmas.Option.{same_Some}
 use Rattle.nam_calls.specs.Memory.{memory}
 use Rattle.nam_calls.specs.declared.mover.MovePoint.TheVariants.{MoveFlag}
 use Rattle.nam_catalog.specs.declared.shape.Shape.{Shape}
-use Rattle.nam_header.specs.Tag.{state_of}
-use Rattle.nam_layout.specs.Address.{IsCell, IsRow}
-use Rattle.nam_layout.specs.Place.{bucket_of, place_at}
-use Rattle.nam_layout.specs.Rows.{row_of, width_at}
-use Rattle.nam_layout.specs.declared.field.Field.{Field}
-use Rattle.nam_layout.specs.declared.field.Field.TheVariants.{SlotHeader, Tag}
-use Rattle.nam_layout.proofs.LimitLemmas.{place_within_limits}
-use Rattle.nam_protocol.specs.declared.client.Answer.{Answer}
-use Rattle.nam_protocol.specs.declared.client.CallPoint.{CallPoint}
-use Rattle.nam_verbs.specs.declared.now.Now.{Now}
+use Rattle.nam_cells.proofs.SlotLemmas.{again_there, kept_there}
+use Rattle.nam_cells.proofs.StoreLemmas.{cells_keep, cells_next}
+use Rattle.nam_cells.proofs.ViewLemmas.{upkeep_fits}
+use Rattle.nam_cells.specs.CellsLaw.{FlagsLaw, FreedLaw, FullLaw, HorizonLaw, IsInFull, IsInSlot, PlacesLaw}
+use Rattle.nam_cells.specs.Views.{UpkeepFits}
+use Rattle.nam_ghost.proofs.CellLemmas.{bucket_within}
+use Rattle.nam_ghost.proofs.ChainLemmas.{once}
 use Rattle.nam_ghost.specs.Cells.{Cell, CellIs, ClaimedBy, FreeCell, InCell, IsElsewhere, IsWhole, Stores}
 use Rattle.nam_ghost.specs.Chains.{ChainsOk}
 use Rattle.nam_ghost.specs.Copiers.{SlotsOk}
@@ -22,15 +19,18 @@ use Rattle.nam_ghost.specs.Moments.{observer_of}
 use Rattle.nam_ghost.specs.Slots.{Keeps, Kept, home}
 use Rattle.nam_ghost.specs.Upkeep.{CellsOk, Mover, UpkeepOk, upkeep_in}
 use Rattle.nam_ghost.specs.Versions.{cell_image}
+use Rattle.nam_header.specs.Tag.{state_of}
+use Rattle.nam_layout.proofs.LimitLemmas.{place_within_limits}
+use Rattle.nam_layout.specs.Address.{IsCell, IsRow}
+use Rattle.nam_layout.specs.Place.{bucket_of, place_at}
+use Rattle.nam_layout.specs.Rows.{row_of, width_at}
+use Rattle.nam_layout.specs.declared.field.Field.{Field}
+use Rattle.nam_layout.specs.declared.field.Field.TheVariants.{SlotHeader, Tag}
+use Rattle.nam_protocol.specs.declared.client.Answer.{Answer}
+use Rattle.nam_protocol.specs.declared.client.CallPoint.{CallPoint}
 use Rattle.nam_store.specs.Base.{BaseOk}
 use Rattle.nam_store.specs.Store.{Store}
-use Rattle.nam_cells.specs.CellsLaw.{FlagsLaw, FreedLaw, FullLaw, HorizonLaw, IsInFull, IsInSlot, PlacesLaw}
-use Rattle.nam_cells.specs.Views.{UpkeepFits}
-use Rattle.nam_cells.proofs.SlotLemmas.{again_there, kept_there}
-use Rattle.nam_cells.proofs.StayLemmas.{bucket_within}
-use Rattle.nam_cells.proofs.StoreLemmas.{cells_keep, cells_next}
-use Rattle.nam_ghost.proofs.ChainLemmas.{once}
-use Rattle.nam_cells.proofs.ViewLemmas.{upkeep_fits}
+use Rattle.nam_verbs.specs.declared.now.Now.{Now}
 
 module _ (shape : Shape) (store : Store) (ghost : Ghost)
     (ok : CellsOk shape store ghost.chains ghost.rings ghost.cells) where

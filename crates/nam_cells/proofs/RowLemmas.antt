@@ -1,54 +1,25 @@
 -- Claims of versions and cells stay where rows go on as they may.
-use Rattle.std.proofs.Common.{Option, Some, ap, arith, refl, subst, sym, true, ℕ, ◌<◌, ◌∙◌, ◌≡◌, ◌≤◌}
+use Rattle.std.proofs.Common.{Option, Some, ap, arith, refl, subst, sym, true, ℕ, ◌<◌, ◌∙◌, ◌≡◌}
 use Rattle.std.proofs.lemmas.Option.{none-some, same_Some}
 use Rattle.nam_catalog.specs.Fits.{FitsLimits}
 use Rattle.nam_catalog.specs.declared.bounds.TheConstants.{MOST_WIDTH}
 use Rattle.nam_catalog.specs.declared.shape.Shape.{Shape}
-use Rattle.nam_header.specs.Stamp.{FitsStamp, stamp_word}
-use Rattle.nam_header.specs.Tag.{state_of}
-use Rattle.nam_layout.specs.Address.{IsRow, IsSlot}
-use Rattle.nam_layout.specs.Place.{place_at}
-use Rattle.nam_layout.specs.Rows.{width_at}
-use Rattle.nam_layout.specs.declared.field.Field.{Field}
-use Rattle.nam_layout.specs.declared.field.Place.{Place}
-use Rattle.nam_layout.proofs.LimitLemmas.{place_within_limits}
+use Rattle.nam_ghost.proofs.ValueLemmas.{data_same}
 use Rattle.nam_ghost.specs.Cells.{Cell, CellIs, ClaimedBy, FreeCell, IsWhole, Stores, copied_at}
-use Rattle.nam_ghost.specs.Copiers.{RowRing}
 use Rattle.nam_ghost.specs.Slots.{Copies, Flags, GetsCopy, GetsFlag, GetsMark, Idles, KeepsOn, Kept, Marks, Renews}
 use Rattle.nam_ghost.specs.Slots.{Ring, RowNext, SlotNext}
+use Rattle.nam_ghost.specs.Turn.{RowsGo}
 use Rattle.nam_ghost.specs.Upkeep.{MoveBegun}
-use Rattle.nam_ghost.specs.Versions.{CellImage, Chain, Version, slot_image}
-use Rattle.nam_ghost.proofs.RowLemmas.{count_rises, ends_stay, numbers_stay, slots_go}
-use Rattle.nam_cells.specs.Turn.{RowsGo}
-use Rattle.nam_ghost.proofs.ValueLemmas.{data_same}
+use Rattle.nam_ghost.specs.Versions.{CellImage, Chain, Version}
+use Rattle.nam_header.specs.Stamp.{FitsStamp, stamp_word}
+use Rattle.nam_header.specs.Tag.{state_of}
+use Rattle.nam_layout.proofs.LimitLemmas.{place_within_limits}
+use Rattle.nam_layout.specs.Address.{IsRow, IsSlot}
+use Rattle.nam_layout.specs.Rows.{width_at}
+use Rattle.nam_layout.specs.declared.field.Place.{Place}
 
--- 1. What one step may make of a row comes to that
+-- 1. What is said of flags and new versions may be weakened
 
-pub rows_go : (shape : Shape) → FitsLimits shape → (m : Field → ℕ) (chains later : ℕ → Chain) (rings next : ℕ → Ring)
-    → ((row : ℕ) → IsRow shape row → RowRing shape m row (chains row) (rings row)) → (Flagged : ℕ → ℕ → Type 0)
-    (New : ℕ → Version → Type 0)
-    → ((row : ℕ) → IsRow shape row
-    → RowNext (place_at shape row) (Flagged row) (New row) (chains row) (rings row) (later row) (next row))
-    → RowsGo shape chains later rings next
-rows_go shape limits m chains later rings next images Flagged New goes = record {
-  numbers = λ row number version is.
-      numbers_stay (place_at shape row) (Flagged row) (New row) (chains row) (later row) (rings row) (next row)
-      (goes row is) number version;
-  counts = λ row is.
-      count_rises (place_at shape row) (some row is) (slot_image m row) (chains row) (rings row) (images row is)
-      (Flagged row) (New row) (later row) (next row) (goes row is);
-  ends = λ row number is.
-      ends_stay (place_at shape row) (some row is) (slot_image m row) (chains row) (rings row) (images row is)
-      (Flagged row) (New row) (later row) (next row) (goes row is) number;
-  slots = λ row slot is.
-      slots_go (place_at shape row) (some row is.0) (slot_image m row) (chains row) (rings row) (images row is.0)
-      (Flagged row) (New row) (later row) (next row) (goes row is.0) slot is.1;
-}
-  where
-    some : (row : ℕ) (is : IsRow shape row) → 1 ≤ (place_at shape row).ring
-    some row is = (place_within_limits shape row limits is).least_ring
-
--- what it says of flags and new versions may be weakened
 pub row_weaker : (place : Place) (Flagged Elsewhere : ℕ → Type 0) (New Installed : Version → Type 0)
     → ((number : ℕ) → Flagged number → Elsewhere number) → ((version : Version) → New version → Installed version)
     → (chain later : Chain) (ring next : Ring) → RowNext place Flagged New chain ring later next

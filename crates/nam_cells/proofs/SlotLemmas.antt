@@ -1,29 +1,25 @@
 -- What a mover learns of the version in a slot, by the slot's header.
-use Rattle.std.proofs.Common.{None, Option, Some, ap, false, refl, subst, sym, true, ℕ, ◌<◌, ◌∙◌, ◌≡◌}
-use Rattle.std.specs.Prelude.{Bool}
+use Rattle.std.proofs.Common.{None, Option, Some, ap, false, refl, subst, sym, ℕ, ◌<◌, ◌∙◌, ◌≡◌}
 use Rattle.std.proofs.lemmas.Bool.{true≢false}
+use Rattle.std.specs.Prelude.{Bool}
 use Rattle.nam_catalog.specs.Fits.{FitsLimits}
-use Rattle.nam_catalog.specs.declared.form.Form.{Form}
 use Rattle.nam_catalog.specs.declared.shape.Shape.{Shape}
-use Rattle.nam_header.specs.declared.header.Header.{Header}
-use Rattle.nam_header.specs.Header.{header_of}
-use Rattle.nam_header.specs.Stamp.{is_moved, mark}
-use Rattle.nam_layout.specs.Address.{IsRow}
-use Rattle.nam_layout.specs.Place.{place_at}
-use Rattle.nam_layout.specs.Rows.{ring_at}
-use Rattle.nam_layout.specs.declared.field.Field.{Field}
-use Rattle.nam_layout.specs.declared.field.Field.TheVariants.{SlotHeader}
-use Rattle.nam_layout.proofs.LimitLemmas.{place_within_limits}
+use Rattle.nam_ghost.proofs.RowLemmas.{kept_ends}
+use Rattle.nam_ghost.proofs.ValueLemmas.{mark_moved, old_says}
 use Rattle.nam_ghost.specs.Cells.{end_at}
 use Rattle.nam_ghost.specs.Copiers.{RowRing}
 use Rattle.nam_ghost.specs.Slots.{Kept, KeptOk, Ring, SlotIs}
 use Rattle.nam_ghost.specs.Upkeep.{MoveBegun}
 use Rattle.nam_ghost.specs.Versions.{Chain, IsNth, Version, old_header, old_word, slot_image}
-use Rattle.nam_ghost.proofs.RowLemmas.{kept_ends}
-use Rattle.nam_ghost.proofs.ValueLemmas.{old_says}
-
-mark_moved : (form : Form) → is_moved form mark ≡ true
-mark_moved form = refl
+use Rattle.nam_header.specs.Header.{header_of}
+use Rattle.nam_header.specs.Stamp.{is_moved, mark}
+use Rattle.nam_header.specs.declared.header.Header.{Header}
+use Rattle.nam_layout.proofs.LimitLemmas.{place_within_limits}
+use Rattle.nam_layout.specs.Address.{IsRow}
+use Rattle.nam_layout.specs.Place.{place_at}
+use Rattle.nam_layout.specs.Rows.{ring_at}
+use Rattle.nam_layout.specs.declared.field.Field.{Field}
+use Rattle.nam_layout.specs.declared.field.Field.TheVariants.{SlotHeader}
 
 module _ (shape : Shape) (limits : FitsLimits shape) (m : Field → ℕ) (chains : ℕ → Chain) (rings : ℕ → Ring)
     (row : ℕ) (is : IsRow shape row) (ring : RowRing shape m row (chains row) (rings row)) (slot : ℕ)

@@ -1,41 +1,34 @@
 -- What is known of a mover or a collector stays under each step of another client, by what that step owes and by rows
 -- going on as they may.
-use Rattle.std.proofs.Common.{List, ap, arith, inl, inr, length, subst, sym, true, ℕ, ⊎_elim, ◌+◌, ◌-◌, ◌<◌, ◌∙◌}
-use Rattle.std.proofs.Common.{◌≡◌, ◌≢◌, ◌≤◌}
-use Rattle.si_model.specs.declared.log.Stamp.{Stamp}
+use Rattle.std.proofs.Common.{List, ap, arith, length, subst, sym, true, ℕ, ◌+◌, ◌<◌, ◌∙◌, ◌≡◌, ◌≢◌, ◌≤◌}
 use Rattle.nam_calls.specs.Fits.{CollectFits, FillFits, MoveFits}
 use Rattle.nam_calls.specs.declared.horizon.CollectPoint.{CollectPoint}
 use Rattle.nam_calls.specs.declared.horizon.CollectPoint.TheVariants.{CollectEnding, CollectFree, CollectTag}
 use Rattle.nam_calls.specs.declared.horizon.CollectPoint.TheVariants.{HorizonLook, HorizonRaise}
 use Rattle.nam_calls.specs.declared.mover.MovePoint.{MovePoint}
-use Rattle.nam_calls.specs.declared.mover.MovePoint.TheVariants.{MoveAgain, MoveBack, MoveClaim, MoveCount}
-use Rattle.nam_calls.specs.declared.mover.MovePoint.TheVariants.{MoveEnding, MoveFill, MoveFlag, MoveFull, MoveHead}
-use Rattle.nam_calls.specs.declared.mover.MovePoint.TheVariants.{MoveWords}
+use Rattle.nam_calls.specs.declared.mover.MovePoint.TheVariants.{MoveAgain, MoveBack, MoveClaim, MoveCount, MoveEnding}
+use Rattle.nam_calls.specs.declared.mover.MovePoint.TheVariants.{MoveFill, MoveFlag, MoveFull, MoveHead, MoveWords}
 use Rattle.nam_calls.specs.declared.overflow.ClaimPoint.{ClaimPoint}
 use Rattle.nam_calls.specs.declared.overflow.ClaimPoint.TheVariants.{ClaimLook, ClaimTake}
 use Rattle.nam_calls.specs.declared.overflow.FillPoint.{FillPoint}
 use Rattle.nam_calls.specs.declared.overflow.FillPoint.TheVariants.{FillBegin, FillEnding, FillOwner, FillWord}
-use Rattle.nam_catalog.specs.Fits.{FitsLimits}
 use Rattle.nam_catalog.specs.declared.bounds.TheConstants.{MOST_WIDTH}
 use Rattle.nam_catalog.specs.declared.shape.Shape.{Shape}
-use Rattle.nam_header.specs.Stamp.{is_within, stamp_word}
-use Rattle.nam_layout.specs.Address.{IsCell, IsRow, IsSlot}
-use Rattle.nam_layout.specs.Place.{bucket_of, cells_of, place_at}
-use Rattle.nam_layout.specs.declared.field.Field.TheVariants.{Horizon, Tag}
-use Rattle.nam_layout.proofs.LimitLemmas.{place_within_limits}
-use Rattle.nam_ghost.specs.Cells.{Cell, CellIs, CellMap, ClaimedBy, InCell, IsBelowHorizon, IsElsewhere, IsEnded}
-use Rattle.nam_ghost.specs.Cells.{IsOverflowed, IsWhole, Stores, copied_at, end_at}
+use Rattle.nam_cells.proofs.RowLemmas.{begun_stays, while_stays, whole_stays}
+use Rattle.nam_cells.specs.Views.{UpkeepFits}
+use Rattle.nam_ghost.proofs.CellLemmas.{bucket_within, overflow_stays, tagged_stays}
+use Rattle.nam_ghost.specs.Cells.{Cell, CellIs, CellMap, ClaimedBy, IsWhole, Stores, copied_at, end_at}
+use Rattle.nam_ghost.specs.Turn.{Turn}
 use Rattle.nam_ghost.specs.Upkeep.{CellsNext, ClaimAt, Collector, CollectorAt, EndWas, HasWritten, IsPublished, Knows}
 use Rattle.nam_ghost.specs.Upkeep.{MoveBegun, Mover, MoverAt, NoUpkeep, Owns, SameCell, Upkeep, UpkeepOk, While}
-use Rattle.nam_ghost.specs.Upkeep.{WhileTagged, WordsWere}
+use Rattle.nam_ghost.specs.Upkeep.{WordsWere}
 use Rattle.nam_ghost.specs.Versions.{HasGot, Version, cell_image}
+use Rattle.nam_header.specs.Stamp.{is_within, stamp_word}
+use Rattle.nam_layout.proofs.LimitLemmas.{place_within_limits}
+use Rattle.nam_layout.specs.Address.{IsCell, IsRow, IsSlot}
+use Rattle.nam_layout.specs.Place.{bucket_of, cells_of, place_at}
+use Rattle.si_model.specs.declared.log.Stamp.{Stamp}
 use Rattle.nam_calls.specs.declared.overflow.Version as filled
-use Rattle.nam_cells.specs.Turn.{Turn}
-use Rattle.nam_cells.specs.Views.{UpkeepFits}
-use Rattle.nam_cells.proofs.RowLemmas.{begun_stays, while_stays, whole_stays}
-
-pub bucket_within : (shape : Shape) → FitsLimits shape → (row : ℕ) → bucket_of shape row < shape.buckets
-bucket_within shape limits row = let least = limits.least_buckets in omega arith
 
 claimer_in : Cell → ℕ
 claimer_in (ClaimedBy worker) = worker
@@ -83,42 +76,7 @@ module _ (shape : Shape) (turn : Turn shape) (after : CellMap) where
       number whole
 
   module _ (i : ℕ) (spares : CellsNext shape turn.m turn.now turn.later turn.next turn.cells after i) where
-    -- 2. Where a version stands
-
-    pub ended_stays : (row number : ℕ) → IsRow shape row → number < copied_at shape turn.chains turn.rings row
-        → IsEnded shape turn.chains turn.rings turn.m turn.cells row number
-        → IsEnded shape turn.later turn.next turn.now after row number
-    ended_stays row number is less ended =
-        let was = end_at shape turn.chains turn.rings row number in
-        subst (IsBelowHorizon turn.now shape.workers) (sym (turn.rows.ends row number is less))
-        (ended.0, ended.1, up was.thread was.number ended.0 ended.1 ended.2)
-      where
-        up : (thread number : ℕ) → 1 ≤ thread → thread ≤ shape.workers → number ≤ turn.m (Horizon thread)
-            → number ≤ turn.now (Horizon thread)
-        up thread number least most less =
-            let same : (thread - 1) + 1 ≡ thread = omega arith in
-            let rises : turn.m (Horizon thread) ≤ turn.now (Horizon thread) =
-            subst (λ w. turn.m (Horizon w) ≤ turn.now (Horizon w)) same (spares.horizon (thread - 1) (omega arith)) in
-            omega arith
-
-    pub overflow_stays : (from row number : ℕ) → IsRow shape row → number < copied_at shape turn.chains turn.rings row
-        → IsOverflowed shape turn.chains turn.rings turn.m turn.cells from row number
-        → IsOverflowed shape turn.later turn.next turn.now after from row number
-    overflow_stays from row number is less =
-        ⊎_elim (λ (in_cell : InCell shape turn.chains turn.rings turn.m turn.cells from row number).
-        ⊎_elim (λ kept. inl (in_cell.0, in_cell.1, in_cell.2, kept.0)) (λ ended. inr ended)
-        (spares.stored (bucket_of shape row) in_cell.0 row number (bucket_within shape turn.limits row, in_cell.2)
-        in_cell.3))
-        (λ ended. inr (ended_stays row number is less ended))
-
-    pub elsewhere_stays : (row number : ℕ) → IsElsewhere shape turn.chains turn.rings turn.m turn.cells row number
-        → IsElsewhere shape turn.later turn.next turn.now after row number
-    elsewhere_stays row number is =
-        let up = turn.rows.counts row is.0 in
-        let less = is.1 in
-        (is.0, omega arith, overflow_stays 0 row number is.0 is.1 is.2)
-
-    -- 3. A mover
+    -- 2. A mover
 
     module _ (j : ℕ) (apart : j ≢ i) where
       abbrev OwnsNow : ℕ → ℕ → ℕ → Type 0
@@ -207,12 +165,14 @@ module _ (shape : Shape) (turn : Turn shape) (after : CellMap) where
             cell_whole row number bucket cell (owned_cell bucket cell tag at o.2) o.1,
             owns_stays bucket cell tag at o.2,
           )
-      mover_stays row number version (MoveFlag slot header) is fits o =
-          (begun_on row slot header number version is o.0, overflow_stays 0 row number is o.0.was_copied o.1)
+      mover_stays row number version (MoveFlag slot header) is fits o = (
+        begun_on row slot header number version is o.0,
+        overflow_stays shape turn after i spares 0 row number is o.0.was_copied o.1,
+      )
       mover_stays row number version (MoveBack header cell tag) is fits o =
           owns_stays (bucket_of shape row) cell tag (bucket_within shape turn.limits row, fits) o
 
-    -- 4. A collector
+    -- 3. A collector
 
     module _ (j : ℕ) where
       pub knows_stays : (known : List ℕ) → length known ≤ shape.workers
@@ -225,20 +185,6 @@ module _ (shape : Shape) (turn : Turn shape) (after : CellMap) where
           → IsPublished shape turn.later turn.next turn.now after j seen
       published_stays seen published =
           λ a less. let was = published a less in let up = turn.vector a less in omega arith
-
-      tag_was : (bucket cell tag : ℕ) → IsCell shape bucket cell → tag ≤ turn.m (Tag bucket cell)
-          → turn.now (Tag bucket cell) ≡ tag → turn.m (Tag bucket cell) ≡ tag
-      tag_was bucket cell tag is least e = let up = spares.rises bucket cell is in omega arith
-
-      -- a claim under a tag
-      pub tagged_stays : (bucket cell tag : ℕ) (P Q : Type 0) → IsCell shape bucket cell
-          → (turn.now (Tag bucket cell) ≡ turn.m (Tag bucket cell) → P → Q)
-          → WhileTagged shape turn.chains turn.rings turn.m turn.cells j bucket cell tag P
-          → WhileTagged shape turn.later turn.next turn.now after j bucket cell tag Q
-      tagged_stays bucket cell tag P Q is goes was =
-          let least = was.0 in
-          let up = spares.rises bucket cell is in
-          (omega arith, λ e. let same = tag_was bucket cell tag is was.0 e in goes (e ∙ sym same) (was.1 same))
 
       pub collector_stays : (bucket : ℕ) (seen : List ℕ) (at : CollectPoint) → bucket < shape.buckets
           → CollectFits (cells_of shape bucket) shape.workers at
@@ -255,7 +201,7 @@ module _ (shape : Shape) (turn : Turn shape) (after : CellMap) where
           let at : IsCell shape bucket cell = (less, fits.1) in (
             published_stays seen o.0,
             knows_stays known (omega arith) o.1,
-            tagged_stays bucket cell tag
+            tagged_stays shape turn after i spares j bucket cell tag
                 ((row : ℕ) × (number : ℕ) × (turn.cells bucket cell ≡ Stores row number))
                 ((row : ℕ) × (number : ℕ) × (after bucket cell ≡ Stores row number)) at
                 (λ same is. (is.0, is.1, spares.same bucket cell at same ∙ is.2)) o.2,
@@ -266,7 +212,7 @@ module _ (shape : Shape) (turn : Turn shape) (after : CellMap) where
             published_stays seen o.0,
             knows_stays known (omega arith) o.1,
             o.2,
-            tagged_stays bucket cell tag
+            tagged_stays shape turn after i spares j bucket cell tag
                 ((row : ℕ) × (number : ℕ) × (turn.cells bucket cell ≡ Stores row number)
                 × (is_within (end_at shape turn.chains turn.rings row number) known ≡ true))
                 ((row : ℕ) × (number : ℕ) × (after bucket cell ≡ Stores row number)
@@ -288,7 +234,7 @@ module _ (shape : Shape) (turn : Turn shape) (after : CellMap) where
               subst (CellIs shape turn.chains turn.rings bucket (cell_image turn.m bucket cell)) e
               (turn.are bucket cell at)
 
-    -- 5. Either, or neither
+    -- 4. Either, or neither
 
     pub upkeep_stays : (j : ℕ) → j ≢ i → (view : Upkeep) → UpkeepFits shape view
         → UpkeepOk shape turn.chains turn.rings turn.m turn.cells j view

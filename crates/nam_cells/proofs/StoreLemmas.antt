@@ -1,48 +1,48 @@
 -- Each step of a store keeps what is said of cells and the horizon, and owes so much to all others.
-use Rattle.std.proofs.Common.{List, Option, Some, ap, map, refl, subst, sym, ℕ, ◌+◌, ◌<◌, ◌≡◌}
-use Rattle.std.proofs.Common.{◌≤◌}
+use Rattle.std.proofs.Common.{List, Option, Some, ap, map, refl, subst, sym, ℕ, ◌+◌, ◌<◌, ◌≡◌, ◌≤◌}
 use Rattle.std.specs.Prelude.{false, slice_index, slice_set}
-use Rattle.si_model.specs.Lists.{Listed}
-use Rattle.nam_verbs.specs.VerbAt.{left_at, target}
-use Rattle.nam_verbs.specs.declared.now.Now.{Now}
-use Rattle.nam_verbs.specs.declared.now.Now.TheVariants.{At}
 use Rattle.nam_calls.specs.Memory.{memory}
 use Rattle.nam_catalog.specs.declared.shape.Shape.{Shape}
+use Rattle.nam_cells.proofs.OldLemmas.{old_next, old_rises}
+use Rattle.nam_cells.proofs.StayLemmas.{upkeep_stays}
+use Rattle.nam_cells.proofs.ViewLemmas.{abandoned_view, asked_view, upkeep_fits}
+use Rattle.nam_cells.proofs.WordLemmas.{Known, word_taken}
+use Rattle.nam_cells.proofs.WriteLemmas.{quiet}
+use Rattle.nam_cells.specs.CellsLaw.{CellsAfter, KeepsLaw, NextLaw, Ready}
+use Rattle.nam_cells.specs.Turn.{TurnOk}
+use Rattle.nam_cells.specs.Views.{UpkeepFits}
+use Rattle.nam_ghost.proofs.CellLemmas.{elsewhere_stays}
+use Rattle.nam_ghost.proofs.ChainLemmas.{once}
+use Rattle.nam_ghost.proofs.RowLemmas.{rows_go}
+use Rattle.nam_ghost.proofs.SnapshotLemmas.{taken_found}
+use Rattle.nam_ghost.specs.Cells.{IsElsewhere}
+use Rattle.nam_ghost.specs.Ghost.{Ghost, ghost_step}
+use Rattle.nam_ghost.specs.Moments.{observer_of}
+use Rattle.nam_ghost.specs.Stepping.{stepping}
+use Rattle.nam_ghost.specs.Steps.{cells_after}
+use Rattle.nam_ghost.specs.Turn.{Turn}
+use Rattle.nam_ghost.specs.Upkeep.{NoUpkeep, UpkeepOk, upkeep_in, upkeep_of}
+use Rattle.nam_layout.proofs.LimitLemmas.{place_within_limits}
 use Rattle.nam_layout.specs.Place.{place_at}
 use Rattle.nam_layout.specs.Rows.{width_at}
 use Rattle.nam_layout.specs.declared.field.Field.TheVariants.{Entry}
-use Rattle.nam_layout.proofs.LimitLemmas.{place_within_limits}
 use Rattle.nam_protocol.specs.Client.{client_abandon, client_after, client_ask}
 use Rattle.nam_protocol.specs.CutClient.{client_cut}
 use Rattle.nam_protocol.specs.Telling.{go}
 use Rattle.nam_protocol.specs.declared.client.Answer.{Answer}
 use Rattle.nam_protocol.specs.declared.client.CallPoint.{CallPoint}
 use Rattle.nam_protocol.specs.declared.client.ClientState.{ClientState}
+use Rattle.nam_store.proofs.BaseLemmas.{base_keeps, does_law}
+use Rattle.nam_store.proofs.Lists.{everyone_set, get_set}
 use Rattle.nam_store.specs.Base.{BaseOk}
 use Rattle.nam_store.specs.Changed.{Changed, Does, OthersStay, written_of}
 use Rattle.nam_store.specs.Everyone.{Everyone}
 use Rattle.nam_store.specs.Kinds.{MayWriteAt}
-use Rattle.nam_store.specs.Store.{Abandons, Asks, Cuts, StepsTo, Store, Takes, client_at, found_word}
-use Rattle.nam_store.specs.Store.{next_verb, step}
-use Rattle.nam_store.proofs.BaseLemmas.{base_keeps, does_law}
-use Rattle.nam_store.proofs.Lists.{everyone_set, get_set}
-use Rattle.nam_ghost.specs.Cells.{IsElsewhere}
-use Rattle.nam_ghost.specs.Ghost.{Ghost, ghost_step}
-use Rattle.nam_ghost.specs.Moments.{observer_of}
-use Rattle.nam_ghost.specs.Steps.{cells_after}
-use Rattle.nam_ghost.specs.Upkeep.{NoUpkeep, UpkeepOk, upkeep_in, upkeep_of}
-use Rattle.nam_moments.proofs.SnapshotLemmas.{are_snapshots}
-use Rattle.nam_moments.proofs.StepLemmas.{moments_kept, vector_rises}
-use Rattle.nam_cells.specs.CellsLaw.{CellsAfter, KeepsLaw, NextLaw, Ready, stepping}
-use Rattle.nam_cells.specs.Turn.{Turn, TurnOk}
-use Rattle.nam_cells.specs.Views.{UpkeepFits}
-use Rattle.nam_cells.proofs.OldLemmas.{old_next, old_rises}
-use Rattle.nam_cells.proofs.RowLemmas.{rows_go}
-use Rattle.nam_cells.proofs.StayLemmas.{elsewhere_stays, upkeep_stays}
-use Rattle.nam_ghost.proofs.ChainLemmas.{once}
-use Rattle.nam_cells.proofs.ViewLemmas.{abandoned_view, asked_view, upkeep_fits}
-use Rattle.nam_cells.proofs.WordLemmas.{Known, word_taken}
-use Rattle.nam_cells.proofs.WriteLemmas.{quiet}
+use Rattle.nam_store.specs.Store.{Abandons, Asks, Cuts, StepsTo, Store, Takes, client_at, found_word, next_verb, step}
+use Rattle.nam_verbs.specs.VerbAt.{left_at, target}
+use Rattle.nam_verbs.specs.declared.now.Now.{Now}
+use Rattle.nam_verbs.specs.declared.now.Now.TheVariants.{At}
+use Rattle.si_model.specs.Lists.{Listed}
 
 -- 1. The step as cells see it
 
@@ -71,7 +71,7 @@ module _ (shape : Shape) (before after : Store) (goes : StepsTo shape before aft
         ready.slots.rows
         (λ row. IsElsewhere shape ghost.chains ghost.rings (memory shape before.words) ghost.cells row)
         (λ row version. Unit {0}) ready.rows;
-    vector = vector_rises shape before after goes ready.base ready.moments;
+    vector = ready.vector;
     are = ready.cells.are;
     behind = ready.cells.behind;
   }
@@ -146,8 +146,7 @@ module _ (shape : Shape) (store : Store) (nth : ℕ) (client : ClientState) (pla
   listed : (seen : List ℕ) → Listed seen (after_word client).log.snaps → (a : ℕ) → a < shape.workers
       → slice_index seen a ≤ memory shape words (Entry (a + 1))
   listed seen is a less =
-      let moments = moments_kept shape store (step shape store nth client) goes ready.base ready.moments in
-      ((are_snapshots shape (step shape store nth client) moments).published seen
+      (taken_found shape (step shape store nth client) ready.moments seen
       (nth, (after_word client, (here_after, is))) a less).1
 
   known : Known shape taken client place

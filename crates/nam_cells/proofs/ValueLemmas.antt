@@ -1,17 +1,16 @@
 -- A stamp within what a collector knows is below the horizon; and versions by their stamps.
-use Rattle.std.proofs.Common.{List, Option, Some, [], ap, arith, eqb, false, leb, length, not, refl}
-use Rattle.std.proofs.Common.{slice_get, subst, suc, sym, true, zero, ℕ, ◌&&◌, ◌+◌, ◌-◌, ◌<◌, ◌∙◌, ◌∷◌}
-use Rattle.std.proofs.Common.{◌≡◌, ◌≤◌}
-use Rattle.std.specs.Prelude.{Bool, slice_index}
-use Rattle.std.proofs.lemmas.Bool.{and_from, and_parts, cond_both, eq-eqb, eqb-false, eqb-true}
-use Rattle.std.proofs.lemmas.Bool.{leb-true, not-true, true≢false}
+use Rattle.std.proofs.Common.{List, Some, [], ap, arith, eqb, false, leb, length, not, refl, slice_get, subst, suc, sym}
+use Rattle.std.proofs.Common.{true, zero, ℕ, ◌&&◌, ◌+◌, ◌-◌, ◌<◌, ◌∙◌, ◌∷◌, ◌≡◌, ◌≤◌}
+use Rattle.std.proofs.lemmas.Bool.{and_from, and_parts, cond_both, eq-eqb, eqb-false, eqb-true, leb-true, not-true}
+use Rattle.std.proofs.lemmas.Bool.{true≢false}
 use Rattle.std.proofs.lemmas.Option.{none-some, same_Some}
-use Rattle.si_model.specs.declared.log.Stamp.{Stamp}
+use Rattle.std.specs.Prelude.{Bool, slice_index}
+use Rattle.nam_ghost.specs.Cells.{IsBelowHorizon}
+use Rattle.nam_ghost.specs.Versions.{Version, number_by}
 use Rattle.nam_header.specs.Stamp.{is_within}
 use Rattle.nam_layout.specs.declared.field.Field.{Field}
 use Rattle.nam_layout.specs.declared.field.Field.TheVariants.{Horizon}
-use Rattle.nam_ghost.specs.Cells.{IsBelowHorizon}
-use Rattle.nam_ghost.specs.Versions.{Version, number_by}
+use Rattle.si_model.specs.declared.log.Stamp.{Stamp}
 
 -- a stamp within entries that are at most the horizon's is below the horizon
 pub within_below : (m : Field → ℕ) (workers : ℕ) (stamp : Stamp) (known : List ℕ) → length known ≡ workers

@@ -1,15 +1,16 @@
 -- Clients as movers and collectors: after each sort of word, and after what is asked.
 use Rattle.std.proofs.Common.{List, None, Option, Some, refl, ℕ, ◌≡◌}
 use Rattle.std.specs.Prelude.{length}
-use Rattle.nam_verbs.specs.declared.now.Now.{Now}
-use Rattle.nam_verbs.specs.declared.now.Now.TheVariants.{At, Over}
 use Rattle.nam_calls.specs.declared.horizon.CollectPoint.{CollectPoint}
 use Rattle.nam_calls.specs.declared.index.FindEnd.{FindEnd}
 use Rattle.nam_calls.specs.declared.mover.MoveAnswer.{MoveAnswer}
 use Rattle.nam_calls.specs.declared.mover.MovePoint.{MovePoint}
 use Rattle.nam_catalog.specs.declared.shape.Shape.{Shape}
-use Rattle.nam_layout.specs.Rows.{row_of}
+use Rattle.nam_cells.specs.Views.{IsStarting, UpkeepFits, collector_now, mover_now}
+use Rattle.nam_ghost.specs.Upkeep.{NoUpkeep, upkeep_in, upkeep_of}
 use Rattle.nam_layout.proofs.PositionLemmas.{position_is_row}
+use Rattle.nam_layout.specs.Rows.{row_of}
+use Rattle.nam_protocol.proofs.GoesClient.{scan_goes, seek_goes, stepped_goes}
 use Rattle.nam_protocol.specs.Client.{abandon_open, ask_scan, ask_txn, client_abandon, client_ask, on_collect, on_move}
 use Rattle.nam_protocol.specs.Client.{on_seek, take_scan, take_txn, with_call}
 use Rattle.nam_protocol.specs.ClientFits.{ClientFits, NowFits}
@@ -27,10 +28,9 @@ use Rattle.nam_protocol.specs.declared.client.Open.{Open}
 use Rattle.nam_protocol.specs.declared.scan.ScanPoint.{ScanPoint}
 use Rattle.nam_protocol.specs.declared.txn.TxnCall.{TxnCall}
 use Rattle.nam_protocol.specs.declared.txn.TxnPoint.{TxnPoint}
-use Rattle.nam_protocol.proofs.GoesClient.{scan_goes, seek_goes, stepped_goes}
-use Rattle.nam_ghost.specs.Upkeep.{NoUpkeep, upkeep_in, upkeep_of}
+use Rattle.nam_verbs.specs.declared.now.Now.{Now}
+use Rattle.nam_verbs.specs.declared.now.Now.TheVariants.{At, Over}
 use Rattle.nam_calls.specs.declared.mover.MoveAnswer.TheVariants as move_end
-use Rattle.nam_cells.specs.Views.{IsStarting, UpkeepFits, collector_now, mover_now}
 
 -- 1. After a word
 

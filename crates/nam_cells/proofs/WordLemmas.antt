@@ -1,12 +1,7 @@
 -- What each word that a client takes owes.
-use Rattle.std.proofs.Common.{List, None, Option, [], arith, inl, refl, subst, sym, ℕ, ◌+◌, ◌<◌, ◌∷◌, ◌≡◌}
-use Rattle.std.proofs.Common.{◌≤◌}
-use Rattle.std.specs.Prelude.{slice_index}
+use Rattle.std.proofs.Common.{List, None, Option, [], arith, inl, refl, subst, sym, ℕ, ◌+◌, ◌<◌, ◌∷◌, ◌≡◌, ◌≤◌}
 use Rattle.std.proofs.lemmas.Option.{none-some}
-use Rattle.si_model.proofs.ListLemmas.{listed_append_right}
-use Rattle.si_model.specs.Lists.{Listed}
-use Rattle.nam_verbs.specs.VerbAt.{VerbAt, found_at, left_at, target}
-use Rattle.nam_vector.specs.Snap.{snap_after}
+use Rattle.std.specs.Prelude.{slice_index}
 use Rattle.nam_calls.specs.Fits.{CollectFits, MoveFits}
 use Rattle.nam_calls.specs.Horizon.{collect_after, collect_verb}
 use Rattle.nam_calls.specs.Mover.{move_after, move_verb}
@@ -15,12 +10,23 @@ use Rattle.nam_calls.specs.declared.horizon.CollectPoint.{CollectPoint}
 use Rattle.nam_calls.specs.declared.horizon.CollectPoint.TheVariants.{CollectEnding, CollectFree, CollectTag}
 use Rattle.nam_calls.specs.declared.horizon.CollectPoint.TheVariants.{HorizonLook, HorizonRaise}
 use Rattle.nam_calls.specs.declared.mover.MovePoint.{MovePoint}
-use Rattle.nam_calls.specs.declared.mover.MovePoint.TheVariants.{MoveAgain, MoveBack, MoveClaim, MoveCount}
-use Rattle.nam_calls.specs.declared.mover.MovePoint.TheVariants.{MoveEnding, MoveFill, MoveFlag, MoveFull, MoveHead}
-use Rattle.nam_calls.specs.declared.mover.MovePoint.TheVariants.{MoveWords}
+use Rattle.nam_calls.specs.declared.mover.MovePoint.TheVariants.{MoveAgain, MoveBack, MoveClaim, MoveCount, MoveEnding}
+use Rattle.nam_calls.specs.declared.mover.MovePoint.TheVariants.{MoveFill, MoveFlag, MoveFull, MoveHead, MoveWords}
 use Rattle.nam_calls.specs.declared.overflow.ClaimPoint.TheVariants.{ClaimLook, ClaimTake}
 use Rattle.nam_calls.specs.declared.overflow.FillPoint.TheVariants.{FillBegin, FillEnding, FillOwner, FillWord}
 use Rattle.nam_catalog.specs.declared.shape.Shape.{Shape}
+use Rattle.nam_cells.proofs.MoverReads.{count_turn, end_turn, head_turn, look_turn, no_version, take_turn, words_turn}
+use Rattle.nam_cells.proofs.MoverWrites.{again_turn, back_turn, begin_turn, ending_turn, flag_turn, full_turn}
+use Rattle.nam_cells.proofs.MoverWrites.{owner_turn, word_turn}
+use Rattle.nam_cells.proofs.ViewLemmas.{collect_view, move_view, scan_view, seek_view, txn_view}
+use Rattle.nam_cells.proofs.WriteLemmas.{quiet, written_else}
+use Rattle.nam_cells.specs.Turn.{TurnOk}
+use Rattle.nam_cells.specs.Views.{IsStarting, UpkeepFits, collector_now, mover_now}
+use Rattle.nam_cells.specs.Words.{IsUpkeepField, SameUpkeep}
+use Rattle.nam_ghost.specs.Steps.{cells_after, collect_cells, move_cells}
+use Rattle.nam_ghost.specs.Turn.{Turn}
+use Rattle.nam_ghost.specs.Upkeep.{CollectorAt, Mover, MoverAt, NoUpkeep, Upkeep, UpkeepOk, upkeep_at, upkeep_of}
+use Rattle.nam_ghost.specs.Versions.{Version}
 use Rattle.nam_layout.specs.Address.{IsField, IsRow}
 use Rattle.nam_layout.specs.Place.{bucket_of, cells_of, place_at}
 use Rattle.nam_layout.specs.Rows.{row_of}
@@ -29,6 +35,7 @@ use Rattle.nam_layout.specs.declared.field.Field.{Field}
 use Rattle.nam_layout.specs.declared.field.Field.TheVariants.{Begin, CellWord, End, Entry, Horizon, Owner, SlotHeader}
 use Rattle.nam_layout.specs.declared.field.Field.TheVariants.{Tag}
 use Rattle.nam_layout.specs.declared.field.Place.{Place}
+use Rattle.nam_protocol.proofs.GoesClient.{begin_goes, snap_goes}
 use Rattle.nam_protocol.specs.CallWrites.{call_writes}
 use Rattle.nam_protocol.specs.Client.{call_after, call_verb}
 use Rattle.nam_protocol.specs.Telling.{go}
@@ -37,21 +44,12 @@ use Rattle.nam_protocol.specs.declared.client.CallPoint.TheVariants.{Beginning, 
 use Rattle.nam_protocol.specs.declared.client.CallPoint.TheVariants.{Seeking, Snapping}
 use Rattle.nam_protocol.specs.declared.client.ClientState.{ClientState}
 use Rattle.nam_protocol.specs.declared.txn.TxnPoint.TheVariants.{Claiming, Committing, Finding, Reading}
-use Rattle.nam_protocol.proofs.GoesClient.{begin_goes, snap_goes}
 use Rattle.nam_store.specs.Changed.{Changed, OthersStay}
 use Rattle.nam_store.specs.Kinds.{IsCommitField, IsKeyField, MayWrite}
-use Rattle.nam_ghost.specs.Steps.{cells_after, collect_cells, move_cells}
-use Rattle.nam_ghost.specs.Upkeep.{CollectorAt, Mover, MoverAt, NoUpkeep, Upkeep, UpkeepOk, upkeep_at, upkeep_of}
-use Rattle.nam_ghost.specs.Versions.{Version}
-use Rattle.nam_cells.specs.Turn.{Turn, TurnOk}
-use Rattle.nam_cells.specs.Views.{IsStarting, UpkeepFits, collector_now, mover_now}
-use Rattle.nam_cells.specs.Words.{IsUpkeepField, SameUpkeep}
-use Rattle.nam_cells.proofs.MoverReads.{count_turn, end_turn, head_turn, look_turn, take_turn, words_turn}
-use Rattle.nam_cells.proofs.MoverReads.{no_version}
-use Rattle.nam_cells.proofs.MoverWrites.{again_turn, back_turn, begin_turn, ending_turn, flag_turn, full_turn}
-use Rattle.nam_cells.proofs.MoverWrites.{owner_turn, word_turn}
-use Rattle.nam_cells.proofs.ViewLemmas.{collect_view, move_view, scan_view, seek_view, txn_view}
-use Rattle.nam_cells.proofs.WriteLemmas.{quiet, written_else}
+use Rattle.nam_vector.specs.Snap.{snap_after}
+use Rattle.nam_verbs.specs.VerbAt.{VerbAt, found_at, left_at, target}
+use Rattle.si_model.proofs.ListLemmas.{listed_append_right}
+use Rattle.si_model.specs.Lists.{Listed}
 use Rattle.nam_cells.proofs.CollectorLemmas as collector
 
 -- 1. Which words of cells and horizon a verb writes

@@ -1,22 +1,23 @@
 -- What each kind of written word owes: none of cells and horizon, a horizon entry, a tag, a word inside a cell.
-use Rattle.std.proofs.Common.{None, Some, ap, arith, eqb, inl, inr, refl, subst, sym, ℕ, ⊎_elim, ◌&&◌, ◌+◌}
-use Rattle.std.proofs.Common.{◌<◌, ◌∙◌, ◌≡◌, ◌≢◌, ◌≤◌, ◌⊎◌}
+use Rattle.std.proofs.Common.{None, Some, ap, arith, eqb, inl, inr, refl, subst, sym, ℕ, ⊎_elim, ◌&&◌, ◌+◌, ◌<◌, ◌∙◌}
+use Rattle.std.proofs.Common.{◌≡◌, ◌≢◌, ◌≤◌, ◌⊎◌}
 use Rattle.std.proofs.lemmas.Bool.{and_cases, and_parts, cases_eq, cond_both, eqb-false, eqb-true}
 use Rattle.std.proofs.lemmas.Option.{none-some, same_Some}
 use Rattle.nam_catalog.specs.declared.shape.Shape.{Shape}
+use Rattle.nam_cells.proofs.RowLemmas.{cell_stays}
+use Rattle.nam_cells.specs.Turn.{TurnOk}
+use Rattle.nam_cells.specs.Words.{IsUpkeepField, SameUpkeep, inside_of}
+use Rattle.nam_ghost.specs.Cells.{Cell, CellIs, CellMap, CellsAre, ClaimedBy, IsEnded, IsHorizonBehind, Stores}
+use Rattle.nam_ghost.specs.Cells.{put_cell}
+use Rattle.nam_ghost.specs.Turn.{Turn}
+use Rattle.nam_ghost.specs.Upkeep.{CellsNext, SameCell, Upkeep, UpkeepOk}
+use Rattle.nam_ghost.specs.Versions.{cell_image}
 use Rattle.nam_header.specs.Tag.{state_of}
+use Rattle.nam_layout.proofs.AddressLemmas.{are_one}
 use Rattle.nam_layout.specs.Address.{IsCell, IsField, address}
 use Rattle.nam_layout.specs.declared.field.Field.{Field}
 use Rattle.nam_layout.specs.declared.field.Field.TheVariants.{Begin, CellWord, End, Entry, Horizon, Owner, Tag}
-use Rattle.nam_layout.proofs.AddressLemmas.{are_one}
 use Rattle.nam_store.specs.Changed.{Changed}
-use Rattle.nam_ghost.specs.Cells.{Cell, CellIs, CellMap, CellsAre, ClaimedBy, IsEnded, IsHorizonBehind, Stores}
-use Rattle.nam_ghost.specs.Cells.{put_cell}
-use Rattle.nam_ghost.specs.Upkeep.{CellsNext, SameCell, Upkeep, UpkeepOk}
-use Rattle.nam_ghost.specs.Versions.{cell_image}
-use Rattle.nam_cells.specs.Turn.{Turn, TurnOk}
-use Rattle.nam_cells.specs.Words.{IsUpkeepField, SameUpkeep, inside_of}
-use Rattle.nam_cells.proofs.RowLemmas.{cell_stays}
 
 -- 1. One cell is put
 

@@ -1,5 +1,6 @@
 -- What is claimed of cells and the horizon holds at the opening, each step keeps it, what a step owes all others; and
 -- what that comes to.
+use Rattle.std.specs.Prelude.{List, Some, ℕ, ◌+◌, ◌<◌, ◌≡◌, ◌≢◌, ◌≤◌, ◌⊎◌}
 use Rattle.nam_calls.specs.Memory.{memory}
 use Rattle.nam_catalog.specs.Fits.{FitsLimits}
 use Rattle.nam_catalog.specs.declared.shape.Shape.{Shape}
@@ -7,40 +8,30 @@ use Rattle.nam_ghost.specs.Cells.{IsElsewhere, IsEnded, IsWhole, Stores}
 use Rattle.nam_ghost.specs.Chains.{ChainsOk}
 use Rattle.nam_ghost.specs.Copiers.{SlotsOk}
 use Rattle.nam_ghost.specs.Ghost.{Ghost, ghost_step, opening_ghost}
-use Rattle.nam_ghost.specs.Moments.{MomentsOk}
+use Rattle.nam_ghost.specs.Moments.{EntriesRise, MomentsOk}
 use Rattle.nam_ghost.specs.Slots.{Kept, KeptOk, RowNext, home}
-use Rattle.nam_ghost.specs.Upkeep.{CellsNext, CellsOk}
+use Rattle.nam_ghost.specs.Stepping.{stepping}
+use Rattle.nam_ghost.specs.Upkeep.{CellsNext, CellsOk, FlagsElsewhere}
 use Rattle.nam_ghost.specs.Versions.{cell_image, current_number, slot_image}
 use Rattle.nam_header.specs.Tag.{state_of}
 use Rattle.nam_layout.specs.Address.{IsCell, IsRow}
 use Rattle.nam_layout.specs.Place.{bucket_of, place_at}
-use Rattle.nam_layout.specs.Rows.{row_of}
-use Rattle.nam_layout.specs.declared.field.Field.TheVariants.{Entry, Horizon, SlotHeader, Tag}
-use Rattle.nam_calls.specs.declared.mover.MovePoint.TheVariants.{MoveFlag}
-use Rattle.nam_protocol.specs.declared.client.CallPoint.TheVariants.{Moving}
-use Rattle.nam_protocol.specs.declared.client.ClientState.{ClientState}
+use Rattle.nam_layout.specs.declared.field.Field.TheVariants.{Entry, Horizon, Tag}
 use Rattle.nam_store.specs.Base.{BaseOk}
 use Rattle.nam_store.specs.Opening.{AreLoaded, opening_store}
-use Rattle.nam_store.specs.Store.{Abandons, Asks, Cuts, StepsTo, Store, Takes, client_at}
-use Rattle.nam_verbs.specs.declared.now.Now.TheVariants.{At}
+use Rattle.nam_store.specs.Store.{StepsTo, Store}
 use Rattle.si_model.specs.declared.row.Row.{Row}
-use Rattle.std.specs.Prelude.{List, Some, ℕ, ◌+◌, ◌<◌, ◌≡◌, ◌≢◌, ◌≤◌, ◌⊎◌}
 
 -- 1. One step
 
--- of which client it is
-abbrev pub stepping : (shape : Shape) (before after : Store) → StepsTo shape before after → ℕ
-stepping shape before _ (Takes nth client place here runs at) = nth
-stepping shape before _ (Asks nth client asked here may words) = nth
-stepping shape before _ (Abandons nth client here rests) = nth
-stepping shape before _ (Cuts nth client here) = nth
-
 module _ (shape : Shape) where
-  -- What the law of words says before a step, and what the group of slots shows of it: each row goes on as it may, and
-  -- the moved flag is set only where the version stands elsewhere by now.
+  -- What the law of words says before a step, and what other groups show of it: no entry of the vector falls, and what
+  -- is said of snapshots holds after it; each row goes on as it may, and the moved flag is set only where the version
+  -- stands elsewhere by now.
   pub record Ready (before after : Store) (goes : StepsTo shape before after) (ghost : Ghost) : Type 0 where
     pub base : BaseOk shape before
-    pub moments : MomentsOk shape before
+    pub vector : EntriesRise shape before after
+    pub moments : MomentsOk shape after
     pub chains : ChainsOk shape before ghost.chains
     pub slots : SlotsOk shape before ghost.chains ghost.rings
     pub cells : CellsOk shape before ghost.chains ghost.rings ghost.cells
@@ -76,11 +67,7 @@ NextLaw = (shape : Shape) (before after : Store) (goes : StepsTo shape before af
 abbrev pub FlagsLaw : Type 0
 FlagsLaw = (shape : Shape) (store : Store) (ghost : Ghost) → BaseOk shape store → ChainsOk shape store ghost.chains
     → SlotsOk shape store ghost.chains ghost.rings → CellsOk shape store ghost.chains ghost.rings ghost.cells
-    → (nth : ℕ) (client : ClientState) → client_at store nth ≡ Some client
-    → (table key position slot header : ℕ) → client.call ≡ Some (At (Moving table key position (MoveFlag slot header)))
-    → let row = row_of shape.tables table position in memory shape store.words (SlotHeader row slot) ≡ header
-    → (kept : Kept) → (ghost.rings row).kept slot ≡ Some kept
-    → IsElsewhere shape ghost.chains ghost.rings (memory shape store.words) ghost.cells row kept.number
+    → FlagsElsewhere shape store ghost.chains ghost.rings ghost.cells
 
 -- 3. What that comes to
 

@@ -1,4 +1,5 @@
 -- A mover or a collector after its word, and that its point fits.
+use Rattle.std.specs.Prelude.{List, ℕ, ◌<◌}
 use Rattle.nam_calls.specs.Fits.{CollectFits, MoveFits}
 use Rattle.nam_calls.specs.declared.horizon.CollectPoint.{CollectPoint}
 use Rattle.nam_calls.specs.declared.mover.MoveAnswer.{MoveAnswer}
@@ -10,7 +11,6 @@ use Rattle.nam_layout.specs.Address.{IsRow}
 use Rattle.nam_layout.specs.Place.{bucket_of, cells_of, place_at}
 use Rattle.nam_verbs.specs.declared.now.Now.{Now}
 use Rattle.nam_verbs.specs.declared.now.Now.TheVariants.{At, Over}
-use Rattle.std.specs.Prelude.{List, ℕ, ◌<◌}
 
 abbrev pub mover_now : ℕ → Now MovePoint MoveAnswer → Upkeep
 mover_now row (At at) = Mover row at

@@ -1,9 +1,9 @@
 -- The words of cells and of the horizon, and what it is that they stay.
+use Rattle.std.specs.Prelude.{None, Option, Some, ℕ, ◌≡◌}
 use Rattle.nam_catalog.specs.declared.shape.Shape.{Shape}
 use Rattle.nam_layout.specs.Address.{IsField}
 use Rattle.nam_layout.specs.declared.field.Field.{Field}
 use Rattle.nam_layout.specs.declared.field.Field.TheVariants.{Begin, CellWord, End, Horizon, Owner, Tag}
-use Rattle.std.specs.Prelude.{None, Option, Some, ℕ, ◌≡◌}
 
 -- a word of a cell, or a horizon entry
 abbrev pub IsUpkeepField : Field → Type 0

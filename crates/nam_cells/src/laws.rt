@@ -6,10 +6,10 @@ ghost use Rattle.nam_cells.specs.CellsLaw.{PlacesLaw};
 /// What is claimed of cells and the horizon (`CellsOk`).
 ///
 /// The opening has it, with any rows that may be loaded (`opening`). Each verb, each call that is asked, each
-/// transaction that is given up and each stop keeps it (`step`), and owes all other clients what they rely on
-/// (`next`): of a store that meets what the law of words says of it before the step, where each row goes on as it may
-/// (`Ready`). Where a mover's next verb sets the moved flag of a slot, the version there stands elsewhere (`flags`),
-/// which is what rows going on as they may asks of a mover.
+/// transaction that is given up and each stop keeps it (`step`), and owes all other clients what they rely on (`next`):
+/// of a store that meets what the law of words says of it before the step, where each row and the vector go on as they
+/// may (`Ready`). Where a mover's next verb sets the moved flag of a slot, the version there stands elsewhere
+/// (`flags`), which is what rows going on as they may asks of a mover.
 pub fn cells_law()
     ensures opening { OpensLaw }
     ensures step { KeepsLaw }

@@ -17,3 +17,15 @@ pub mod LawExample
 mod LawsExample
 mod EdgesExample
 mod SearchExample
+pub mod ListLemmas
+pub mod VisibleLemmas
+pub mod OrderLemmas
+pub mod ObserverLemmas
+pub mod SteppingLemmas
+pub mod SnapshotLemmas
+pub mod EntryLemmas
+pub mod IdleLemmas
+pub mod RecordLemmas
+pub mod ListedLemmas
+pub mod KeyLemmas
+pub mod CellLemmas

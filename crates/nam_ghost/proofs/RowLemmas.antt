@@ -1,49 +1,35 @@
 -- What follows from what one step may make of a row: versions stay with their numbers, at least as many were copied,
 -- the ends of copied versions stay, and each slot goes on as it may.
-use Rattle.nam_ghost.specs.Cells.{end_by, version_end}
-use Rattle.nam_ghost.specs.Slots.{IsFreeSlot, Kept, KeptOk, Ring, RingOk, SlotIs, copied_count, copy_ended}
-use Rattle.nam_ghost.specs.Slots.{GetsCopy, GetsFlag, GetsMark, KeepsOn, SlotNext, copy_of, flagged, home, marked}
-use Rattle.nam_ghost.specs.Slots.{Copies, Flags, Idles, Marks, Renews, RowNext, moved_of, with_copy}
-use Rattle.nam_ghost.specs.Versions.{Chain, IsNth, SlotImage, Version, current_number, versions}
-use Rattle.nam_header.specs.Header.{flag}
-use Rattle.nam_verbs.proofs.TestLemmas.{by_test}
-use Rattle.nam_layout.specs.declared.field.Place.{Place}
-use Rattle.nam_store.specs.Everyone.{put}
-use Rattle.si_model.specs.declared.log.Stamp.{Stamp}
-use Rattle.std.proofs.Common.{Bool, List, None, Option, Some, [], ap, arith, eqb, false, length, refl, slice_get}
-use Rattle.std.proofs.Common.{subst, suc, sym}
-use Rattle.std.proofs.Common.{true, zero, ℕ, ⊎_elim, ◌++◌, ◌+◌, ◌<◌, ◌≡◌, ◌≢◌, ◌≤◌, ◌∙◌, ◌∷◌}
-use Rattle.std.proofs.lemmas.Bool.{cases_lt, eqb-false, eqb-true}
+use Rattle.std.proofs.Common.{Bool, List, None, Option, Some, [], ap, arith, false, length, refl, slice_get, subst, suc}
+use Rattle.std.proofs.Common.{sym, true, zero, ℕ, ⊎_elim, ◌++◌, ◌+◌, ◌<◌, ◌∙◌, ◌∷◌, ◌≡◌, ◌≤◌}
+use Rattle.std.proofs.lemmas.Bool.{cases_lt}
 use Rattle.std.proofs.lemmas.List.{length_push}
-use Rattle.std.proofs.lemmas.Option.{none-some}
+use Rattle.std.proofs.lemmas.Option.{none-some, same_Some}
+use Rattle.nam_catalog.specs.Fits.{FitsLimits}
+use Rattle.nam_catalog.specs.declared.shape.Shape.{Shape}
+use Rattle.nam_ghost.proofs.ListLemmas.{got_end, got_front}
+use Rattle.nam_ghost.specs.Cells.{end_by, version_end}
+use Rattle.nam_ghost.specs.Copiers.{RowRing}
+use Rattle.nam_ghost.specs.Slots.{Copies, Flags, GetsCopy, GetsFlag, GetsMark, Idles, IsFreeSlot, Keeps, KeepsOn, Kept}
+use Rattle.nam_ghost.specs.Slots.{KeptOk, Marks, Renews, Ring, RingOk, RowNext, SlotIs, SlotNext, copied_count}
+use Rattle.nam_ghost.specs.Slots.{copy_ended, copy_of, flagged, home, marked, moved_of, with_copy}
+use Rattle.nam_ghost.specs.Turn.{RowsGo}
+use Rattle.nam_ghost.specs.Versions.{Chain, IsNth, SlotImage, Version, current_number, slot_image, versions}
+use Rattle.nam_header.specs.Header.{flag}
+use Rattle.nam_layout.proofs.LimitLemmas.{place_within_limits}
+use Rattle.nam_layout.specs.Address.{IsRow}
+use Rattle.nam_layout.specs.Place.{place_at}
+use Rattle.nam_layout.specs.declared.field.Field.{Field}
+use Rattle.nam_layout.specs.declared.field.Place.{Place}
+use Rattle.nam_store.proofs.Lists.{put_cases, some_within}
+use Rattle.si_model.specs.declared.log.Stamp.{Stamp}
 
--- 1. Lists, and a function changed at one number
+-- 1. Lists and flags
 
 get_past : {X : Type 0} (xs : List X) (n : ℕ) → length xs ≤ n → slice_get xs n ≡ None
 get_past [] n least = refl
 get_past (x ∷ xs) zero least = absurd (omega arith)
 get_past (x ∷ xs) (suc n) least = get_past xs n (omega arith)
-
-get_there : {X : Type 0} (xs : List X) (n : ℕ) → n < length xs → (x : X) × (slice_get xs n ≡ Some x)
-get_there [] n less = absurd (omega arith)
-get_there (x ∷ xs) zero less = (x, refl)
-get_there (x ∷ xs) (suc n) less = get_there xs n (omega arith)
-
-get_front : {X : Type 0} (xs : List X) (y z : X) (n : ℕ) → slice_get xs n ≡ Some z
-    → slice_get (xs ++ y ∷ []) n ≡ Some z
-get_front [] y z n e = absurd (none-some z e)
-get_front (x ∷ xs) y z zero e = e
-get_front (x ∷ xs) y z (suc n) e = get_front xs y z n e
-
-get_at_end : {X : Type 0} (xs : List X) (y : X) → slice_get (xs ++ y ∷ []) (length xs) ≡ Some y
-get_at_end [] y = refl
-get_at_end (x ∷ xs) y = get_at_end xs y
-
-put_cases : {A : Type 0} (P : A → Type 0) (f : ℕ → A) (n : ℕ) (x : A) (other : ℕ) → (other ≡ n → P x)
-    → (other ≢ n → P (f other)) → P (put f n x other)
-put_cases P f n x other here there =
-    by_test P (eqb other n) x (f other) (λ same. here (eqb-true other n same))
-    (λ apart. there (eqb-false other n apart))
 
 flag_most : (b : Bool) → flag b ≤ 1
 flag_most true = omega arith
@@ -75,7 +61,7 @@ module _ (place : Place) (Flagged : ℕ → Type 0) (New : Version → Type 0) w
   numbers_stay chain _ ring _ (Flags slot elsewhere) number version is = is
   numbers_stay chain later ring _ (Renews old new whole ends) number version is =
       ap (λ xs. slice_get (xs ++ later.now ∷ []) number) old
-      ∙ get_front (versions chain) later.now version number is
+      ∙ got_front (versions chain) (later.now ∷ []) number version is
 
 -- 4. Of a row whose ring is right before the step
 
@@ -113,7 +99,7 @@ module _ (place : Place) (some : 1 ≤ place.ring) (images : ℕ → SlotImage) 
   old_next : (number : ℕ) → number < current_number chain
       → (version : Version) × IsNth chain (number + 1) version
   old_next number less =
-      let long = length_push chain.old chain.now in get_there (versions chain) (number + 1) (omega arith)
+      let long = length_push chain.old chain.now in some_within (versions chain) (number + 1) (omega arith)
 
   module _ (Flagged : ℕ → Type 0) (New : Version → Type 0) where
     abbrev Next : Chain → Ring → Type 0
@@ -171,7 +157,7 @@ module _ (place : Place) (some : 1 ≤ place.ring) (images : ℕ → SlotImage) 
         let version = old_next number is_old in
         ends_by later (copy_ended ring) number version.0 version.1
         (ap (λ xs. slice_get (xs ++ later.now ∷ []) (number + 1)) old
-        ∙ get_front (versions chain) later.now version.0 (number + 1) version.1))
+        ∙ got_front (versions chain) (later.now ∷ []) (number + 1) version.0 version.1))
         (λ (least : current_number chain ≤ number).
         let most = flag_most ring.copied in
         let same : number ≡ current_number chain = omega arith in
@@ -180,7 +166,7 @@ module _ (place : Place) (some : 1 ≤ place.ring) (images : ℕ → SlotImage) 
         let at : number + 1 ≡ length later.old = omega arith in
         let is : version_end place later (copy_ended ring) number ≡ later.now.stamp =
         ap (λ o. end_by o (ring.kept (home place number)))
-        (ap (slice_get (versions later)) at ∙ get_at_end later.old later.now) in
+        (ap (slice_get (versions later)) at ∙ got_end later.old later.now) in
         let was : version_end place chain ring number ≡ next_of (ring.kept (home place number)) =
         ap (λ o. end_by o (ring.kept (home place number))) (get_past (versions chain) (number + 1) (omega arith)) in
         let there : ring.kept (home place number) ≡ Some whole.0 =
@@ -219,3 +205,35 @@ module _ (place : Place) (some : 1 ≤ place.ring) (images : ℕ → SlotImage) 
         (λ (here : slot ≡ at). subst (λ u. Goes (ring.kept slot) (moved_of (ring.kept u))) here
         (flags (ring.kept slot))) (λ apart. KeepsOn)
     slots_go later _ (Renews old new whole ends) slot less = KeepsOn
+
+-- a moved flag leaves the version that a slot keeps
+pub moved_keeps : (slot : Option Kept) (number : ℕ) → Keeps slot number → Keeps (moved_of slot) number
+moved_keeps None number (kept, at, is) = absurd (none-some kept at)
+moved_keeps (Some old) number (kept, at, is) =
+    (record old { moved = true }, refl, ap (λ (k : Kept). k.number) (same_Some old kept at) ∙ is)
+
+-- 6. All rows
+
+pub rows_go : (shape : Shape) → FitsLimits shape → (m : Field → ℕ) (chains later : ℕ → Chain) (rings next : ℕ → Ring)
+    → ((row : ℕ) → IsRow shape row → RowRing shape m row (chains row) (rings row)) → (Flagged : ℕ → ℕ → Type 0)
+    (New : ℕ → Version → Type 0)
+    → ((row : ℕ) → IsRow shape row
+    → RowNext (place_at shape row) (Flagged row) (New row) (chains row) (rings row) (later row) (next row))
+    → RowsGo shape chains later rings next
+rows_go shape limits m chains later rings next images Flagged New goes = record {
+  numbers = λ row number version is.
+      numbers_stay (place_at shape row) (Flagged row) (New row) (chains row) (later row) (rings row) (next row)
+      (goes row is) number version;
+  counts = λ row is.
+      count_rises (place_at shape row) (some row is) (slot_image m row) (chains row) (rings row) (images row is)
+      (Flagged row) (New row) (later row) (next row) (goes row is);
+  ends = λ row number is.
+      ends_stay (place_at shape row) (some row is) (slot_image m row) (chains row) (rings row) (images row is)
+      (Flagged row) (New row) (later row) (next row) (goes row is) number;
+  slots = λ row slot is.
+      slots_go (place_at shape row) (some row is.0) (slot_image m row) (chains row) (rings row) (images row is.0)
+      (Flagged row) (New row) (later row) (next row) (goes row is.0) slot is.1;
+}
+  where
+    some : (row : ℕ) (is : IsRow shape row) → 1 ≤ (place_at shape row).ring
+    some row is = (place_within_limits shape row limits is).least_ring

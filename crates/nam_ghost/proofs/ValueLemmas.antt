@@ -1,16 +1,16 @@
 -- Values, headers and stamps: what a value's words were copied to, and what the header of an old version says.
-use Rattle.std.proofs.Common.{List, None, Option, Some, [], ap, arith, length, sym, ℕ, ⊎_elim, ◌++◌, ◌<◌, ◌∙◌, ◌∷◌}
-use Rattle.std.proofs.Common.{◌≡◌, ◌≤◌}
-use Rattle.std.specs.Prelude.{Bool, false}
+use Rattle.std.proofs.Common.{List, None, Option, Some, [], ap, arith, length, refl, sym, true, ℕ, ⊎_elim, ◌++◌, ◌<◌}
+use Rattle.std.proofs.Common.{◌∙◌, ◌∷◌, ◌≡◌, ◌≤◌}
 use Rattle.std.proofs.lemmas.Bool.{cases_lt}
 use Rattle.std.proofs.lemmas.List.{get_or_append_left, get_or_push, length_push}
-use Rattle.si_model.specs.declared.log.Stamp.{Stamp}
+use Rattle.std.specs.Prelude.{Bool, false}
 use Rattle.nam_catalog.specs.declared.form.Form.{Form}
 use Rattle.nam_catalog.specs.declared.form.Form.TheVariants.{Held, Narrow, Wide}
-use Rattle.nam_header.specs.Header.{IsWithin, fields_of, header_of}
-use Rattle.nam_header.specs.Stamp.{FitsStamp, stamp_in, stamp_word}
-use Rattle.nam_header.proofs.StampLemmas.{header_of-word_of, stamp_in-word_of}
 use Rattle.nam_ghost.specs.Versions.{HasData, HasGot, Version, old_header, old_word}
+use Rattle.nam_header.proofs.StampLemmas.{header_of-word_of, stamp_in-word_of}
+use Rattle.nam_header.specs.Header.{IsWithin, fields_of, header_of}
+use Rattle.nam_header.specs.Stamp.{FitsStamp, is_moved, mark, stamp_in, stamp_word}
+use Rattle.si_model.specs.declared.log.Stamp.{Stamp}
 
 -- 1. The words of a value
 
@@ -57,3 +57,6 @@ pub stamp_says : (form : Form) (stamp : Stamp) → FitsStamp form stamp → stam
 stamp_says form stamp fits =
     stamp_in-word_of form record { stamp = stamp; moved = false; deleted = false; locked = false; holder = 0 }
     record { thread = fits.thread; number = fits.number; holder = some_holder form }
+
+pub mark_moved : (form : Form) → is_moved form mark ≡ true
+mark_moved form = refl

@@ -1,7 +1,9 @@
 -- The index: a key has at most one position, and what was passed on its path stays passed.
+use Rattle.std.specs.Prelude.{List, None, Option, Some, [], ℕ, ◌<◌, ◌≡◌, ◌≢◌}
+use Rattle.nam_calls.specs.Fits.{IsTableOf}
 use Rattle.nam_calls.specs.Index.{nth_key}
 use Rattle.nam_calls.specs.Memory.{memory}
-use Rattle.nam_calls.specs.Words.{key_word, path_of}
+use Rattle.nam_calls.specs.Words.{capacity_of, key_word, path_of}
 use Rattle.nam_calls.specs.declared.index.ClaimKeyPoint.{ClaimKeyPoint}
 use Rattle.nam_calls.specs.declared.index.ClaimKeyPoint.TheVariants.{KeyLook, KeyTake}
 use Rattle.nam_catalog.specs.declared.shape.Shape.{Shape}
@@ -29,7 +31,6 @@ use Rattle.nam_verbs.specs.declared.now.Now.TheVariants.{At}
 use Rattle.si_model.specs.Evaluation.{op_key}
 use Rattle.si_model.specs.Lists.{Listed}
 use Rattle.si_model.specs.declared.row.Key.{Key}
-use Rattle.std.specs.Prelude.{List, None, Option, Some, [], ℕ, ◌<◌, ◌≡◌, ◌≢◌}
 use Rattle.nam_layout.specs.declared.field.Field.TheVariants as field
 
 -- What a client knows of keys at its point: it looks for a key, having passed so many positions of its path; or it has
@@ -65,6 +66,12 @@ abbrev pub key_view : Option (Now CallPoint Answer) → KeyView
 key_view (Some (At place)) = call_view place
 key_view _ = NoKey
 
+-- the position is one of a table
+abbrev pub ViewFits : Shape → KeyView → Type 0
+ViewFits shape NoKey = Unit {0}
+ViewFits shape (LooksFor table key passed) = IsTableOf shape table × (passed < capacity_of shape table)
+ViewFits shape (HasFound table key position) = IsTableOf shape table × (position < capacity_of shape table)
+
 -- a position without a key has had no version but the loader's absent one, and nobody has locked it
 pub record IsUnused (chain : Chain) : Type 0 where
   pub old : chain.old ≡ []
@@ -85,11 +92,16 @@ module _ (shape : Shape) (m : Field → ℕ) where
   ViewOk (LooksFor table key passed) = IsPast table key passed
   ViewOk (HasFound table key position) = Bears table key position
 
+  abbrev pub IsAtKey : Record → Type 0
+  IsAtKey claim = m (field.Key claim.place.row) ≡ key_word claim.key.key
+
+  abbrev pub AreAtKeys : List Record → Type 0
+  AreAtKeys claims = (claim : Record) → Listed claim claims → IsAtKey claim
+
   -- the keys that a transaction has claimed stand at their positions
   abbrev pub ClaimsOk : Option Open → Type 0
   ClaimsOk None = Unit {0}
-  ClaimsOk (Some attempt) =
-      (claim : Record) → Listed claim attempt.state.claims → m (field.Key claim.place.row) ≡ key_word claim.key.key
+  ClaimsOk (Some attempt) = AreAtKeys attempt.state.claims
 
   -- and so do those that a running scan has found on its way, before the position that it is at
   abbrev pub ScannedOk : Option (Now CallPoint Answer) → List Scanned → Type 0

@@ -1,4 +1,5 @@
 pub mod Versions
+pub mod Stepping
 pub mod Moments
 pub mod Holders
 pub mod Locks
@@ -16,3 +17,6 @@ pub mod Since
 pub mod Steps
 pub mod Ghost
 pub mod Law
+pub mod Idle
+pub mod Turn
+pub mod Commits

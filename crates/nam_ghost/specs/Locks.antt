@@ -1,11 +1,12 @@
 -- Locks: a locked header has one holder, which lists it; the words of a position are those of its current version, but
 -- for what its holder has written.
+use Rattle.std.specs.Prelude.{List, Some, false, length, map, slice_index, true, ℕ, ◌+◌, ◌<◌, ◌≡◌, ◌≢◌, ◌≤◌}
 use Rattle.nam_calls.specs.Memory.{memory}
 use Rattle.nam_calls.specs.Record.{word_in}
 use Rattle.nam_calls.specs.Words.{wrapped}
 use Rattle.nam_catalog.specs.declared.form.Form.{Form}
 use Rattle.nam_catalog.specs.declared.shape.Shape.{Shape}
-use Rattle.nam_ghost.specs.Holders.{Holder, Holds, HoldsRow, holder_of, version_of}
+use Rattle.nam_ghost.specs.Holders.{Holder, Holds, HoldsRow, from_at, holder_of, record_row, version_of}
 use Rattle.nam_ghost.specs.Versions.{Chain, HasData, IsVersion, RecordImage, Version, current_number, current_word}
 use Rattle.nam_ghost.specs.Versions.{record_image}
 use Rattle.nam_header.specs.Header.{flag}
@@ -14,10 +15,15 @@ use Rattle.nam_header.specs.Visible.{is_visible}
 use Rattle.nam_layout.specs.Address.{IsRow}
 use Rattle.nam_layout.specs.Rows.{width_at}
 use Rattle.nam_layout.specs.declared.field.Field.{Field}
-use Rattle.nam_layout.specs.declared.field.Field.TheVariants.{Word}
+use Rattle.nam_layout.specs.declared.field.Field.TheVariants.{Header, Word}
+use Rattle.nam_protocol.specs.declared.client.CallPoint.TheVariants.{InTxn}
+use Rattle.nam_protocol.specs.declared.client.ClientState.{ClientState}
+use Rattle.nam_protocol.specs.declared.client.Open.{Open}
+use Rattle.nam_protocol.specs.declared.txn.CommitPoint.{CommitPoint}
+use Rattle.nam_protocol.specs.declared.txn.TxnPoint.TheVariants.{Committing}
 use Rattle.nam_store.specs.Everyone.{Everyone}
 use Rattle.nam_store.specs.Store.{Store}
-use Rattle.std.specs.Prelude.{List, false, length, map, slice_index, true, ℕ, ◌+◌, ◌<◌, ◌≡◌, ◌≢◌, ◌≤◌}
+use Rattle.nam_verbs.specs.declared.now.Now.TheVariants.{At}
 
 -- 1. A position's words
 
@@ -90,3 +96,20 @@ module _ (shape : Shape) where
 
 abbrev pub LocksOk : Shape → Store → (ℕ → Chain) → Type 0
 LocksOk shape store chains = AreHeld shape (memory shape store.words) chains (map holder_of store.clients)
+
+-- 3. In words of clients and headers alone
+
+-- the client runs a commit that has locked the row's record, and has neither given the lock back nor written the new
+-- header
+pub record Lists (row : ℕ) (client : ClientState) : Type 0 where
+  pub at : CommitPoint
+  pub attempt : Open
+  pub runs : client.call ≡ Some (At (InTxn (Committing at)))
+  pub opened : client.txn ≡ Some attempt
+  pub number : ℕ
+  pub begins : from_at attempt.state at ≤ number
+  pub ends : number < length attempt.state.held
+  pub row_is : record_row attempt.state number ≡ row
+
+abbrev pub header_at : Shape → Store → ℕ → ℕ
+header_at shape store row = memory shape store.words (Header row)

@@ -3,6 +3,7 @@
 -- at one moment, between the passes.
 use Rattle.nam_calls.specs.Memory.{memory}
 use Rattle.nam_catalog.specs.declared.shape.Shape.{Shape}
+use Rattle.nam_ghost.specs.Stepping.{stepper_after, stepper_before, stepping}
 use Rattle.nam_layout.specs.declared.field.Field.{Field}
 use Rattle.nam_layout.specs.declared.field.Field.TheVariants.{Entry}
 use Rattle.nam_protocol.specs.declared.client.Answer.{Answer}
@@ -12,7 +13,7 @@ use Rattle.nam_protocol.specs.declared.client.ClientState.{ClientState}
 use Rattle.nam_protocol.specs.declared.txn.CommitPoint.TheVariants.{Ending, Freeing}
 use Rattle.nam_protocol.specs.declared.txn.TxnPoint.TheVariants.{Committing}
 use Rattle.nam_store.specs.Everyone.{Everyone, Someone}
-use Rattle.nam_store.specs.Store.{Store}
+use Rattle.nam_store.specs.Store.{StepsTo, Store}
 use Rattle.nam_vector.specs.declared.snap.SnapPoint.{SnapPoint}
 use Rattle.nam_vector.specs.declared.snap.SnapPoint.TheVariants.{First, Second}
 use Rattle.nam_verbs.specs.declared.now.Now.{Now}
@@ -142,6 +143,28 @@ module _ (start workers : ℕ) where
 abbrev pub vector_of : (Field → ℕ) → ℕ → ℕ
 vector_of m a = m (Entry (a + 1))
 
+-- a client's entry of the vector; clients count from 0
+abbrev pub entry_in : Shape → Store → ℕ → ℕ
+entry_in shape store = vector_of (memory shape store.words)
+
 abbrev pub MomentsOk : Shape → Store → Type 0
 MomentsOk shape store =
     AreObservers shape.start shape.workers (vector_of (memory shape store.words)) (map observer_of store.clients)
+
+-- some client has taken it, for a transaction or for a collection
+abbrev pub IsTaken : Store → List ℕ → Type 0
+IsTaken store snapshot = Someone (λ nth (client : ClientState). Listed snapshot client.log.snaps) store.clients
+
+-- 4. What a step shows to the groups that rest on this one
+
+-- no entry falls
+abbrev pub EntriesRise : Shape → Store → Store → Type 0
+EntriesRise shape before after =
+    (nth : ℕ) → nth < shape.workers → entry_in shape before nth ≤ entry_in shape after nth
+
+-- what its client owes
+abbrev pub MomentsNext : (shape : Shape) (before after : Store) → StepsTo shape before after → Type 0
+MomentsNext shape before after goes =
+    ObserverNext shape.start shape.workers (entry_in shape before) (entry_in shape after)
+    (stepping shape before after goes) (observer_of (stepper_before shape before after goes))
+    (observer_of (stepper_after shape before after goes))

@@ -1,12 +1,12 @@
 -- Movers and collectors: what a client knows that moves an old version into a cell, or collects a bucket.
+use Rattle.std.specs.Prelude.{List, Option, Some, false, length, slice_index, true, ℕ, ◌+◌, ◌<◌, ◌≡◌, ◌≢◌, ◌≤◌, ◌⊎◌}
 use Rattle.nam_calls.specs.Memory.{memory}
 use Rattle.nam_calls.specs.declared.horizon.CollectPoint.{CollectPoint}
 use Rattle.nam_calls.specs.declared.horizon.CollectPoint.TheVariants.{CollectEnding, CollectFree, CollectTag}
 use Rattle.nam_calls.specs.declared.horizon.CollectPoint.TheVariants.{HorizonLook, HorizonRaise}
 use Rattle.nam_calls.specs.declared.mover.MovePoint.{MovePoint}
-use Rattle.nam_calls.specs.declared.mover.MovePoint.TheVariants.{MoveAgain, MoveBack, MoveClaim, MoveCount}
-use Rattle.nam_calls.specs.declared.mover.MovePoint.TheVariants.{MoveEnding, MoveFill, MoveFlag, MoveFull, MoveHead}
-use Rattle.nam_calls.specs.declared.mover.MovePoint.TheVariants.{MoveWords}
+use Rattle.nam_calls.specs.declared.mover.MovePoint.TheVariants.{MoveAgain, MoveBack, MoveClaim, MoveCount, MoveEnding}
+use Rattle.nam_calls.specs.declared.mover.MovePoint.TheVariants.{MoveFill, MoveFlag, MoveFull, MoveHead, MoveWords}
 use Rattle.nam_calls.specs.declared.overflow.ClaimPoint.{ClaimPoint}
 use Rattle.nam_calls.specs.declared.overflow.ClaimPoint.TheVariants.{ClaimLook, ClaimTake}
 use Rattle.nam_calls.specs.declared.overflow.FillPoint.{FillPoint}
@@ -23,16 +23,16 @@ use Rattle.nam_layout.specs.Address.{IsCell, IsRow}
 use Rattle.nam_layout.specs.Place.{bucket_of, place_at}
 use Rattle.nam_layout.specs.Rows.{row_of}
 use Rattle.nam_layout.specs.declared.field.Field.{Field}
-use Rattle.nam_layout.specs.declared.field.Field.TheVariants.{Begin, CellWord, End, Entry, Horizon, Owner, Tag}
+use Rattle.nam_layout.specs.declared.field.Field.TheVariants.{Begin, CellWord, End, Entry, Horizon, Owner, SlotHeader}
+use Rattle.nam_layout.specs.declared.field.Field.TheVariants.{Tag}
 use Rattle.nam_protocol.specs.declared.client.Answer.{Answer}
 use Rattle.nam_protocol.specs.declared.client.CallPoint.{CallPoint}
 use Rattle.nam_protocol.specs.declared.client.CallPoint.TheVariants.{Collecting, Moving}
 use Rattle.nam_protocol.specs.declared.client.ClientState.{ClientState}
 use Rattle.nam_store.specs.Everyone.{Everyone}
-use Rattle.nam_store.specs.Store.{Store}
+use Rattle.nam_store.specs.Store.{Store, client_at}
 use Rattle.nam_verbs.specs.declared.now.Now.{Now}
 use Rattle.nam_verbs.specs.declared.now.Now.TheVariants.{At}
-use Rattle.std.specs.Prelude.{List, Option, Some, false, length, slice_index, true, ℕ, ◌+◌, ◌<◌, ◌≡◌, ◌≢◌, ◌≤◌, ◌⊎◌}
 use Rattle.nam_calls.specs.declared.overflow.Version as filled
 
 -- a client beside its transactions: a mover of the version in a row's slot, a collector of a bucket, or neither
@@ -197,3 +197,12 @@ module _ (shape : Shape) where
         → cells bucket cell ≡ ClaimedBy (other + 1)
         → (later bucket cell ≡ ClaimedBy (other + 1)) × (now (Tag bucket cell) ≡ m (Tag bucket cell))
     pub horizon : (a : ℕ) → a < shape.workers → m (Horizon (a + 1)) ≤ now (Horizon (a + 1))
+
+-- where a mover's next verb sets the moved flag of a slot, the version there stands elsewhere
+abbrev pub FlagsElsewhere : Shape → Store → (ℕ → Chain) → (ℕ → Ring) → CellMap → Type 0
+FlagsElsewhere shape store chains rings cells =
+    (nth : ℕ) (client : ClientState) → client_at store nth ≡ Some client → (table key position slot header : ℕ)
+    → client.call ≡ Some (At (Moving table key position (MoveFlag slot header)))
+    → let row = row_of shape.tables table position in memory shape store.words (SlotHeader row slot) ≡ header
+    → (kept : Kept) → (rings row).kept slot ≡ Some kept
+    → IsElsewhere shape chains rings (memory shape store.words) cells row kept.number

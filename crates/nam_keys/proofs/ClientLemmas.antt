@@ -1,25 +1,30 @@
 -- What a client knows of keys after each word that it takes and each call that it is asked, and which key words its
 -- verb changes.
-use Rattle.std.proofs.Common.{None, Option, Some, ap, inl, subst, sym, ℕ, ◌∙◌, ◌≡◌, ◌≢◌}
+use Rattle.std.proofs.Common.{None, Option, Some, inl, subst, sym, ℕ, ◌∙◌, ◌≡◌, ◌≢◌}
 use Rattle.std.proofs.lemmas.Option.{none-some}
-use Rattle.nam_verbs.specs.VerbAt.{VerbAt, found_at, left_at, target}
-use Rattle.nam_verbs.specs.declared.now.Now.{Now}
-use Rattle.nam_verbs.specs.declared.now.Now.TheVariants.{At}
-use Rattle.nam_verbs.proofs.TestLemmas.{by_equal}
-use Rattle.nam_catalog.specs.Fits.{FitsLimits}
-use Rattle.nam_catalog.specs.declared.shape.Shape.{Shape}
-use Rattle.nam_layout.specs.Address.{IsRow}
-use Rattle.nam_layout.specs.Place.{bucket_of, cells_by, cells_of, place_of}
-use Rattle.nam_layout.specs.Rows.{row_of}
-use Rattle.nam_layout.specs.declared.field.Field.{Field}
-use Rattle.nam_layout.specs.declared.field.Field.TheVariants.{Key}
-use Rattle.nam_vector.specs.Snap.{snap_after}
+use Rattle.nam_calls.proofs.FieldLemmas.{row_within}
 use Rattle.nam_calls.specs.Horizon.{collect_after}
 use Rattle.nam_calls.specs.Index.{nth_key}
 use Rattle.nam_calls.specs.Mover.{move_after}
 use Rattle.nam_calls.specs.Words.{key_word, path_of}
 use Rattle.nam_calls.specs.declared.index.ClaimKeyPoint.TheVariants.{KeyLook, KeyTake}
-use Rattle.nam_calls.proofs.FieldLemmas.{row_within}
+use Rattle.nam_catalog.specs.Fits.{FitsLimits}
+use Rattle.nam_catalog.specs.declared.shape.Shape.{Shape}
+use Rattle.nam_ghost.proofs.IdleLemmas.{place_is}
+use Rattle.nam_ghost.proofs.KeyLemmas.{view_fits}
+use Rattle.nam_ghost.specs.Keys.{KeyClientOk, KeyView, KeysNext, LooksFor, ViewFits, claim_view, key_view, txn_view}
+use Rattle.nam_keys.proofs.ScanLemmas.{key_tells, read_tells}
+use Rattle.nam_keys.proofs.TellLemmas.{find_tells, look_tells, none_past, take_tells}
+use Rattle.nam_keys.proofs.TxnLemmas.{asked_tells, claiming_tells, committing_tells, finding_tells, reading_tells}
+use Rattle.nam_keys.proofs.TxnLemmas.{stepped_tells}
+use Rattle.nam_keys.proofs.WordLemmas.{claim_goes}
+use Rattle.nam_keys.specs.Tells.{FindTells, KeysGo}
+use Rattle.nam_layout.specs.Address.{IsRow}
+use Rattle.nam_layout.specs.Place.{bucket_of, cells_by, cells_of, place_of}
+use Rattle.nam_layout.specs.Rows.{row_of}
+use Rattle.nam_layout.specs.declared.field.Field.{Field}
+use Rattle.nam_layout.specs.declared.field.Field.TheVariants.{Key}
+use Rattle.nam_protocol.proofs.GoesClient.{begin_goes, collect_goes, move_goes, seek_goes, snap_goes}
 use Rattle.nam_protocol.specs.CallWrites.{call_writes, open_writes}
 use Rattle.nam_protocol.specs.Client.{ask_scan, ask_txn, call_after, call_verb, client_after, client_ask, open_verb}
 use Rattle.nam_protocol.specs.Client.{take_scan, take_txn, with_call}
@@ -27,7 +32,6 @@ use Rattle.nam_protocol.specs.ClientFits.{CallPointFits, ClientFits, OpenPointFi
 use Rattle.nam_protocol.specs.Scan.{scan_verb}
 use Rattle.nam_protocol.specs.Telling.{go}
 use Rattle.nam_protocol.specs.TxnCalls.{txn_after, txn_ask}
-use Rattle.nam_protocol.specs.declared.client.Answer.{Answer}
 use Rattle.nam_protocol.specs.declared.client.Call.{Call}
 use Rattle.nam_protocol.specs.declared.client.CallPoint.{CallPoint}
 use Rattle.nam_protocol.specs.declared.client.CallPoint.TheVariants.{Beginning, Collecting, InTxn, Moving, Scanning}
@@ -39,27 +43,18 @@ use Rattle.nam_protocol.specs.declared.scan.ScanPoint.TheVariants.{ScanKey, Scan
 use Rattle.nam_protocol.specs.declared.txn.TxnCall.{TxnCall}
 use Rattle.nam_protocol.specs.declared.txn.TxnPoint.{TxnPoint}
 use Rattle.nam_protocol.specs.declared.txn.TxnPoint.TheVariants.{Claiming, Committing, Finding, Reading}
-use Rattle.nam_protocol.proofs.GoesClient.{begin_goes, collect_goes, move_goes, seek_goes, snap_goes}
+use Rattle.nam_store.proofs.PathLemmas.{on_row, row_on}
 use Rattle.nam_store.specs.Changed.{Changed, OthersStay, written_of}
 use Rattle.nam_store.specs.Kinds.{MayWrite, Writes}
 use Rattle.nam_store.specs.Store.{next_verb}
-use Rattle.nam_store.proofs.PathLemmas.{on_row, row_on}
-use Rattle.nam_ghost.specs.Keys.{KeyClientOk, KeyView, KeysNext, LooksFor, claim_view, key_view, txn_view}
-use Rattle.nam_keys.specs.Tells.{FindTells, KeysGo, ViewFits}
-use Rattle.nam_keys.proofs.ScanLemmas.{key_tells, read_tells}
-use Rattle.nam_keys.proofs.StayLemmas.{view_fits}
-use Rattle.nam_keys.proofs.TellLemmas.{find_tells, look_tells, none_past, take_tells}
-use Rattle.nam_keys.proofs.TxnLemmas.{asked_tells, claiming_tells, committing_tells, finding_tells, reading_tells}
-use Rattle.nam_keys.proofs.TxnLemmas.{stepped_tells}
-use Rattle.nam_keys.proofs.WordLemmas.{claim_goes}
+use Rattle.nam_vector.specs.Snap.{snap_after}
+use Rattle.nam_verbs.proofs.TestLemmas.{by_equal}
+use Rattle.nam_verbs.specs.VerbAt.{VerbAt, found_at, left_at, target}
+use Rattle.nam_verbs.specs.declared.now.Now.TheVariants.{At}
 use Rattle.si_model.specs.Evaluation.{op_key}
 use Rattle.si_model.specs.Rows.{key_at}
 use Rattle.nam_protocol.specs.declared.client.Call.TheVariants as call
 use Rattle.si_model.specs.declared.row.Key as row_key
-
--- a client at a point, as the client that it is
-pub at_place : (client : ClientState) (place : CallPoint) → client.call ≡ Some (At place) → go client place ≡ client
-at_place client place e = ap (λ (call : Option (Now CallPoint Answer)). record client { call = call }) (sym e)
 
 -- 1. A word is taken
 
@@ -184,7 +179,7 @@ module _ (shape : Shape) (limits : FitsLimits shape) (m now : Field → ℕ) (ne
       → KeyClientOk shape now (client_after shape client found)
   client_tells client place e =
       subst (λ c. ClientFits shape c → KeyClientOk shape now c → Did (next_verb shape c)
-      → KeyClientOk shape now (client_after shape c found)) (at_place client place e) (word_tells client place)
+      → KeyClientOk shape now (client_after shape c found)) (place_is client place e) (word_tells client place)
 
 -- 2. Which key words its verb changes
 
@@ -242,7 +237,7 @@ module _ (shape : Shape) (m now : Field → ℕ) (worker : ℕ) where
   client_goes client place e =
       subst (λ c. Changed shape m now (target (next_verb shape c)) (left_at m (next_verb shape c))
       → OthersStay shape m now (written_of shape c) → Keeps (Writes worker c) → KeysGo shape m now (key_view c.call))
-      (at_place client place e) (word_goes client place)
+      (place_is client place e) (word_goes client place)
 
 -- 3. A call is asked
 

@@ -1,20 +1,20 @@
 -- At the opening loaded keys stand on their paths, and no other position was used.
 use Rattle.std.proofs.Common.{List, None, Some, arith, inl, inr, map, refl, subst, sym, ℕ, ◌∙◌, ◌≡◌}
 use Rattle.std.specs.Prelude.{if◌then◌else◌}
+use Rattle.nam_calls.specs.Memory.{memory}
 use Rattle.nam_catalog.specs.declared.form.Form.{Form}
 use Rattle.nam_catalog.specs.declared.form.Form.TheVariants.{Held, Narrow, Wide}
+use Rattle.nam_ghost.specs.Keys.{KeyClientOk}
 use Rattle.nam_header.specs.Stamp.{blank_header, is_deleted}
+use Rattle.nam_keys.specs.KeysLaw.{OpensLaw}
 use Rattle.nam_layout.specs.Rows.{width_at}
 use Rattle.nam_layout.specs.declared.field.Field.{Field}
 use Rattle.nam_layout.specs.declared.field.Field.TheVariants.{Word}
-use Rattle.nam_calls.specs.Memory.{memory}
+use Rattle.nam_protocol.proofs.OpeningLemmas.{opening_law}
 use Rattle.nam_protocol.specs.Opening.{opening_words}
 use Rattle.nam_protocol.specs.Schedule.{numbers_from}
 use Rattle.nam_protocol.specs.declared.client.ClientState.{ClientState}
-use Rattle.nam_protocol.proofs.OpeningLemmas.{opening_law}
 use Rattle.nam_store.proofs.OpeningLemmas.{opening_client}
-use Rattle.nam_ghost.specs.Keys.{KeyClientOk}
-use Rattle.nam_keys.specs.KeysLaw.{OpensLaw}
 use Rattle.nam_store.proofs.KeysOpen as opened
 
 -- the header of a position without a version has the deleted flag

@@ -1,18 +1,9 @@
 -- What is said of keys, in words of key words and clients alone.
-use Rattle.std.proofs.Common.{List, None, Option, Some, ap, arith, inl, inr, refl, subst, sym, true, ℕ, ◌+◌, ◌<◌}
-use Rattle.std.proofs.Common.{◌∙◌, ◌≡◌, ◌≢◌}
-use Rattle.std.specs.Prelude.{◌==◌, ◌||◌}
+use Rattle.std.proofs.Common.{List, None, Option, Some, ap, arith, inl, inr, refl, subst, sym, true, ℕ, ◌+◌, ◌<◌, ◌∙◌}
+use Rattle.std.proofs.Common.{◌≡◌, ◌≢◌}
 use Rattle.std.proofs.lemmas.Bool.{cases_eq, cases_order, eqb-true, or_cases}
-use Rattle.nam_verbs.specs.VerbAt.{found_at}
-use Rattle.nam_verbs.specs.declared.now.Now.{Now}
-use Rattle.nam_verbs.specs.declared.now.Now.TheVariants.{At, Over}
-use Rattle.nam_verbs.proofs.TestLemmas.{by_equal, by_test}
-use Rattle.nam_catalog.specs.Fits.{FitsLimits}
-use Rattle.nam_catalog.specs.declared.shape.Shape.{Shape}
-use Rattle.nam_layout.specs.Address.{IsRow}
-use Rattle.nam_layout.specs.Rows.{row_of}
-use Rattle.nam_layout.specs.declared.field.Field.{Field}
-use Rattle.nam_layout.specs.declared.field.Field.TheVariants.{Key}
+use Rattle.std.specs.Prelude.{◌==◌, ◌||◌}
+use Rattle.nam_calls.proofs.FieldLemmas.{row_within}
 use Rattle.nam_calls.specs.Fits.{IsTableOf}
 use Rattle.nam_calls.specs.Index.{claim_key_after, find_after, nth_key}
 use Rattle.nam_calls.specs.Memory.{memory}
@@ -20,7 +11,22 @@ use Rattle.nam_calls.specs.Words.{capacity_of, key_word, path_of}
 use Rattle.nam_calls.specs.declared.index.ClaimKeyPoint.{ClaimKeyPoint}
 use Rattle.nam_calls.specs.declared.index.ClaimKeyPoint.TheVariants.{KeyLook, KeyTake}
 use Rattle.nam_calls.specs.declared.index.FindEnd.{FindEnd}
-use Rattle.nam_calls.proofs.FieldLemmas.{row_within}
+use Rattle.nam_catalog.specs.Fits.{FitsLimits}
+use Rattle.nam_catalog.specs.declared.shape.Shape.{Shape}
+use Rattle.nam_ghost.proofs.KeyLemmas.{key_stays, past_stays, position_within, view_fits}
+use Rattle.nam_ghost.specs.Ghost.{ghost_step, opening_ghost}
+use Rattle.nam_ghost.specs.Keys.{ClaimsOk, IsPast, KeyClientOk, KeyView, KeysNext, KeysOk, LooksFor, ScannedOk}
+use Rattle.nam_ghost.specs.Keys.{ViewFits, ViewOk, call_view, key_view, txn_view}
+use Rattle.nam_ghost.specs.Versions.{Chain}
+use Rattle.nam_keys.proofs.StayLemmas.{claim_row}
+use Rattle.nam_keys.proofs.StoreLemmas.{keys_reached, next_law}
+use Rattle.nam_keys.proofs.TellLemmas.{look_tells, take_tells}
+use Rattle.nam_keys.specs.KeysLaw.{AbsentLaw, FoundLaw, FullLaw, HasRow, InCall, InClaims, InScan, OnceLaw, PassedLaw}
+use Rattle.nam_keys.specs.Tells.{ClaimTells}
+use Rattle.nam_layout.specs.Address.{IsRow}
+use Rattle.nam_layout.specs.Rows.{row_of}
+use Rattle.nam_layout.specs.declared.field.Field.{Field}
+use Rattle.nam_layout.specs.declared.field.Field.TheVariants.{Key}
 use Rattle.nam_protocol.specs.Client.{call_verb, open_verb}
 use Rattle.nam_protocol.specs.ClientFits.{CallPointFits, NowFits, OpenFits, OpenPointFits}
 use Rattle.nam_protocol.specs.declared.client.Answer.{Answer}
@@ -32,29 +38,23 @@ use Rattle.nam_protocol.specs.declared.client.Open.{Open}
 use Rattle.nam_protocol.specs.declared.scan.ScanPoint.TheVariants.{ScanKey, ScanRead}
 use Rattle.nam_protocol.specs.declared.txn.TxnPoint.{TxnPoint}
 use Rattle.nam_protocol.specs.declared.txn.TxnPoint.TheVariants.{Claiming, Committing, Finding, Reading}
+use Rattle.nam_store.proofs.BaseLemmas.{base_keeps}
+use Rattle.nam_store.proofs.PathLemmas.{row_on, row_reached}
+use Rattle.nam_store.proofs.ReachedLemmas.{ghost_rides, path_keeps, reached_law}
+use Rattle.nam_store.proofs.RowsStand.{key_once}
 use Rattle.nam_store.specs.Base.{BaseOk, ClientOk}
 use Rattle.nam_store.specs.Opening.{AreLoaded}
 use Rattle.nam_store.specs.Reached.{IsReached}
 use Rattle.nam_store.specs.Store.{Store, client_at, found_word, verb_at}
 use Rattle.nam_store.specs.Turns.{StepsOn}
-use Rattle.nam_store.proofs.BaseLemmas.{base_keeps}
-use Rattle.nam_store.proofs.PathLemmas.{row_on, row_reached}
-use Rattle.nam_store.proofs.ReachedLemmas.{ghost_rides, path_keeps, reached_law}
-use Rattle.nam_store.proofs.RowsStand.{key_once}
-use Rattle.nam_ghost.specs.Ghost.{ghost_step, opening_ghost}
-use Rattle.nam_ghost.specs.Keys.{ClaimsOk, IsPast, KeyClientOk, KeyView, KeysNext, KeysOk, LooksFor, ScannedOk, ViewOk}
-use Rattle.nam_ghost.specs.Keys.{call_view, key_view, txn_view}
-use Rattle.nam_ghost.specs.Versions.{Chain}
-use Rattle.nam_keys.specs.KeysLaw.{AbsentLaw, FoundLaw, FullLaw, HasRow, InCall, InClaims, InScan, OnceLaw, PassedLaw}
-use Rattle.nam_keys.specs.Tells.{ClaimTells, ViewFits}
-use Rattle.nam_keys.proofs.StayLemmas.{claim_row, position_within, view_fits}
-use Rattle.nam_keys.proofs.StoreLemmas.{keys_reached, next_law}
-use Rattle.nam_keys.proofs.TellLemmas.{look_tells, take_tells}
-use Rattle.nam_keys.proofs.WordLemmas.{key_stays, past_stays}
+use Rattle.nam_verbs.proofs.TestLemmas.{by_equal, by_test}
+use Rattle.nam_verbs.specs.VerbAt.{found_at}
+use Rattle.nam_verbs.specs.declared.now.Now.{Now}
+use Rattle.nam_verbs.specs.declared.now.Now.TheVariants.{At, Over}
+use Rattle.si_model.proofs.ListLemmas.{All-listed}
 use Rattle.si_model.specs.Evaluation.{op_key}
 use Rattle.si_model.specs.declared.op.Op.{Op}
 use Rattle.si_model.specs.declared.row.Row.{Row}
-use Rattle.si_model.proofs.ListLemmas.{All-listed}
 use Rattle.nam_calls.specs.declared.index.ClaimKeyEnd.TheVariants as claimed_key
 use Rattle.nam_calls.specs.declared.index.FindEnd.TheVariants as found_key
 

@@ -1,16 +1,17 @@
 -- What a scan knows of keys after each word that it takes.
-use Rattle.std.proofs.Common.{List, None, Option, Some, [], arith, inl, inr, subst, ℕ, ◌+◌, ◌<◌, ◌∷◌, ◌≡◌}
-use Rattle.std.proofs.Common.{◌≢◌, ◌-◌}
-use Rattle.std.specs.Prelude.{nat_le, ◌==◌}
+use Rattle.std.proofs.Common.{List, None, Option, Some, [], arith, inl, inr, subst, ℕ, ◌+◌, ◌-◌, ◌<◌, ◌∷◌, ◌≡◌, ◌≢◌}
 use Rattle.std.proofs.lemmas.Bool.{and_parts, leb-true}
-use Rattle.nam_verbs.proofs.TestLemmas.{by_test}
-use Rattle.nam_catalog.specs.declared.shape.Shape.{Shape}
-use Rattle.nam_layout.specs.Rows.{row_of}
-use Rattle.nam_layout.specs.declared.field.Field.{Field}
-use Rattle.nam_layout.specs.declared.field.Field.TheVariants.{Key}
+use Rattle.std.specs.Prelude.{nat_le, ◌==◌}
 use Rattle.nam_calls.specs.Reading.{read_after, sight_of}
 use Rattle.nam_calls.specs.Words.{capacity_of}
 use Rattle.nam_calls.specs.declared.reading.ReadPoint.{ReadPoint}
+use Rattle.nam_catalog.specs.declared.shape.Shape.{Shape}
+use Rattle.nam_ghost.specs.Keys.{AreAtKeys, Bears, ClaimsOk, KeyClientOk}
+use Rattle.nam_keys.specs.Tells.{AreBefore}
+use Rattle.nam_layout.specs.Rows.{row_of}
+use Rattle.nam_layout.specs.declared.field.Field.{Field}
+use Rattle.nam_layout.specs.declared.field.Field.TheVariants.{Key}
+use Rattle.nam_protocol.proofs.GoesParts.{scan_read_goes}
 use Rattle.nam_protocol.specs.Operations.{own_value}
 use Rattle.nam_protocol.specs.Scan.{in_range, scan_after, scan_skip}
 use Rattle.nam_protocol.specs.ScanCall.{on_scan, on_skip, with_gathered}
@@ -18,11 +19,9 @@ use Rattle.nam_protocol.specs.declared.client.ClientState.{ClientState}
 use Rattle.nam_protocol.specs.declared.client.Open.{Open}
 use Rattle.nam_protocol.specs.declared.client.Scanned.{Scanned}
 use Rattle.nam_protocol.specs.declared.scan.ScanPoint.TheVariants.{ScanKey, ScanRead}
-use Rattle.nam_protocol.proofs.GoesParts.{scan_read_goes}
-use Rattle.nam_ghost.specs.Keys.{Bears, ClaimsOk, KeyClientOk}
-use Rattle.nam_keys.specs.Tells.{AreAtKeys, AreBefore}
-use Rattle.si_model.specs.Rows.{key_at, writes_key}
+use Rattle.nam_verbs.proofs.TestLemmas.{by_test}
 use Rattle.si_model.proofs.ListLemmas.{listed_append_cases}
+use Rattle.si_model.specs.Rows.{key_at, writes_key}
 
 module _ (shape : Shape) (m : Field → ℕ) (attempt : Open) (claims : AreAtKeys shape m attempt.state.claims)
     (table low high position : ℕ) where

@@ -1,33 +1,34 @@
 -- Each step of a store keeps what is said of keys, and each key word that stands.
 use Rattle.std.proofs.Common.{None, Option, Some, inl, inr, refl, subst, sym, ℕ, ◌+◌, ◌∙◌, ◌≡◌}
 use Rattle.std.proofs.lemmas.Bool.{cases_eq}
-use Rattle.nam_verbs.specs.declared.now.Now.TheVariants.{At}
+use Rattle.nam_calls.specs.Memory.{memory}
 use Rattle.nam_catalog.specs.declared.shape.Shape.{Shape}
+use Rattle.nam_ghost.proofs.KeyLemmas.{view_fits}
+use Rattle.nam_ghost.specs.Ghost.{ghost_step, opening_ghost}
+use Rattle.nam_ghost.specs.Keys.{IsUnused, KeyClientOk, KeysNext, KeysOk, key_view}
+use Rattle.nam_ghost.specs.Steps.{chains_after}
+use Rattle.nam_ghost.specs.Versions.{Chain}
+use Rattle.nam_keys.proofs.ClientLemmas.{ask_tells, client_goes, client_tells}
+use Rattle.nam_keys.proofs.OpeningLemmas.{keys_open}
+use Rattle.nam_keys.proofs.StayLemmas.{client_stays}
+use Rattle.nam_keys.proofs.UnusedLemmas.{chain_stays}
+use Rattle.nam_keys.proofs.WordLemmas.{go_next, stand_stays}
+use Rattle.nam_keys.specs.KeysLaw.{KeepsLaw, NextLaw, ReachedLaw}
+use Rattle.nam_keys.specs.Tells.{KeysGo}
 use Rattle.nam_layout.specs.declared.field.Field.{Field}
 use Rattle.nam_layout.specs.declared.field.Field.TheVariants.{Key}
-use Rattle.nam_calls.specs.Memory.{memory}
 use Rattle.nam_protocol.specs.Client.{client_abandon, client_after, client_ask}
 use Rattle.nam_protocol.specs.ClientFits.{NowFits}
 use Rattle.nam_protocol.specs.CutClient.{client_cut}
 use Rattle.nam_protocol.specs.declared.client.CallPoint.{CallPoint}
 use Rattle.nam_protocol.specs.declared.client.ClientState.{ClientState}
 use Rattle.nam_protocol.specs.declared.client.Open.{Open}
-use Rattle.nam_store.specs.Base.{BaseOk, ClientOk}
-use Rattle.nam_store.specs.Store.{Abandons, Asks, Cuts, Store, Takes, client_at, found_word, step, with_client}
 use Rattle.nam_store.proofs.BaseLemmas.{does_law}
 use Rattle.nam_store.proofs.Lists.{everyone_put, everyone_set}
 use Rattle.nam_store.proofs.ReachedLemmas.{reached_holds}
-use Rattle.nam_ghost.specs.Ghost.{ghost_step, opening_ghost}
-use Rattle.nam_ghost.specs.Keys.{IsUnused, KeyClientOk, KeysNext, KeysOk, key_view}
-use Rattle.nam_ghost.specs.Steps.{chains_after}
-use Rattle.nam_ghost.specs.Versions.{Chain}
-use Rattle.nam_keys.specs.KeysLaw.{KeepsLaw, NextLaw, ReachedLaw}
-use Rattle.nam_keys.specs.Tells.{KeysGo}
-use Rattle.nam_keys.proofs.ClientLemmas.{ask_tells, client_goes, client_tells}
-use Rattle.nam_keys.proofs.OpeningLemmas.{keys_open}
-use Rattle.nam_keys.proofs.StayLemmas.{client_stays, view_fits}
-use Rattle.nam_keys.proofs.UnusedLemmas.{chain_stays}
-use Rattle.nam_keys.proofs.WordLemmas.{go_next, stand_stays}
+use Rattle.nam_store.specs.Base.{BaseOk, ClientOk}
+use Rattle.nam_store.specs.Store.{Abandons, Asks, Cuts, Store, Takes, client_at, found_word, step, with_client}
+use Rattle.nam_verbs.specs.declared.now.Now.TheVariants.{At}
 
 module _ (shape : Shape) (store : Store) (base : BaseOk shape store) (nth : ℕ) (client : ClientState)
     (here : client_at store nth ≡ Some client) where

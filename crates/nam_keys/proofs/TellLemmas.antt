@@ -1,17 +1,17 @@
 -- What a found word of a key's path tells, of the words as they are after it was found.
 use Rattle.std.proofs.Common.{ap, arith, inl, inr, subst, sym, ℕ, ◌+◌, ◌∙◌, ◌≡◌, ◌≢◌}
-use Rattle.std.specs.Prelude.{◌==◌, ◌||◌}
 use Rattle.std.proofs.lemmas.Bool.{cases_lt, eqb-false, eqb-true, or_cases, or_parts}
-use Rattle.nam_verbs.proofs.TestLemmas.{by_equal, by_test}
-use Rattle.nam_catalog.specs.declared.shape.Shape.{Shape}
-use Rattle.nam_layout.specs.declared.field.Field.{Field}
+use Rattle.std.specs.Prelude.{◌==◌, ◌||◌}
+use Rattle.nam_calls.proofs.FieldLemmas.{key_is}
 use Rattle.nam_calls.specs.Index.{claim_key_after, claim_key_next, find_after, nth_key, nth_position}
 use Rattle.nam_calls.specs.Words.{capacity_of, key_word, path_of}
 use Rattle.nam_calls.specs.declared.index.ClaimKeyPoint.TheVariants.{KeyLook, KeyTake}
 use Rattle.nam_calls.specs.declared.index.Path.{Path}
-use Rattle.nam_calls.proofs.FieldLemmas.{key_is}
+use Rattle.nam_catalog.specs.declared.shape.Shape.{Shape}
 use Rattle.nam_ghost.specs.Keys.{Bears, IsPast}
 use Rattle.nam_keys.specs.Tells.{ClaimTells, FindTells}
+use Rattle.nam_layout.specs.declared.field.Field.{Field}
+use Rattle.nam_verbs.proofs.TestLemmas.{by_equal, by_test}
 use Rattle.si_model.specs.declared.row.Key.{Key}
 
 -- nothing was passed

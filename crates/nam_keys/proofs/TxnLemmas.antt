@@ -1,12 +1,17 @@
 -- What a transaction knows of keys after each word that it takes, and each call that it is asked.
 use Rattle.std.proofs.Common.{List, [], inl, inr, subst, ℕ, ◌∷◌}
-use Rattle.nam_verbs.specs.declared.now.Now.{Now}
-use Rattle.nam_catalog.specs.declared.shape.Shape.{Shape}
-use Rattle.nam_layout.specs.declared.field.Field.{Field}
+use Rattle.nam_calls.proofs.FallsTests.{either}
 use Rattle.nam_calls.specs.Index.{claim_key_after, find_after}
 use Rattle.nam_calls.specs.declared.index.ClaimKeyPoint.{ClaimKeyPoint}
 use Rattle.nam_calls.specs.declared.reading.ReadPoint.{ReadPoint}
-use Rattle.nam_calls.proofs.FallsTests.{either}
+use Rattle.nam_catalog.specs.declared.shape.Shape.{Shape}
+use Rattle.nam_ghost.specs.Keys.{AreAtKeys, Bears, ClaimsOk, IsAtKey, KeyClientOk, ViewOk}
+use Rattle.nam_keys.proofs.TellLemmas.{none_past}
+use Rattle.nam_keys.specs.Tells.{ClaimTells, FindTells, StepTells, now_view}
+use Rattle.nam_layout.specs.declared.field.Field.{Field}
+use Rattle.nam_protocol.proofs.GoesClient.{on_answer_goes, step_lists, step_opens, stepped_goes}
+use Rattle.nam_protocol.proofs.GoesCommit.{ask_commit_goes, commit_goes}
+use Rattle.nam_protocol.proofs.GoesTxn.{ask_goes, claiming_goes, finding_goes, reading_goes}
 use Rattle.nam_protocol.specs.Commit.{commit_after}
 use Rattle.nam_protocol.specs.Operations.{op_path}
 use Rattle.nam_protocol.specs.Telling.{stepped}
@@ -22,12 +27,7 @@ use Rattle.nam_protocol.specs.declared.txn.TxnCall.TheVariants.{Add, Commit, Del
 use Rattle.nam_protocol.specs.declared.txn.TxnPoint.{TxnPoint}
 use Rattle.nam_protocol.specs.declared.txn.TxnPoint.TheVariants.{Claiming, Finding, Reading}
 use Rattle.nam_protocol.specs.declared.txn.TxnState.{TxnState}
-use Rattle.nam_protocol.proofs.GoesClient.{on_answer_goes, step_lists, step_opens, stepped_goes}
-use Rattle.nam_protocol.proofs.GoesCommit.{ask_commit_goes, commit_goes}
-use Rattle.nam_protocol.proofs.GoesTxn.{ask_goes, claiming_goes, finding_goes, reading_goes}
-use Rattle.nam_ghost.specs.Keys.{Bears, ClaimsOk, KeyClientOk, ViewOk}
-use Rattle.nam_keys.specs.Tells.{AreAtKeys, ClaimTells, FindTells, IsAtKey, StepTells, now_view}
-use Rattle.nam_keys.proofs.TellLemmas.{none_past}
+use Rattle.nam_verbs.specs.declared.now.Now.{Now}
 use Rattle.si_model.specs.Evaluation.{op_key}
 use Rattle.si_model.specs.Rows.{same_key}
 use Rattle.si_model.specs.declared.op.Op.{Op}

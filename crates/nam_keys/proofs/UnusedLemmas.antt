@@ -1,18 +1,22 @@
 -- A commit changes the chains of rows that bear keys alone.
-use Rattle.std.proofs.Common.{List, None, Option, Some, [], ap, arith, length, refl, subst, sym, true, ℕ, ◌<◌, ◌∙◌}
-use Rattle.std.proofs.Common.{◌∷◌, ◌≡◌, ◌≢◌}
+use Rattle.std.proofs.Common.{None, Option, Some, ap, arith, length, refl, subst, sym, true, ℕ, ◌<◌, ◌∙◌, ◌≡◌, ◌≢◌}
 use Rattle.std.specs.List.{AllByRecursion}
 use Rattle.std.specs.Prelude.{◌==◌}
-use Rattle.std.proofs.lemmas.Bool.{false≢true}
-use Rattle.nam_verbs.proofs.TestLemmas.{by_test}
+use Rattle.nam_calls.proofs.FallsTests.{either}
+use Rattle.nam_calls.specs.declared.lock.LockPoint.TheVariants.{GiveBack, Peek, Seize}
+use Rattle.nam_calls.specs.declared.record.InstallPoint.TheVariants.{InstallCount, InstallHead, InstallWord}
 use Rattle.nam_catalog.specs.Fits.{FitsLimits}
 use Rattle.nam_catalog.specs.declared.shape.Shape.{Shape}
+use Rattle.nam_ghost.proofs.KeyLemmas.{claimed_holds}
+use Rattle.nam_ghost.specs.Holders.{record_row}
+use Rattle.nam_ghost.specs.Keys.{AreAtKeys, ClaimsOk}
+use Rattle.nam_ghost.specs.Steps.{at_record, chains_after, commit_chains, given_back, locked_for, new_version, renewed}
+use Rattle.nam_ghost.specs.Versions.{Chain}
 use Rattle.nam_layout.specs.declared.field.Field.{Field}
 use Rattle.nam_layout.specs.declared.field.Field.TheVariants.{Key}
 use Rattle.nam_layout.specs.declared.field.Place.{Place}
-use Rattle.nam_calls.specs.declared.lock.LockPoint.TheVariants.{GiveBack, Peek, Seize}
-use Rattle.nam_calls.specs.declared.record.InstallPoint.TheVariants.{InstallCount, InstallHead, InstallWord}
-use Rattle.nam_calls.proofs.FallsTests.{either}
+use Rattle.nam_protocol.proofs.FallsKeys.{all_at, keys_claimed, place_of_nth}
+use Rattle.nam_protocol.proofs.FieldLemmas.{written_less}
 use Rattle.nam_protocol.specs.ClientFits.{CallPointFits, OpenFits}
 use Rattle.nam_protocol.specs.Commit.{commit_keys, no_record, record_in, records_of}
 use Rattle.nam_protocol.specs.TxnFits.{CommitFits, StateFits, is_claimed}
@@ -24,25 +28,8 @@ use Rattle.nam_protocol.specs.declared.txn.CommitPoint.TheVariants.{Freeing, Ins
 use Rattle.nam_protocol.specs.declared.txn.Record.{Record}
 use Rattle.nam_protocol.specs.declared.txn.TxnPoint.TheVariants.{Committing}
 use Rattle.nam_protocol.specs.declared.txn.TxnState.{TxnState}
-use Rattle.nam_protocol.proofs.FallsKeys.{all_at, keys_claimed, place_of_nth}
-use Rattle.nam_protocol.proofs.FieldLemmas.{written_less}
 use Rattle.nam_store.proofs.Lists.{put_beside}
-use Rattle.nam_ghost.specs.Holders.{record_row}
-use Rattle.nam_ghost.specs.Keys.{ClaimsOk}
-use Rattle.nam_ghost.specs.Steps.{at_record, chains_after, commit_chains, given_back, locked_for, new_version, renewed}
-use Rattle.nam_ghost.specs.Versions.{Chain}
-use Rattle.nam_keys.specs.Tells.{AreAtKeys}
-use Rattle.si_model.specs.Rows.{same_key}
 use Rattle.si_model.proofs.ListLemmas.{All-from_listed, All-listed, All-map}
-use Rattle.si_model.specs.declared.row.Key as row_key
-
--- what holds of all claims holds of the record of a claimed key
-claimed_holds : (P : Record → Type 0) (claims : List Record) (key : row_key.Key) → AllByRecursion P claims
-    → is_claimed claims key ≡ true → P (record_in claims key)
-claimed_holds P [] key all is = absurd (false≢true is)
-claimed_holds P (c ∷ cs) key all is =
-    by_test P (same_key c.key key) c (record_in cs key) (λ same. all.0)
-    (λ other. claimed_holds P cs key all.1 (rw other at is))
 
 module _ (shape : Shape) (limits : FitsLimits shape) (m : Field → ℕ) (row : ℕ) (free : m (Key row) ≡ 0)
     (chains : ℕ → Chain) where

@@ -1,23 +1,22 @@
 -- What stays of key words by a step, and that no key is claimed twice.
-use Rattle.std.proofs.Common.{List, ap, arith, inl, inr, refl, subst, sym, ℕ, ◌<◌, ◌∙◌, ◌≡◌, ◌≤◌, ◌⊎◌}
-use Rattle.std.specs.Prelude.{if◌then◌else◌, ◌==◌}
+use Rattle.std.proofs.Common.{List, ap, arith, inl, inr, refl, subst, sym, ℕ, ◌<◌, ◌∙◌, ◌≡◌, ◌⊎◌}
 use Rattle.std.proofs.lemmas.Bool.{cases_eq}
-use Rattle.nam_verbs.proofs.TestLemmas.{by_equal}
-use Rattle.nam_catalog.specs.declared.shape.Shape.{Shape}
-use Rattle.nam_layout.specs.Address.{IsRow}
-use Rattle.nam_layout.specs.Rows.{row_of, table_of}
-use Rattle.nam_layout.specs.declared.field.Field.{Field}
-use Rattle.nam_layout.specs.declared.field.Field.TheVariants.{Key}
+use Rattle.std.specs.Prelude.{if◌then◌else◌, ◌==◌}
 use Rattle.nam_calls.specs.Fits.{IsTableOf}
 use Rattle.nam_calls.specs.Index.{nth_key}
 use Rattle.nam_calls.specs.Memory.{memory}
 use Rattle.nam_calls.specs.Words.{capacity_of, key_word, path_of}
-use Rattle.nam_calls.proofs.FieldLemmas.{row_within}
+use Rattle.nam_catalog.specs.declared.shape.Shape.{Shape}
+use Rattle.nam_ghost.proofs.KeyLemmas.{past_stays}
+use Rattle.nam_ghost.specs.Keys.{IsPast, KeyView, KeysNext, LooksFor, ViewFits, ViewOk}
+use Rattle.nam_keys.specs.Tells.{IsClaimed, KeysGo}
+use Rattle.nam_layout.specs.Rows.{table_of}
+use Rattle.nam_layout.specs.declared.field.Field.{Field}
+use Rattle.nam_layout.specs.declared.field.Field.TheVariants.{Key}
+use Rattle.nam_store.proofs.PathLemmas.{on_row, row_on, rows_differ}
 use Rattle.nam_store.specs.Changed.{Changed}
 use Rattle.nam_store.specs.LoadedLaw.{KeysStand}
-use Rattle.nam_store.proofs.PathLemmas.{on_row, row_on, rows_differ}
-use Rattle.nam_ghost.specs.Keys.{Bears, IsPast, KeyView, KeysNext, LooksFor, ViewOk}
-use Rattle.nam_keys.specs.Tells.{IsClaimed, KeysGo, ViewFits}
+use Rattle.nam_verbs.proofs.TestLemmas.{by_equal}
 
 -- 1. A key word that stands
 
@@ -27,24 +26,6 @@ module _ (shape : Shape) (m now : Field → ℕ) where
     | inl same ↦ same
     | inr claimed ↦ absurd (some claimed.free)
   ]
-
-  module _ (next : KeysNext shape m now) where
-    -- what was passed stays passed
-    pub past_stays : (table key passed : ℕ) → IsTableOf shape table → passed ≤ capacity_of shape table
-        → IsPast shape m table key passed → IsPast shape now table key passed
-    past_stays table key passed is most past q less =
-        let other = past q less in
-        let same = next (row_on shape table key q) (on_row shape table is key q (omega arith)).within other.0 in
-        ((λ e. other.0 (sym same ∙ e)), (λ e. other.1 (sym same ∙ e)))
-
-    pub key_stays : (row key : ℕ) → IsRow shape row → m (Key row) ≡ key_word key → now (Key row) ≡ key_word key
-    key_stays row key is here = next row is (λ none. let e = sym here ∙ none in omega arith) ∙ here
-
-    -- and what was found stays found
-    pub bears_stays : (table key position : ℕ) → IsTableOf shape table → position < capacity_of shape table
-        → Bears shape m table key position → Bears shape now table key position
-    bears_stays table key position is less =
-        key_stays (row_of shape.tables table position) key (row_within shape table position is less)
 
 -- 2. A claim
 

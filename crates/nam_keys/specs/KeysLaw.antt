@@ -1,4 +1,5 @@
 -- What is claimed of keys holds of each store that comes about, and what it comes to.
+use Rattle.std.specs.Prelude.{List, Some, ℕ, ◌<◌, ◌≡◌, ◌≢◌}
 use Rattle.nam_calls.specs.Fits.{IsTableOf}
 use Rattle.nam_calls.specs.Index.{claim_key_after, find_after}
 use Rattle.nam_calls.specs.Memory.{memory}
@@ -29,7 +30,6 @@ use Rattle.si_model.specs.Evaluation.{op_key}
 use Rattle.si_model.specs.Lists.{Listed}
 use Rattle.si_model.specs.declared.op.Op.{Op}
 use Rattle.si_model.specs.declared.row.Row.{Row}
-use Rattle.std.specs.Prelude.{List, Some, ℕ, ◌<◌, ◌≡◌, ◌≢◌}
 use Rattle.nam_calls.specs.declared.index.ClaimKeyEnd.TheVariants as claimed_key
 use Rattle.nam_calls.specs.declared.index.FindEnd.TheVariants as found_key
 

@@ -1,25 +1,23 @@
 -- What a step makes of key words, and what a word on a key's path tells of the key.
-use Rattle.nam_calls.specs.Fits.{IsTableOf}
+use Rattle.std.specs.Prelude.{List, ℕ, ◌+◌, ◌<◌, ◌≡◌, ◌⊎◌}
 use Rattle.nam_calls.specs.Index.{nth_position}
 use Rattle.nam_calls.specs.Words.{capacity_of, key_word, path_of}
 use Rattle.nam_calls.specs.declared.index.ClaimKeyEnd.{ClaimKeyEnd}
 use Rattle.nam_calls.specs.declared.index.ClaimKeyPoint.{ClaimKeyPoint}
 use Rattle.nam_calls.specs.declared.index.FindEnd.{FindEnd}
 use Rattle.nam_catalog.specs.declared.shape.Shape.{Shape}
-use Rattle.nam_ghost.specs.Keys.{Bears, HasFound, IsPast, KeyView, LooksFor, NoKey, ViewOk, claim_view, txn_view}
+use Rattle.nam_ghost.specs.Keys.{AreAtKeys, Bears, IsPast, KeyView, LooksFor, NoKey, ViewOk, claim_view, txn_view}
 use Rattle.nam_layout.specs.Address.{IsRow}
 use Rattle.nam_layout.specs.Rows.{row_of}
 use Rattle.nam_layout.specs.declared.field.Field.{Field}
 use Rattle.nam_layout.specs.declared.field.Field.TheVariants.{Key}
 use Rattle.nam_protocol.specs.Txn.{Stepped}
 use Rattle.nam_protocol.specs.declared.client.Scanned.{Scanned}
-use Rattle.nam_protocol.specs.declared.txn.Record.{Record}
 use Rattle.nam_protocol.specs.declared.txn.TxnAnswer.{TxnAnswer}
 use Rattle.nam_protocol.specs.declared.txn.TxnPoint.{TxnPoint}
 use Rattle.nam_verbs.specs.declared.now.Now.{Now}
 use Rattle.nam_verbs.specs.declared.now.Now.TheVariants.{At, Over}
 use Rattle.si_model.specs.Lists.{Listed}
-use Rattle.std.specs.Prelude.{List, ℕ, ◌+◌, ◌<◌, ◌≡◌, ◌⊎◌}
 use Rattle.nam_calls.specs.declared.index.ClaimKeyEnd.TheVariants as claimed_key
 use Rattle.nam_calls.specs.declared.index.FindEnd.TheVariants as found_key
 use Rattle.si_model.specs.declared.row.Key as row_key
@@ -62,12 +60,6 @@ now_view (At at) = txn_view at
 now_view (Over answer) = NoKey
 
 module _ (shape : Shape) (m : Field → ℕ) where
-  abbrev pub IsAtKey : Record → Type 0
-  IsAtKey claim = m (Key claim.place.row) ≡ key_word claim.key.key
-
-  abbrev pub AreAtKeys : List Record → Type 0
-  AreAtKeys claims = (claim : Record) → Listed claim claims → IsAtKey claim
-
   -- the rows that were found before this position
   abbrev pub AreBefore : ℕ → ℕ → List Scanned → Type 0
   AreBefore table position rows =
@@ -75,11 +67,4 @@ module _ (shape : Shape) (m : Field → ℕ) where
 
   -- a transaction that has stepped
   abbrev pub StepTells : Stepped → Type 0
-  StepTells step = AreAtKeys step.state.claims × ViewOk shape m (now_view step.call)
-
--- 4. Positions that a client knows of are positions of a table
-
-abbrev pub ViewFits : Shape → KeyView → Type 0
-ViewFits shape NoKey = Unit {0}
-ViewFits shape (LooksFor table key passed) = IsTableOf shape table × (passed < capacity_of shape table)
-ViewFits shape (HasFound table key position) = IsTableOf shape table × (position < capacity_of shape table)
+  StepTells step = AreAtKeys shape m step.state.claims × ViewOk shape m (now_view step.call)

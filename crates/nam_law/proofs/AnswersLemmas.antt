@@ -1,8 +1,9 @@
 -- What an operation comes to that looks for its key and reads there.
 use Rattle.std.proofs.Common.{None, Option, Some, ap, refl, subst, sym, ℕ, ◌∙◌, ◌≡◌}
 use Rattle.nam_calls.specs.Index.{find_after, nth_key}
-use Rattle.nam_calls.specs.Words.{path_of}
+use Rattle.nam_calls.specs.Memory.{memory}
 use Rattle.nam_calls.specs.Reading.{read_begin, sight_of}
+use Rattle.nam_calls.specs.Words.{path_of}
 use Rattle.nam_calls.specs.declared.index.FindEnd.{FindEnd}
 use Rattle.nam_calls.specs.declared.reading.ReadPoint.{ReadPoint}
 use Rattle.nam_calls.specs.declared.reading.ReadingEnd.{ReadingEnd}
@@ -12,11 +13,13 @@ use Rattle.nam_ghost.specs.Ghost.{Ghost}
 use Rattle.nam_ghost.specs.Keys.{ViewOk, key_view}
 use Rattle.nam_ghost.specs.Law.{GroundOk, WordsOk}
 use Rattle.nam_keys.proofs.PositionLemmas.{none_bears}
-use Rattle.nam_calls.specs.Memory.{memory}
+use Rattle.nam_law.proofs.GroundLemmas.{for_reads}
+use Rattle.nam_law.specs.AnswersLaw.{AnswersLaw, AtPosition, Decides, Goes, IsOf, IsTooOld, Looks, Nowhere, Reads}
 use Rattle.nam_protocol.specs.Client.{open_verb}
 use Rattle.nam_protocol.specs.Operations.{op_path}
 use Rattle.nam_protocol.specs.Reader.{Reader, reader_in}
 use Rattle.nam_protocol.specs.Txn.{on_find, on_read}
+use Rattle.nam_protocol.specs.TxnCalls.{txn_after}
 use Rattle.nam_protocol.specs.declared.client.Answer.{Answer}
 use Rattle.nam_protocol.specs.declared.client.CallPoint.{CallPoint}
 use Rattle.nam_protocol.specs.declared.client.CallPoint.TheVariants.{InTxn}
@@ -28,13 +31,10 @@ use Rattle.nam_reads.proofs.FoundLemmas.{never_astray, newest_got, too_old}
 use Rattle.nam_reads.specs.FoundLaw.{ReadsAs, now_read}
 use Rattle.nam_store.specs.Store.{Store, client_at, found_word, verb_at}
 use Rattle.nam_verbs.specs.VerbAt.{found_at}
-use Rattle.nam_protocol.specs.TxnCalls.{txn_after}
 use Rattle.nam_verbs.specs.declared.now.Now.{Now}
 use Rattle.nam_verbs.specs.declared.now.Now.TheVariants.{At, Over}
 use Rattle.si_model.specs.Evaluation.{op_key}
 use Rattle.si_model.specs.declared.op.Op.{Op}
-use Rattle.nam_law.specs.AnswersLaw.{AnswersLaw, AtPosition, Decides, Goes, IsOf, IsTooOld, Looks, Nowhere, Reads}
-use Rattle.nam_law.proofs.GroundLemmas.{for_reads}
 use Rattle.nam_calls.specs.declared.index.FindEnd.TheVariants as found_key
 
 module _ (shape : Shape) (store : Store) (ghost : Ghost) (ok : WordsOk shape store ghost) (nth : ℕ)

@@ -1,6 +1,6 @@
 -- What the ends of scans and of refused commits tell, from the law of words.
-use Rattle.nam_law.specs.EndsLaw.{LockedLaw, NewerLaw, ScanLaw}
 use Rattle.nam_law.proofs.LawLemmas.{for_scans}
+use Rattle.nam_law.specs.EndsLaw.{LockedLaw, NewerLaw, ScanLaw}
 use Rattle.nam_refused.proofs.AnswerLemmas.{newer_holds}
 use Rattle.nam_refused.proofs.LockedLemmas.{locked_holds}
 use Rattle.nam_scans.proofs.ScannedLemmas.{complete_law}

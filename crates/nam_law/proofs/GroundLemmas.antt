@@ -1,73 +1,86 @@
 -- One step of a store as each group takes it, by what the others show of it; so the groups that the others stand on are
 -- kept by themselves.
 use Rattle.std.proofs.Common.{List, map, ℕ}
-use Rattle.si_model.specs.declared.row.Row.{Row}
 use Rattle.nam_calls.specs.Memory.{memory}
 use Rattle.nam_catalog.specs.Fits.{FitsLimits}
 use Rattle.nam_catalog.specs.declared.shape.Shape.{Shape}
+use Rattle.nam_cells.proofs.OpeningLemmas.{cells_open}
+use Rattle.nam_cells.proofs.PlaceLemmas.{flags_law}
+use Rattle.nam_cells.proofs.RowLemmas.{row_weaker}
+use Rattle.nam_cells.proofs.StoreLemmas.{cells_keep, cells_next}
+use Rattle.nam_ghost.specs.Cells.{IsElsewhere}
+use Rattle.nam_ghost.specs.Chains.{ChainNext, IsNew}
+use Rattle.nam_ghost.specs.Commits.{CommitsOk}
+use Rattle.nam_ghost.specs.Ghost.{Ghost, ghost_step, opening_ghost}
+use Rattle.nam_ghost.specs.Keys.{KeysOk}
+use Rattle.nam_ghost.specs.Law.{GroundOk, WordsOk}
+use Rattle.nam_ghost.specs.Locks.{LocksOk}
+use Rattle.nam_ghost.specs.Moments.{EntriesRise, MomentsNext, MomentsOk, observer_of}
+use Rattle.nam_ghost.specs.Slots.{RowNext}
+use Rattle.nam_ghost.specs.Stepping.{stepping}
+use Rattle.nam_ghost.specs.Upkeep.{CellsNext}
+use Rattle.nam_keys.proofs.OpeningLemmas.{keys_open}
+use Rattle.nam_keys.proofs.StoreLemmas.{keys_keep}
+use Rattle.nam_law.specs.WordsLaw.{GroundLaw}
 use Rattle.nam_layout.specs.Address.{IsRow}
 use Rattle.nam_layout.specs.Place.{place_at}
 use Rattle.nam_layout.specs.Rows.{width_at}
-use Rattle.nam_store.specs.Opening.{AreLoaded, opening_store}
-use Rattle.nam_store.specs.Store.{StepsTo, Store}
-use Rattle.nam_store.proofs.BaseLemmas.{base_keeps}
-use Rattle.nam_store.proofs.OpeningLemmas.{opening_ok}
-use Rattle.nam_ghost.specs.Cells.{IsElsewhere}
-use Rattle.nam_ghost.specs.Chains.{ChainNext, IsNew}
-use Rattle.nam_ghost.specs.Ghost.{Ghost, ghost_step, opening_ghost}
-use Rattle.nam_ghost.specs.Law.{GroundOk, WordsOk}
-use Rattle.nam_ghost.specs.Moments.{observer_of}
-use Rattle.nam_ghost.specs.Slots.{RowNext}
-use Rattle.nam_ghost.specs.Upkeep.{CellsNext}
-use Rattle.nam_moments.proofs.OpeningLemmas.{opening_moments}
-use Rattle.nam_moments.proofs.StepLemmas.{moments_kept}
 use Rattle.nam_locks.proofs.OpeningLemmas.{locks_open}
 use Rattle.nam_locks.proofs.StoreLemmas.{locks_keep}
-use Rattle.nam_keys.proofs.OpeningLemmas.{keys_open}
-use Rattle.nam_keys.proofs.StoreLemmas.{keys_keep}
-use Rattle.nam_cells.specs.CellsLaw.{stepping}
-use Rattle.nam_cells.proofs.OpeningLemmas.{cells_open}
-use Rattle.nam_cells.proofs.RowLemmas.{row_weaker}
-use Rattle.nam_cells.proofs.StoreLemmas.{cells_keep, cells_next}
-use Rattle.nam_versions.proofs.OpeningLemmas.{chains_open, published_open}
-use Rattle.nam_versions.proofs.StoreLemmas.{chains_keep, chains_next, published_keep}
-use Rattle.nam_slots.specs.SlotsLaw.{GoesOn}
-use Rattle.nam_slots.proofs.OpeningLemmas.{slots_open}
-use Rattle.nam_slots.proofs.StoreLemmas.{slots_keep, slots_next}
+use Rattle.nam_moments.proofs.OpeningLemmas.{opening_moments}
+use Rattle.nam_moments.proofs.StepLemmas.{moments_kept, moments_next, vector_rises}
 use Rattle.nam_origins.proofs.OpeningLemmas.{origins_open}
 use Rattle.nam_origins.proofs.StoreLemmas.{origins_keep}
 use Rattle.nam_since.proofs.OpeningLemmas.{since_open}
 use Rattle.nam_since.proofs.StoreLemmas.{since_keep}
-use Rattle.nam_law.specs.WordsLaw.{GroundLaw}
+use Rattle.nam_slots.proofs.OpeningLemmas.{slots_open}
+use Rattle.nam_slots.proofs.StoreLemmas.{slots_keep, slots_next}
+use Rattle.nam_slots.specs.SlotsLaw.{GoesOn}
+use Rattle.nam_store.proofs.BaseLemmas.{base_keeps}
+use Rattle.nam_store.proofs.OpeningLemmas.{opening_ok}
+use Rattle.nam_store.specs.Opening.{AreLoaded, opening_store}
+use Rattle.nam_store.specs.Store.{StepsTo, Store}
+use Rattle.nam_versions.proofs.OpeningLemmas.{chains_open, published_open}
+use Rattle.nam_versions.proofs.StoreLemmas.{chains_keep, chains_next, published_keep}
+use Rattle.si_model.specs.declared.row.Row.{Row}
 use Rattle.nam_cells.specs.CellsLaw as cells
 use Rattle.nam_reads.specs.ReadsLaw as reads
-use Rattle.nam_since.specs.SinceLaw as since
 use Rattle.nam_slots.specs.SlotsLaw as slots
-use Rattle.nam_versions.specs.ChainsLaw as versions
+
+-- what versions, publications and guards take
+pub commits : (shape : Shape) (store : Store) (ghost : Ghost) → GroundOk shape store ghost
+    → CommitsOk shape store ghost
+commits shape store ghost ok = record {
+  base = ok.base;
+  moments = ok.moments;
+  locks = ok.locks;
+  chains = ok.chains;
+  published = ok.published;
+}
 
 module _ (shape : Shape) (before after : Store) (goes : StepsTo shape before after) (ghost : Ghost)
     (ok : GroundOk shape before ghost) where
   abbrev later : Ghost
   later = ghost_step shape before after goes ghost
 
-  -- what versions take is what guards take
-  for_versions : versions.RestsOn shape before ghost
-  for_versions = record {
-    base = ok.base;
-    moments = ok.moments;
-    locks = ok.locks;
-    chains = ok.chains;
-    published = ok.published;
-  }
+  -- 1. What moments, locks and keys show
 
-  for_since : since.RestsOn shape before ghost
-  for_since = record {
-    base = ok.base;
-    moments = ok.moments;
-    locks = ok.locks;
-    chains = ok.chains;
-    published = ok.published;
-  }
+  moments_later : MomentsOk shape after
+  moments_later = moments_kept shape before after goes ok.base ok.moments
+
+  pub moments_go : MomentsNext shape before after goes
+  moments_go = moments_next shape before after goes ok.base ok.moments
+
+  pub entries_rise : EntriesRise shape before after
+  entries_rise = vector_rises shape before after goes ok.base ok.moments
+
+  locks_later : LocksOk shape after (ghost_step shape before after goes ghost).chains
+  locks_later = locks_keep shape before after goes ghost ok.base ok.locks
+
+  pub keys_later : KeysOk shape after (ghost_step shape before after goes ghost).chains
+  keys_later = keys_keep shape before after goes ghost ok.base ok.keys
+
+  -- 2. What the others take, and show
 
   for_slots : slots.RestsOn shape before ghost
   for_slots = record { base = ok.base; locks = ok.locks; slots = ok.slots }
@@ -75,10 +88,15 @@ module _ (shape : Shape) (before after : Store) (goes : StepsTo shape before aft
   pub chains_go : (row : ℕ) → IsRow shape row
       → ChainNext (width_at shape.tables row) (map observer_of before.clients) (ghost.chains row)
       ((ghost_step shape before after goes ghost).chains row)
-  chains_go = chains_next shape before after goes ghost for_versions
+  chains_go = chains_next shape before after goes ghost (commits shape before ghost ok) moments_go
 
   slots_go : GoesOn shape before after goes ghost
-  slots_go = record { rests = for_slots; chains = ok.chains; cells = ok.cells; grows = chains_go }
+  slots_go = record {
+    rests = for_slots;
+    locks = locks_later;
+    flags = flags_law shape before ghost ok.base ok.chains ok.slots ok.cells;
+    grows = chains_go;
+  }
 
   -- each row goes on as all others may rely on
   pub rows_go : (row : ℕ) → IsRow shape row → let later = ghost_step shape before after goes ghost in
@@ -91,7 +109,8 @@ module _ (shape : Shape) (before after : Store) (goes : StepsTo shape before aft
   for_cells : cells.Ready shape before after goes ghost
   for_cells = record {
     base = ok.base;
-    moments = ok.moments;
+    vector = entries_rise;
+    moments = moments_later;
     chains = ok.chains;
     slots = ok.slots;
     cells = ok.cells;
@@ -112,15 +131,15 @@ module _ (shape : Shape) (before after : Store) (goes : StepsTo shape before aft
   pub ground_keep : GroundOk shape after (ghost_step shape before after goes ghost)
   ground_keep = record {
     base = base_keeps shape before after goes ok.base;
-    moments = moments_kept shape before after goes ok.base ok.moments;
-    locks = locks_keep shape before after goes ghost ok.base ok.locks;
-    chains = chains_keep shape before after goes ghost for_versions;
-    published = published_keep shape before after goes ghost for_versions;
-    slots = slots_keep shape before after goes ghost for_slots;
+    moments = moments_later;
+    locks = locks_later;
+    chains = chains_keep shape before after goes ghost (commits shape before ghost ok) moments_go;
+    published = published_keep shape before after goes ghost (commits shape before ghost ok) moments_go;
+    slots = slots_keep shape before after goes ghost for_slots locks_later;
     cells = cells_keep shape before after goes ghost for_cells;
-    keys = keys_keep shape before after goes ghost ok.base ok.keys;
+    keys = keys_later;
     origins = origins_keep shape before after goes ghost ok.base ok.origins;
-    since = since_keep shape before after goes ghost for_since ok.since;
+    since = since_keep shape before after goes ghost (commits shape before ghost ok) moments_go ok.since;
   }
 
 pub ground_opens : (shape : Shape) → FitsLimits shape → (rows : List Row) → AreLoaded shape rows

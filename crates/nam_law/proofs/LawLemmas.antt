@@ -1,19 +1,20 @@
 -- The law of words: at the opening, by each step, and so of each store that comes about.
 use Rattle.nam_catalog.specs.declared.shape.Shape.{Shape}
-use Rattle.nam_store.specs.Store.{StepsTo, Store}
-use Rattle.nam_store.proofs.ReachedLemmas.{reached_keeps}
+use Rattle.nam_ghost.proofs.LawLemmas.{outer_law}
 use Rattle.nam_ghost.specs.Ghost.{Ghost, ghost_step, opening_ghost}
 use Rattle.nam_ghost.specs.Law.{GhostLaw, WordsOkLaw}
-use Rattle.nam_ghost.proofs.LawLemmas.{outer_law}
 use Rattle.nam_keys.proofs.StoreLemmas.{next_law}
+use Rattle.nam_law.proofs.GroundLemmas.{cells_go, entries_rise, for_reads, ground_keep, ground_opens, keys_later}
+use Rattle.nam_law.proofs.GroundLemmas.{rows_go}
+use Rattle.nam_law.specs.WordsLaw.{KeepsLaw, LawOk, OpensLaw, ReachedLaw}
 use Rattle.nam_origins.proofs.ListsStore.{lists_keep, lists_open, logs_keep, logs_open}
 use Rattle.nam_reads.proofs.FoundLemmas.{newest_got}
 use Rattle.nam_reads.proofs.OpeningLemmas.{reads_open}
 use Rattle.nam_reads.proofs.StoreLemmas.{reads_keep}
 use Rattle.nam_refused.proofs.StoreLemmas.{refused_keeps, refused_opens}
 use Rattle.nam_scans.proofs.StoreLemmas.{scans_keep, scans_open}
-use Rattle.nam_law.specs.WordsLaw.{KeepsLaw, LawOk, OpensLaw, ReachedLaw}
-use Rattle.nam_law.proofs.GroundLemmas.{cells_go, for_reads, ground_keep, ground_opens, rows_go}
+use Rattle.nam_store.proofs.ReachedLemmas.{reached_keeps}
+use Rattle.nam_store.specs.Store.{StepsTo, Store}
 use Rattle.nam_scans.specs.ScansLaw as scans
 
 -- what a scan takes of a store: where its read ends with a value, that is the newest version's
@@ -33,6 +34,7 @@ module _ (shape : Shape) (before after : Store) (goes : StepsTo shape before aft
   law_keep =
       let ground = ok.words.ground in
       let rows = rows_go shape before after goes ghost ground in
+      let next = next_law shape before after goes ground.base in
       record {
         words = record {
           ground = ground_keep shape before after goes ghost ground;
@@ -40,13 +42,18 @@ module _ (shape : Shape) (before after : Store) (goes : StepsTo shape before aft
             stands = for_reads shape before ghost ok.words;
             rows = rows;
             next = cells_go shape before after goes ghost ground;
+            vector = entries_rise shape before after goes ghost ground;
           };
           listed = lists_keep shape before after goes ghost ground.base ground.origins ground.keys
-              (next_law shape before after goes ground.base) ok.logs ok.words.listed;
+              next ok.logs ok.words.listed;
         };
         logs = logs_keep shape before after goes ghost ground.base ok.logs;
-        scans = scans_keep shape before after goes ghost
-            record { stands = for_scans shape before ghost ok; rows = rows } ok.scans;
+        scans = scans_keep shape before after goes ghost record {
+          stands = for_scans shape before ghost ok;
+          rows = rows;
+          next = next;
+          keys = keys_later shape before after goes ghost ground;
+        } ok.scans;
         refused = refused_keeps shape before after goes ghost
             record { base = ground.base; locks = ground.locks; rows = rows } ok.refused;
       }

@@ -5,3 +5,5 @@ pub mod AnswersLemmas
 pub mod EndsLemmas
 pub mod CountLemmas
 pub mod CountsLemmas
+pub mod SnapshotsLemmas
+pub mod LockersLemmas

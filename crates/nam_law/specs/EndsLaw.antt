@@ -1,11 +1,12 @@
 -- What the ends of scans and of refused commits tell.
+use Rattle.std.specs.Prelude.{List, Some, length, ℕ, ◌+◌, ◌≡◌, ◌≢◌}
+use Rattle.nam_catalog.specs.declared.shape.Shape.{Shape}
 use Rattle.nam_ghost.specs.Ghost.{Ghost}
 use Rattle.nam_ghost.specs.Holders.{record_row}
-use Rattle.nam_catalog.specs.declared.shape.Shape.{Shape}
+use Rattle.nam_ghost.specs.Locks.{Lists}
 use Rattle.nam_header.specs.Flag.{holder_named}
 use Rattle.nam_header.specs.Header.{header_of}
 use Rattle.nam_law.specs.WordsLaw.{LawOk}
-use Rattle.nam_locks.specs.LocksLaw.{Lists}
 use Rattle.nam_protocol.specs.Log.{with_reads}
 use Rattle.nam_protocol.specs.declared.client.ClientState.{ClientState}
 use Rattle.nam_protocol.specs.declared.client.Open.{Open}
@@ -16,7 +17,6 @@ use Rattle.nam_store.specs.Everyone.{Someone}
 use Rattle.nam_store.specs.Store.{Store, client_at, found_word}
 use Rattle.si_model.specs.declared.log.Lock.{Lock}
 use Rattle.si_model.specs.declared.row.Item.{Item}
-use Rattle.std.specs.Prelude.{List, Some, length, ℕ, ◌+◌, ◌≡◌, ◌≢◌}
 use Rattle.nam_protocol.specs.declared.txn.TxnAnswer.TheVariants as txn_answer
 
 -- A scan lists each key of its range at which its transaction finds a value, once, with that value, and nothing else:

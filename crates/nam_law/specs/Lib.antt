@@ -3,3 +3,5 @@ pub mod WorldsLaw
 pub mod AnswersLaw
 pub mod EndsLaw
 pub mod CountsLaw
+pub mod SnapshotsLaw
+pub mod LockersLaw

@@ -1,4 +1,5 @@
 -- The law of words: it holds at the opening, each step keeps it, and so each store that comes about meets it.
+use Rattle.std.specs.Prelude.{List}
 use Rattle.nam_catalog.specs.Fits.{FitsLimits}
 use Rattle.nam_catalog.specs.declared.shape.Shape.{Shape}
 use Rattle.nam_ghost.specs.Ghost.{Ghost, IsReachedWith, ghost_step, opening_ghost}
@@ -9,7 +10,6 @@ use Rattle.nam_scans.specs.Gathered.{ScansOk}
 use Rattle.nam_store.specs.Opening.{AreLoaded, opening_store}
 use Rattle.nam_store.specs.Store.{StepsTo, Store}
 use Rattle.si_model.specs.declared.row.Row.{Row}
-use Rattle.std.specs.Prelude.{List}
 
 -- what holds of a store with its ghost: the groups of `nam_ghost`; and what clients rely on beside them, in their logs,
 -- their scans and their refused commits

@@ -4,6 +4,9 @@ ghost use Rattle.nam_ghost.specs.Law.{GhostLaw, WordsOkLaw};
 ghost use Rattle.nam_law.specs.AnswersLaw.{AnswersLaw};
 ghost use Rattle.nam_law.specs.CountsLaw.{CountsLaw, RoomLaw};
 ghost use Rattle.nam_law.specs.EndsLaw.{LockedLaw, NewerLaw, ScanLaw};
+ghost use Rattle.nam_law.specs.LockersLaw as lockers;
+ghost use Rattle.nam_law.specs.SnapshotsLaw.{AllLaw, ContainsLaw, FrontLaw, InstalledLaw, MomentLaw, OnceLaw, PastLaw};
+ghost use Rattle.nam_law.specs.SnapshotsLaw.{StampsLaw, StaysLaw, SumLaw, WholeLaw};
 ghost use Rattle.nam_law.specs.WordsLaw.{GroundLaw, KeepsLaw, OpensLaw, ReachedLaw};
 ghost use Rattle.nam_law.specs.WorldsLaw.{WorldsLaw};
 
@@ -40,6 +43,43 @@ pub fn answers_law()
     ensures scan { ScanLaw }
     ensures newer { NewerLaw }
     ensures locked { LockedLaw }
+{}
+
+/// What a snapshot that some client has taken sees of a row's versions, in each store that comes about.
+///
+/// It sees a front of the chain (`front`). Whatever the clients do after it was taken, it sees the same, of any store
+/// that meets the law (`stays`). Each version that it sees is the loader's, or its commit was published and is
+/// installed in all its records (`whole`); and so is each stamp of a worker that it sees, of a number above the start
+/// (`installed`). No stamp comes twice in a chain (`stamps`), nor in two publications (`once`).
+pub fn snapshots_law()
+    ensures front { FrontLaw }
+    ensures stays { StaysLaw }
+    ensures whole { WholeLaw }
+    ensures installed { InstalledLaw }
+    ensures stamps { StampsLaw }
+    ensures once { OnceLaw }
+{}
+
+/// Snapshots are moments of the order in which commits were published, in each store that comes about (`PastOk`,
+/// `reached`).
+///
+/// Each snapshot that some client has taken is the vector after a front of that order (`moment`). Of the stamps in the
+/// order it sees those of the front and no others (`contains`), and above the start it sees no others at all (`all`).
+/// How many they are is the sum of its entries above the start, which is the prefix that a log tells of it (`sum`).
+pub fn past_law()
+    ensures reached { PastLaw }
+    ensures moment { MomentLaw }
+    ensures contains { ContainsLaw }
+    ensures all { AllLaw }
+    ensures sum { SumLaw }
+{}
+
+/// Where a word ends a commit with the answer Locked, the lock that the answer names is one that another client's log
+/// lists, under the same stamp (`listed`). So it is of a locked header that stood in the way of a lock, while the
+/// commit gives its locks back, and of the refusal that it carries: in each store that comes about (`reached`).
+pub fn lockers_law()
+    ensures reached { lockers.ReachedLaw }
+    ensures listed { lockers.ListedLaw }
 {}
 
 /// Counts don't wrap.

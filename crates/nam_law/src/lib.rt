@@ -6,4 +6,6 @@
 
 mod laws;
 
-pub use laws::{answers_law, counts_law, words_law, worlds_law};
+pub use laws::{
+    answers_law, counts_law, lockers_law, past_law, snapshots_law, words_law, worlds_law,
+};

@@ -1,20 +1,37 @@
 -- Each word that a commit takes keeps what is said of locks.
 use Rattle.std.proofs.Common.{Bool, List, None, Some, [], arith, false, length, refl, true, ℕ, ◌++◌, ◌<◌, ◌==◌, ◌∷◌}
 use Rattle.std.proofs.Common.{◌≡◌}
-use Rattle.std.specs.Prelude.{if◌then◌else◌, slice_get, slice_set}
 use Rattle.std.proofs.lemmas.Bool.{eqb-true}
-use Rattle.nam_verbs.specs.VerbAt.{found_at, left_at, target}
-use Rattle.nam_catalog.specs.Fits.{FitsLimits}
-use Rattle.nam_catalog.specs.declared.shape.Shape.{Shape}
-use Rattle.nam_header.specs.Stamp.{with_lock}
-use Rattle.nam_layout.specs.declared.field.Field.{Field}
-use Rattle.nam_layout.specs.declared.field.Field.TheVariants.{Count, Header}
+use Rattle.std.specs.Prelude.{if◌then◌else◌, slice_get, slice_set}
+use Rattle.nam_calls.specs.Lock.{give_back, lock_next}
 use Rattle.nam_calls.specs.declared.lock.LockPoint.TheVariants.{GiveBack, Peek, Seize}
 use Rattle.nam_calls.specs.declared.record.InstallPoint.TheVariants.{InstallCount, InstallHead, InstallWord}
 use Rattle.nam_calls.specs.declared.ring.CopyPoint.{CopyPoint}
 use Rattle.nam_calls.specs.declared.ring.CopyPoint.TheVariants.{CopyEnding, CopyHead, CopyMark, CopyWord}
 use Rattle.nam_calls.specs.declared.ring.SlotPoint.TheVariants.{CheckCount, CheckHead}
-use Rattle.nam_calls.specs.Lock.{give_back, lock_next}
+use Rattle.nam_catalog.specs.Fits.{FitsLimits}
+use Rattle.nam_catalog.specs.declared.shape.Shape.{Shape}
+use Rattle.nam_ghost.specs.Holders.{Holder, holder_at, holder_now, record_row}
+use Rattle.nam_ghost.specs.Locks.{AreHeld, HolderOk}
+use Rattle.nam_ghost.specs.Steps.{at_record, commit_chains, locked_for}
+use Rattle.nam_ghost.specs.Versions.{Chain}
+use Rattle.nam_header.specs.Stamp.{with_lock}
+use Rattle.nam_layout.specs.declared.field.Field.{Field}
+use Rattle.nam_layout.specs.declared.field.Field.TheVariants.{Count, Header}
+use Rattle.nam_locks.proofs.CommitReads.{checks, copies, counts, gives_back, lists, looks_up, nothing_left, peeks}
+use Rattle.nam_locks.proofs.CommitReads.{publishes, saves}
+use Rattle.nam_locks.proofs.CommitWrites.{frees_one, gives_one, installs_count, installs_header, installs_word}
+use Rattle.nam_locks.proofs.CommitWrites.{returns_one, takes_lock}
+use Rattle.nam_locks.proofs.HolderLemmas.{holder_spared, looks, still_spared}
+use Rattle.nam_locks.proofs.RowLemmas.{written_nowhere, written_same}
+use Rattle.nam_locks.specs.Rows.{SameRows, written_row}
+use Rattle.nam_protocol.proofs.FieldLemmas.{placed, written_less}
+use Rattle.nam_protocol.proofs.GivesCommit.{commit_gives}
+use Rattle.nam_protocol.specs.CallWrites.{commit_writes}
+use Rattle.nam_protocol.specs.Commit.{commit_after, commit_verb, on_lock, places, record_place}
+use Rattle.nam_protocol.specs.Own.{StageAt}
+use Rattle.nam_protocol.specs.Txn.{Stepped}
+use Rattle.nam_protocol.specs.TxnFits.{CommitFits, StateFits}
 use Rattle.nam_protocol.specs.declared.txn.CommitPoint.{CommitPoint}
 use Rattle.nam_protocol.specs.declared.txn.CommitPoint.TheVariants.{Checking, Clearing, Copying, Counting, Deciding}
 use Rattle.nam_protocol.specs.declared.txn.CommitPoint.TheVariants.{Ending, Freeing, Installing, Listing, Locking}
@@ -22,25 +39,8 @@ use Rattle.nam_protocol.specs.declared.txn.CommitPoint.TheVariants.{Publishing, 
 use Rattle.nam_protocol.specs.declared.txn.ListPoint.{ListPoint}
 use Rattle.nam_protocol.specs.declared.txn.ListPoint.TheVariants.{ListData, ListKind, ListNumber, ListRow, ListState}
 use Rattle.nam_protocol.specs.declared.txn.TxnState.{TxnState}
-use Rattle.nam_protocol.specs.CallWrites.{commit_writes}
-use Rattle.nam_protocol.specs.Commit.{commit_after, commit_verb, on_lock, places, record_place}
-use Rattle.nam_protocol.specs.Own.{StageAt}
-use Rattle.nam_protocol.specs.Txn.{Stepped}
-use Rattle.nam_protocol.specs.TxnFits.{CommitFits, StateFits}
-use Rattle.nam_protocol.proofs.FieldLemmas.{placed, written_less}
-use Rattle.nam_protocol.proofs.GivesCommit.{commit_gives}
 use Rattle.nam_store.specs.Changed.{Changed, OthersStay}
-use Rattle.nam_ghost.specs.Versions.{Chain}
-use Rattle.nam_ghost.specs.Holders.{Holder, holder_at, holder_now, record_row}
-use Rattle.nam_ghost.specs.Locks.{AreHeld, HolderOk}
-use Rattle.nam_ghost.specs.Steps.{at_record, commit_chains, locked_for}
-use Rattle.nam_locks.specs.Rows.{SameRows, written_row}
-use Rattle.nam_locks.proofs.RowLemmas.{written_nowhere, written_same}
-use Rattle.nam_locks.proofs.HolderLemmas.{holder_spared, looks, still_spared}
-use Rattle.nam_locks.proofs.CommitReads.{checks, copies, counts, gives_back, lists, looks_up, nothing_left, peeks}
-use Rattle.nam_locks.proofs.CommitReads.{publishes, saves}
-use Rattle.nam_locks.proofs.CommitWrites.{frees_one, gives_one, installs_count, installs_header, installs_word}
-use Rattle.nam_locks.proofs.CommitWrites.{returns_one, takes_lock}
+use Rattle.nam_verbs.specs.VerbAt.{found_at, left_at, target}
 
 -- by what a test says
 by_bool : (P : Bool → Type 0) (test : Bool) → (test ≡ true → P true) → (test ≡ false → P false) → P test

@@ -4,32 +4,32 @@ use Rattle.std.proofs.Common.{List, None, Option, Some, [], arith, false, length
 use Rattle.std.proofs.Common.{◌==◌, ◌∙◌, ◌∷◌, ◌≡◌, ◌≤◌}
 use Rattle.std.proofs.lemmas.Bool.{eqb-true}
 use Rattle.std.proofs.lemmas.List.{get_or_append_left}
-use Rattle.nam_verbs.proofs.TestLemmas.{by_test}
-use Rattle.nam_catalog.specs.declared.shape.Shape.{Shape}
-use Rattle.nam_layout.specs.declared.field.Field.{Field}
-use Rattle.nam_layout.specs.declared.field.Field.TheVariants.{Count}
+use Rattle.nam_calls.proofs.GoesTests.{give_back_goes, peek_goes, slot_goes}
+use Rattle.nam_calls.specs.Lock.{give_back}
+use Rattle.nam_calls.specs.Record.{install_begin}
 use Rattle.nam_calls.specs.declared.lock.LockPoint.TheVariants.{GiveBack, Peek}
 use Rattle.nam_calls.specs.declared.ring.CopyPoint.{CopyPoint}
 use Rattle.nam_calls.specs.declared.ring.SlotPoint.TheVariants.{CheckCount, CheckHead}
-use Rattle.nam_calls.specs.Lock.{give_back}
-use Rattle.nam_calls.specs.Record.{install_begin}
-use Rattle.nam_calls.proofs.GoesTests.{give_back_goes, peek_goes, slot_goes}
+use Rattle.nam_catalog.specs.declared.shape.Shape.{Shape}
+use Rattle.nam_ghost.specs.Holders.{Holder, counted_in, dirty_in, from_at, holder_at, holder_now, no_holder, record_row}
+use Rattle.nam_ghost.specs.Holders.{words_in}
+use Rattle.nam_ghost.specs.Locks.{HolderOk, RowOk}
+use Rattle.nam_ghost.specs.Versions.{Chain}
+use Rattle.nam_layout.specs.declared.field.Field.{Field}
+use Rattle.nam_layout.specs.declared.field.Field.TheVariants.{Count}
+use Rattle.nam_locks.proofs.HolderKinds.{counts_more, holds_nothing, recounts}
+use Rattle.nam_protocol.proofs.GoesCommit.{next_count_goes, next_free_goes, on_copy_goes, on_list_goes, on_words_goes}
+use Rattle.nam_protocol.proofs.GoesCommit.{refused_goes, with_count}
+use Rattle.nam_protocol.specs.Commit.{checked, commit_after, go, on_lock, on_slot, places, record_place, refused}
+use Rattle.nam_protocol.specs.Commit.{tells_intent, value_at}
+use Rattle.nam_protocol.specs.Txn.{Stepped}
 use Rattle.nam_protocol.specs.declared.txn.CommitPoint.{CommitPoint}
 use Rattle.nam_protocol.specs.declared.txn.CommitPoint.TheVariants.{Checking, Clearing, Copying, Counting, Ending}
 use Rattle.nam_protocol.specs.declared.txn.CommitPoint.TheVariants.{Listing, Locking, Publishing, Saving}
 use Rattle.nam_protocol.specs.declared.txn.ListPoint.{ListPoint}
 use Rattle.nam_protocol.specs.declared.txn.Refusal.{Refusal}
 use Rattle.nam_protocol.specs.declared.txn.TxnState.{TxnState}
-use Rattle.nam_protocol.specs.Commit.{checked, commit_after, go, on_lock, on_slot, places, record_place, refused}
-use Rattle.nam_protocol.specs.Commit.{tells_intent, value_at}
-use Rattle.nam_protocol.specs.Txn.{Stepped}
-use Rattle.nam_protocol.proofs.GoesCommit.{next_count_goes, next_free_goes, on_copy_goes, on_list_goes, on_words_goes}
-use Rattle.nam_protocol.proofs.GoesCommit.{refused_goes, with_count}
-use Rattle.nam_ghost.specs.Versions.{Chain}
-use Rattle.nam_ghost.specs.Holders.{Holder, counted_in, dirty_in, from_at, holder_at, holder_now, no_holder}
-use Rattle.nam_ghost.specs.Holders.{record_row, words_in}
-use Rattle.nam_ghost.specs.Locks.{HolderOk, RowOk}
-use Rattle.nam_locks.proofs.HolderKinds.{counts_more, holds_nothing, recounts}
+use Rattle.nam_verbs.proofs.TestLemmas.{by_test}
 
 module _ (shape : Shape) (m : Field → ℕ) (chains : ℕ → Chain) (nth : ℕ) (state : TxnState) where
   -- what is said of the commit at a point, and of what a step has come to

@@ -1,43 +1,43 @@
 -- Each point of a commit that writes a word of a current version keeps what is said of locks.
-use Rattle.std.proofs.Common.{Bool, List, Some, [], ap, arith, false, length, refl, subst, sym, true, ℕ, ◌++◌, ◌+◌}
-use Rattle.std.proofs.Common.{◌<◌, ◌∙◌, ◌∷◌, ◌≡◌}
-use Rattle.std.specs.Prelude.{if◌then◌else◌, is_some, not, slice_get, slice_index, slice_set}
+use Rattle.std.proofs.Common.{Bool, List, Some, [], ap, arith, false, length, refl, subst, sym, true, ℕ, ◌++◌, ◌+◌, ◌<◌}
+use Rattle.std.proofs.Common.{◌∙◌, ◌∷◌, ◌≡◌}
 use Rattle.std.proofs.lemmas.Bool.{eqb-true, lt-ltb}
 use Rattle.std.proofs.lemmas.List.{length-map}
-use Rattle.nam_verbs.specs.declared.now.Now.TheVariants.{At, Over}
-use Rattle.nam_verbs.proofs.TestLemmas.{by_equal}
+use Rattle.std.specs.Prelude.{if◌then◌else◌, is_some, not, slice_get, slice_index, slice_set}
+use Rattle.nam_calls.specs.Lock.{give_back, lock_next, locks_at}
+use Rattle.nam_calls.specs.Record.{word_in}
+use Rattle.nam_calls.specs.Words.{wrapped}
+use Rattle.nam_calls.specs.declared.lock.LockPoint.TheVariants.{GiveBack, Peek, Seize}
+use Rattle.nam_calls.specs.declared.record.InstallPoint.TheVariants.{InstallCount, InstallHead, InstallWord}
 use Rattle.nam_catalog.specs.Fits.{FitsLimits}
 use Rattle.nam_catalog.specs.declared.form.Form.{Form}
 use Rattle.nam_catalog.specs.declared.shape.Shape.{Shape}
+use Rattle.nam_ghost.specs.Holders.{Holder, holder_at, holder_now, record_row, words_in}
+use Rattle.nam_ghost.specs.Locks.{AreHeld}
+use Rattle.nam_ghost.specs.Steps.{at_record, given_back, locked_for, new_version, renewed}
+use Rattle.nam_ghost.specs.Versions.{Chain}
 use Rattle.nam_header.specs.Stamp.{FitsStamp, is_locked, sees, version_word, with_lock}
 use Rattle.nam_layout.specs.declared.field.Field.{Field}
 use Rattle.nam_layout.specs.declared.field.Field.TheVariants.{Count, Header, Word}
 use Rattle.nam_layout.specs.declared.field.Place.{Place}
-use Rattle.nam_calls.specs.declared.lock.LockPoint.TheVariants.{GiveBack, Peek, Seize}
-use Rattle.nam_calls.specs.declared.record.InstallPoint.TheVariants.{InstallCount, InstallHead, InstallWord}
-use Rattle.nam_calls.specs.Lock.{give_back, lock_next, locks_at}
-use Rattle.nam_calls.specs.Record.{word_in}
-use Rattle.nam_calls.specs.Words.{wrapped}
-use Rattle.nam_protocol.specs.declared.txn.CommitPoint.{CommitPoint}
-use Rattle.nam_protocol.specs.declared.txn.CommitPoint.TheVariants.{Freeing, Installing, Locking, Publishing}
-use Rattle.nam_protocol.specs.declared.txn.CommitPoint.TheVariants.{Returning, Saving}
-use Rattle.nam_protocol.specs.declared.txn.Record.{Record}
-use Rattle.nam_protocol.specs.declared.txn.TxnState.{TxnState}
+use Rattle.nam_locks.proofs.CommitReads.{ends, gives_back, nothing_left, refuses}
+use Rattle.nam_locks.proofs.HolderLemmas.{seen_as}
+use Rattle.nam_locks.proofs.WriteKinds.{backs, counts_on, locks, renews, words_on}
+use Rattle.nam_protocol.proofs.GoesCommit.{next_free_goes}
 use Rattle.nam_protocol.specs.Commit.{commit_after, go, new_header, on_install, on_lock, on_return, own_stamp, places}
 use Rattle.nam_protocol.specs.Commit.{record_place, value_at}
 use Rattle.nam_protocol.specs.FieldLaw.{IsRowPlace}
 use Rattle.nam_protocol.specs.Own.{StageAt}
 use Rattle.nam_protocol.specs.Txn.{Stepped}
-use Rattle.nam_protocol.proofs.GoesCommit.{next_free_goes}
+use Rattle.nam_protocol.specs.declared.txn.CommitPoint.{CommitPoint}
+use Rattle.nam_protocol.specs.declared.txn.CommitPoint.TheVariants.{Freeing, Installing, Locking, Publishing, Returning}
+use Rattle.nam_protocol.specs.declared.txn.CommitPoint.TheVariants.{Saving}
+use Rattle.nam_protocol.specs.declared.txn.Record.{Record}
+use Rattle.nam_protocol.specs.declared.txn.TxnState.{TxnState}
 use Rattle.nam_store.specs.Changed.{Changed}
+use Rattle.nam_verbs.proofs.TestLemmas.{by_equal}
+use Rattle.nam_verbs.specs.declared.now.Now.TheVariants.{At, Over}
 use Rattle.si_model.specs.declared.log.Lock.{Lock}
-use Rattle.nam_ghost.specs.Versions.{Chain}
-use Rattle.nam_ghost.specs.Holders.{Holder, holder_at, holder_now, record_row, words_in}
-use Rattle.nam_ghost.specs.Locks.{AreHeld}
-use Rattle.nam_ghost.specs.Steps.{at_record, given_back, locked_for, new_version, renewed}
-use Rattle.nam_locks.proofs.HolderLemmas.{seen_as}
-use Rattle.nam_locks.proofs.WriteKinds.{backs, counts_on, locks, renews, words_on}
-use Rattle.nam_locks.proofs.CommitReads.{ends, gives_back, nothing_left, refuses}
 use Rattle.nam_calls.specs.declared.lock.LockEnd.TheVariants as lock_end
 use Rattle.nam_protocol.specs.declared.txn.Refusal.TheVariants as refusal
 

@@ -2,25 +2,25 @@
 -- record at hand, a count is found, nothing is held.
 use Rattle.std.proofs.Common.{Bool, List, [], ap, arith, false, length, refl, subst, sym, true, ℕ, ⊎_elim, ◌++◌, ◌+◌}
 use Rattle.std.proofs.Common.{◌<◌, ◌∙◌, ◌∷◌, ◌≡◌, ◌≢◌, ◌≤◌}
-use Rattle.std.specs.Prelude.{slice_index}
 use Rattle.std.proofs.lemmas.Bool.{cases_eq, cases_lt}
 use Rattle.std.proofs.lemmas.List.{get_or_append_left, get_or_push, length_push}
+use Rattle.std.specs.Prelude.{slice_index}
+use Rattle.nam_calls.specs.Record.{word_in}
+use Rattle.nam_calls.specs.Words.{wrapped}
 use Rattle.nam_catalog.specs.declared.shape.Shape.{Shape}
+use Rattle.nam_ghost.specs.Holders.{Holder, Holds, HoldsRow, version_of}
+use Rattle.nam_ghost.specs.Locks.{CleanOk, HeldOk, HolderOk, RowOk, WrittenOk}
+use Rattle.nam_ghost.specs.Steps.{locked_for}
+use Rattle.nam_ghost.specs.Versions.{Chain, IsVersion, current_number, current_word}
 use Rattle.nam_header.specs.Header.{flag}
 use Rattle.nam_header.specs.Visible.{is_visible}
 use Rattle.nam_layout.specs.Address.{IsRow}
 use Rattle.nam_layout.specs.Rows.{width_at}
 use Rattle.nam_layout.specs.declared.field.Field.{Field}
 use Rattle.nam_layout.specs.declared.field.Field.TheVariants.{Count, Word}
-use Rattle.nam_calls.specs.Record.{word_in}
-use Rattle.nam_calls.specs.Words.{wrapped}
-use Rattle.nam_store.specs.Everyone.{put}
-use Rattle.nam_store.proofs.Lists.{put_beside, put_cases, put_here}
-use Rattle.nam_ghost.specs.Versions.{Chain, IsVersion, current_number, current_word}
-use Rattle.nam_ghost.specs.Holders.{Holder, Holds, HoldsRow, version_of}
-use Rattle.nam_ghost.specs.Locks.{CleanOk, HeldOk, HolderOk, RowOk, WrittenOk}
 use Rattle.nam_locks.specs.Kinds.{left_behind, one_more, worked, working}
-use Rattle.nam_ghost.specs.Steps.{locked_for}
+use Rattle.nam_store.proofs.Lists.{put_beside, put_cases, put_here}
+use Rattle.nam_store.specs.Everyone.{put}
 
 module _ (shape : Shape) (m : Field → ℕ) (chains : ℕ → Chain) (nth : ℕ) (holder : Holder)
     (own : HolderOk shape m chains nth holder) where

@@ -2,17 +2,17 @@
 use Rattle.std.proofs.Common.{List, Some, ap, arith, length-set, refl, subst, sym, ℕ, ◌+◌, ◌∙◌, ◌≡◌, ◌≢◌}
 use Rattle.std.specs.Prelude.{slice_get, slice_set}
 use Rattle.nam_catalog.specs.declared.shape.Shape.{Shape}
+use Rattle.nam_ghost.specs.Holders.{Holder, Holds, version_of}
+use Rattle.nam_ghost.specs.Locks.{AreHeld, CleanOk, HeldOk, HolderOk, RowOk, Spared}
+use Rattle.nam_ghost.specs.Versions.{Chain, IsVersion, Version, record_image}
 use Rattle.nam_layout.specs.Address.{IsRow}
 use Rattle.nam_layout.specs.Rows.{width_at}
 use Rattle.nam_layout.specs.declared.field.Field.{Field}
-use Rattle.nam_store.specs.Everyone.{put}
-use Rattle.nam_store.proofs.Lists.{everyone_set, get_set, put_beside, put_cases, set_twice}
-use Rattle.nam_ghost.specs.Versions.{Chain, IsVersion, Version, record_image}
-use Rattle.nam_ghost.specs.Holders.{Holder, Holds, version_of}
-use Rattle.nam_ghost.specs.Locks.{AreHeld, CleanOk, HeldOk, HolderOk, RowOk, Spared}
-use Rattle.nam_locks.specs.Rows.{OtherRows, SameRow, SameRows}
 use Rattle.nam_locks.proofs.RecordLemmas.{record_same}
 use Rattle.nam_locks.proofs.RowLemmas.{same_rows}
+use Rattle.nam_locks.specs.Rows.{OtherRows, SameRow, SameRows}
+use Rattle.nam_store.proofs.Lists.{everyone_set, get_set, put_beside, put_cases, set_twice}
+use Rattle.nam_store.specs.Everyone.{put}
 
 -- 1. What is said of a client stays so where it is spared
 

@@ -6,7 +6,6 @@ pub mod WriteKinds
 pub mod CommitReads
 pub mod CommitWrites
 pub mod CommitLemmas
-pub mod IdleLemmas
 pub mod WordLemmas
 pub mod StoreLemmas
 pub mod OpeningLemmas

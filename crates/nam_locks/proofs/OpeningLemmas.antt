@@ -1,32 +1,32 @@
 -- At the opening nothing is locked, and each position has its loaded version.
 use Rattle.std.proofs.Common.{Bool, List, None, Some, [], ap, arith, false, map, refl, subst, suc, sym, true, zero, ℕ}
 use Rattle.std.proofs.Common.{⊎_elim, ◌+◌, ◌<◌, ◌∙◌, ◌∷◌, ◌≡◌}
-use Rattle.std.specs.Prelude.{if◌then◌else◌, slice_index}
 use Rattle.std.proofs.lemmas.List.{length-map}
 use Rattle.std.proofs.lemmas.Option.{none-some, same_Some}
+use Rattle.std.specs.Prelude.{if◌then◌else◌, slice_index}
+use Rattle.nam_calls.specs.Memory.{memory}
 use Rattle.nam_catalog.specs.declared.form.Form.{Form}
 use Rattle.nam_catalog.specs.declared.form.Form.TheVariants.{Held, Narrow, Wide}
 use Rattle.nam_catalog.specs.declared.shape.Shape.{Shape}
+use Rattle.nam_ghost.specs.Ghost.{opening_ghost}
+use Rattle.nam_ghost.specs.Holders.{Holds, holder_of, no_holder}
+use Rattle.nam_ghost.specs.Locks.{HolderOk}
+use Rattle.nam_ghost.specs.Versions.{Chain, HasData, current_word}
 use Rattle.nam_header.specs.Stamp.{FitsStamp, is_deleted}
 use Rattle.nam_layout.specs.Rows.{width_at}
 use Rattle.nam_layout.specs.declared.field.Field.{Field}
 use Rattle.nam_layout.specs.declared.field.Field.TheVariants.{Count, Header, Word}
-use Rattle.nam_calls.specs.Memory.{memory}
-use Rattle.nam_protocol.specs.declared.client.ClientState.{ClientState}
+use Rattle.nam_locks.specs.LocksLaw.{OpensLaw}
+use Rattle.nam_protocol.proofs.OpeningLemmas.{opening_law}
 use Rattle.nam_protocol.specs.Opening.{opening_words}
 use Rattle.nam_protocol.specs.OpeningLaw.{HasRow, IsFree}
-use Rattle.si_model.specs.declared.row.Row.{Row}
-use Rattle.si_model.specs.Lists.{Listed}
 use Rattle.nam_protocol.specs.Schedule.{numbers_from}
-use Rattle.nam_protocol.proofs.OpeningLemmas.{opening_law}
-use Rattle.nam_store.specs.Opening.{new_clients}
-use Rattle.nam_store.specs.Everyone.{Everyone}
+use Rattle.nam_protocol.specs.declared.client.ClientState.{ClientState}
 use Rattle.nam_store.proofs.OpeningLemmas.{new_workers, opening_client}
-use Rattle.nam_ghost.specs.Versions.{Chain, HasData, current_word}
-use Rattle.nam_ghost.specs.Ghost.{opening_ghost}
-use Rattle.nam_ghost.specs.Holders.{Holds, holder_of, no_holder}
-use Rattle.nam_ghost.specs.Locks.{HolderOk}
-use Rattle.nam_locks.specs.LocksLaw.{OpensLaw}
+use Rattle.nam_store.specs.Everyone.{Everyone}
+use Rattle.nam_store.specs.Opening.{new_clients}
+use Rattle.si_model.specs.Lists.{Listed}
+use Rattle.si_model.specs.declared.row.Row.{Row}
 
 -- 1. Lists
 

@@ -1,44 +1,29 @@
 -- How a position's words and its version chain change together: one fact for each kind of write.
 use Rattle.std.proofs.Common.{List, None, Option, Some, [], ap, arith, false, inl, length, refl, subst, sym, true, ℕ}
 use Rattle.std.proofs.Common.{◌+◌, ◌<◌, ◌∙◌, ◌∷◌, ◌≡◌, ◌≤◌}
-use Rattle.std.specs.Prelude.{Bool, is_some, nat_lt, not}
 use Rattle.std.proofs.lemmas.Bool.{lt-ltb}
 use Rattle.std.proofs.lemmas.List.{length_push}
-use Rattle.std.proofs.lemmas.Bool.Decides.{nat_tests}
-use Rattle.si_model.proofs.ListLemmas.{listed_append_left, listed_append_right}
+use Rattle.std.specs.Prelude.{Bool, is_some, not}
+use Rattle.nam_calls.specs.Words.{wrapped}
 use Rattle.nam_catalog.specs.declared.form.Form.{Form}
 use Rattle.nam_catalog.specs.declared.form.Form.TheVariants.{Held, Narrow, Wide}
-use Rattle.nam_header.specs.declared.header.Header.{Header}
-use Rattle.nam_header.specs.Header.{IsWithin, fields_of, flag, header_of, word_of}
-use Rattle.nam_header.specs.Flag.{holder_named}
-use Rattle.nam_header.specs.Stamp.{FitsStamp, is_locked, sees, version_word, with_lock}
-use Rattle.nam_header.specs.Visible.{is_visible}
-use Rattle.nam_header.proofs.StampLemmas.{header_of-word_of}
-use Rattle.nam_calls.specs.Words.{wrapped}
-use Rattle.nam_ghost.specs.Versions.{Chain, HasData, IsVersion, RecordImage, Version, current_header, current_number}
-use Rattle.nam_ghost.specs.Versions.{current_word, versions}
+use Rattle.nam_ghost.proofs.RecordLemmas.{header_says}
 use Rattle.nam_ghost.specs.Locks.{RecordOk}
 use Rattle.nam_ghost.specs.Steps.{given_back, locked_for, renewed}
-
--- 1. Headers
-
--- each worker can be named in a header
-named_fits : (form : Form) (worker : ℕ) → worker ≤ 16 → holder_named form worker < (fields_of form).holders
-named_fits Narrow worker few = omega arith
-named_fits Wide worker few = omega arith
-named_fits Held worker few = omega arith
+use Rattle.nam_ghost.specs.Versions.{Chain, HasData, IsVersion, RecordImage, Version, current_number, current_word}
+use Rattle.nam_ghost.specs.Versions.{versions}
+use Rattle.nam_header.specs.Flag.{holder_named}
+use Rattle.nam_header.specs.Header.{flag, word_of}
+use Rattle.nam_header.specs.Stamp.{FitsStamp, version_word, with_lock}
+use Rattle.nam_header.specs.declared.header.Header.{Header}
+use Rattle.si_model.proofs.ListLemmas.{listed_append_left, listed_append_right}
 
 named_none : (form : Form) → holder_named form 0 ≡ 0
 named_none Narrow = refl
 named_none Wide = refl
 named_none Held = refl
 
-pub header_fits : (form : Form) (holder : ℕ) (version : Version) → holder ≤ 16 → FitsStamp form version.stamp
-    → IsWithin form (current_header form holder version)
-header_fits form holder version few fits =
-    record { thread = fits.thread; number = fits.number; holder = named_fits form holder few }
-
--- 2. A position's claims, where its words are what they were
+-- 1. A position's claims, where its words are what they were
 
 pub record_same : (form : Form) (workers width : ℕ) (image later : RecordImage) (chain : Chain)
     → later.header ≡ image.header → later.count ≡ image.count
@@ -59,28 +44,7 @@ record_same form workers width image later chain header count body ok = record {
 
 module _ (form : Form) (workers width : ℕ) (image : RecordImage) (chain : Chain) (few : workers ≤ 16)
     (ok : RecordOk form workers width image chain) where
-  -- 3. What a header that is found says
-
-  pub header_says : header_of form image.header ≡ current_header form chain.holder chain.now
-  header_says =
-      let worker = ok.worker in
-      ap (header_of form) ok.header_is
-      ∙ header_of-word_of form (current_header form chain.holder chain.now)
-      (header_fits form chain.holder chain.now (omega arith) ok.fits)
-
-  pub locked_says : is_locked form image.header ≡ nat_lt 0 chain.holder
-  locked_says = ap (λ (h : Header). h.locked) header_says
-
-  pub stamp_says : (seen : List ℕ) → sees form seen image.header ≡ is_visible chain.now.stamp seen
-  stamp_says seen = ap (λ (h : Header). is_visible h.stamp seen) header_says
-
-  pub free_says : is_locked form image.header ≡ false → chain.holder ≡ 0
-  free_says unlocked = none_from chain.holder (sym locked_says ∙ unlocked)
-    where
-      none_from : (n : ℕ) → nat_lt 0 n ≡ false → n ≡ 0
-      none_from n e = grind (arith, nat_tests)
-
-  -- 4. The kinds of write
+  -- 2. The kinds of write
 
   -- the lock is taken
   pub lock_ok : (worker : ℕ) → chain.holder ≡ 0 → 0 < worker → worker ≤ workers
@@ -95,7 +59,7 @@ module _ (form : Form) (workers width : ℕ) (image : RecordImage) (chain : Chai
           locked = true;
           holder = holder_named form worker;
         })
-        header_says
+        (header_says form workers width image chain few ok)
         ∙ ap (λ (locked : Bool). word_of form record {
           stamp = chain.now.stamp;
           moved = false;
@@ -174,7 +138,7 @@ module _ (form : Form) (workers width : ℕ) (image : RecordImage) (chain : Chai
     worker = omega arith;
   }
 
--- 5. Versions stay, and the new one is there
+-- 3. Versions stay, and the new one is there
 
 pub renewed_grows : (chain : Chain) (version other : Version) → IsVersion chain other
     → IsVersion (renewed version chain) other

@@ -1,13 +1,15 @@
 -- Which words of current versions a written word leaves as they were.
 use Rattle.std.proofs.Common.{None, Option, Some, ap, refl, subst, sym, ℕ, ⊎_elim, ◌∙◌, ◌≡◌, ◌≢◌}
-use Rattle.std.proofs.lemmas.Option.{none-some, same_Some}
 use Rattle.std.proofs.lemmas.Bool.{cases_eq}
+use Rattle.std.proofs.lemmas.Option.{none-some, same_Some}
 use Rattle.nam_catalog.specs.declared.shape.Shape.{Shape}
 use Rattle.nam_layout.specs.Address.{IsField, IsRow}
 use Rattle.nam_layout.specs.declared.field.Field.{Field}
-use Rattle.nam_layout.specs.declared.field.Field.TheVariants.{Count, Header, Word}
-use Rattle.nam_store.specs.Changed.{Changed, OthersStay}
+use Rattle.nam_layout.specs.declared.field.Field.TheVariants.{Begin, CellWord, Count, End, Header, Horizon, Key, Owner}
+use Rattle.nam_layout.specs.declared.field.Field.TheVariants.{SlotHeader, Tag, Word}
 use Rattle.nam_locks.specs.Rows.{OtherRows, SameRow, SameRows, current_row, written_row}
+use Rattle.nam_store.specs.Changed.{Changed, OthersStay}
+use Rattle.nam_store.specs.Kinds.{IsCollectField, IsKeyField, IsMoveField}
 
 pub same_rows : (shape : Shape) (m : Field → ℕ) → SameRows shape m m
 same_rows shape m row is = record { header = refl; count = refl; word = λ nth less. refl }
@@ -48,3 +50,22 @@ written_same shape m now row changed other is = record {
   count = changed.others (Count other) is (λ e. cc);
   word = λ nth less. changed.others (Word other nth) (is, less) (λ e. cc);
 }
+
+-- what keys, moves and collections may write is no word of a current version
+pub not_key : (field : Field) (row : ℕ) → current_row field ≡ Some row → IsKeyField field → ⊥
+not_key (Key at) row e is = none-some row e
+not_key _ row e is = is
+
+pub not_moves : (field : Field) (row : ℕ) → current_row field ≡ Some row → IsMoveField field → ⊥
+not_moves (SlotHeader at slot) row e is = none-some row e
+not_moves (Tag bucket cell) row e is = none-some row e
+not_moves (Owner bucket cell) row e is = none-some row e
+not_moves (Begin bucket cell) row e is = none-some row e
+not_moves (End bucket cell) row e is = none-some row e
+not_moves (CellWord bucket cell nth) row e is = none-some row e
+not_moves _ row e is = is
+
+pub not_collects : (field : Field) (row : ℕ) → current_row field ≡ Some row → IsCollectField field → ⊥
+not_collects (Horizon worker) row e is = none-some row e
+not_collects (Tag bucket cell) row e is = none-some row e
+not_collects _ row e is = is

@@ -1,45 +1,45 @@
 -- Each step of a store keeps what is said of locks.
 use Rattle.std.proofs.Common.{List, Option, Some, ap, arith, map, option_map, refl, subst, sym, ℕ, ◌+◌, ◌∙◌, ◌≡◌}
-use Rattle.std.specs.Prelude.{slice_get, slice_set}
 use Rattle.std.proofs.lemmas.List.{map-set}
 use Rattle.std.proofs.lemmas.Option.{slice_get-map}
-use Rattle.nam_verbs.specs.declared.now.Now.{Now}
-use Rattle.nam_protocol.specs.declared.client.Answer.{Answer}
-use Rattle.nam_verbs.specs.declared.now.Now.TheVariants.{At}
-use Rattle.nam_catalog.specs.declared.shape.Shape.{Shape}
-use Rattle.nam_layout.specs.declared.field.Field.{Field}
+use Rattle.std.specs.Prelude.{slice_get, slice_set}
 use Rattle.nam_calls.specs.Memory.{memory}
 use Rattle.nam_calls.specs.declared.lock.LockPoint.TheVariants.{Peek}
-use Rattle.nam_protocol.specs.declared.client.Call.{Call}
-use Rattle.nam_protocol.specs.declared.client.CallPoint.{CallPoint}
-use Rattle.nam_protocol.specs.declared.client.ClientState.{ClientState}
-use Rattle.nam_protocol.specs.declared.txn.CommitPoint.{CommitPoint}
-use Rattle.nam_protocol.specs.declared.txn.CommitPoint.TheVariants.{Listing, Locking}
+use Rattle.nam_catalog.specs.declared.shape.Shape.{Shape}
+use Rattle.nam_ghost.proofs.IdleLemmas.{aside_idle, idle_holder, rests_aside, stepped_holder}
+use Rattle.nam_ghost.specs.Ghost.{ghost_step, opening_ghost}
+use Rattle.nam_ghost.specs.Holders.{done_at, from_at, holder_at, holder_now, holder_of, no_holder}
+use Rattle.nam_ghost.specs.Idle.{IsIdle, Verb}
+use Rattle.nam_ghost.specs.Locks.{AreHeld, HolderOk, LocksOk}
+use Rattle.nam_ghost.specs.Steps.{chains_after}
+use Rattle.nam_ghost.specs.Versions.{Chain}
+use Rattle.nam_layout.specs.declared.field.Field.{Field}
+use Rattle.nam_locks.proofs.HolderKinds.{holds_nothing}
+use Rattle.nam_locks.proofs.HolderLemmas.{looks}
+use Rattle.nam_locks.proofs.OpeningLemmas.{locks_open}
+use Rattle.nam_locks.proofs.RowLemmas.{same_rows}
+use Rattle.nam_locks.proofs.WordLemmas.{takes_word}
+use Rattle.nam_locks.specs.LocksLaw.{KeepsLaw, ReachedLaw}
+use Rattle.nam_protocol.proofs.GoesCommit.{ask_commit_goes}
+use Rattle.nam_protocol.proofs.PlainLemmas.{abandon_plain}
 use Rattle.nam_protocol.specs.Client.{client_abandon, client_after, client_ask}
 use Rattle.nam_protocol.specs.Commit.{ask_commit, committing, list_begin}
 use Rattle.nam_protocol.specs.CutClient.{client_cut}
 use Rattle.nam_protocol.specs.Own.{MayAsk, OwnOpen, Rests}
 use Rattle.nam_protocol.specs.Sorts.{AskOf, AsksBegin, AsksCollect, AsksCommit, AsksPlain}
-use Rattle.nam_protocol.proofs.GoesCommit.{ask_commit_goes}
-use Rattle.nam_protocol.proofs.PlainLemmas.{abandon_plain}
+use Rattle.nam_protocol.specs.declared.client.Answer.{Answer}
+use Rattle.nam_protocol.specs.declared.client.Call.{Call}
+use Rattle.nam_protocol.specs.declared.client.CallPoint.{CallPoint}
+use Rattle.nam_protocol.specs.declared.client.ClientState.{ClientState}
+use Rattle.nam_protocol.specs.declared.txn.CommitPoint.{CommitPoint}
+use Rattle.nam_protocol.specs.declared.txn.CommitPoint.TheVariants.{Listing, Locking}
+use Rattle.nam_store.proofs.BaseLemmas.{asked_sort, client_within, does_law, step_sort}
+use Rattle.nam_store.proofs.ReachedLemmas.{reached_holds}
 use Rattle.nam_store.specs.Base.{BaseOk}
 use Rattle.nam_store.specs.Kinds.{MayWriteAt}
 use Rattle.nam_store.specs.Store.{Abandons, Asks, Cuts, Store, Takes, client_at, found_word, step, with_client}
-use Rattle.nam_store.proofs.BaseLemmas.{asked_sort, client_within, does_law, step_sort}
-use Rattle.nam_store.proofs.ReachedLemmas.{reached_holds}
-use Rattle.nam_ghost.specs.Versions.{Chain}
-use Rattle.nam_ghost.specs.Ghost.{ghost_step, opening_ghost}
-use Rattle.nam_ghost.specs.Holders.{done_at, from_at, holder_at, holder_now, holder_of, no_holder}
-use Rattle.nam_ghost.specs.Locks.{AreHeld, HolderOk, LocksOk}
-use Rattle.nam_ghost.specs.Steps.{chains_after}
-use Rattle.nam_locks.specs.Idle.{IsIdle}
-use Rattle.nam_locks.specs.LocksLaw.{KeepsLaw, ReachedLaw}
-use Rattle.nam_locks.proofs.RowLemmas.{same_rows}
-use Rattle.nam_locks.proofs.HolderLemmas.{looks}
-use Rattle.nam_locks.proofs.HolderKinds.{holds_nothing}
-use Rattle.nam_locks.proofs.IdleLemmas.{aside_idle, idle_holder, rests_aside, stepped_holder}
-use Rattle.nam_locks.proofs.OpeningLemmas.{locks_open}
-use Rattle.nam_locks.proofs.WordLemmas.{Verb, takes_word}
+use Rattle.nam_verbs.specs.declared.now.Now.{Now}
+use Rattle.nam_verbs.specs.declared.now.Now.TheVariants.{At}
 
 -- a client that held nothing is asked a call
 ask_holds : (shape : Shape) (m : Field → ℕ) (chains : ℕ → Chain) (nth : ℕ) (before after : ClientState)

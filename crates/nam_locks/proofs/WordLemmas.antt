@@ -1,80 +1,39 @@
 -- A word that a client takes keeps what is said of locks, by the sorts of steps.
-use Rattle.std.proofs.Common.{List, Option, Some, ap, length, refl, subst, sym, ℕ, ◌+◌, ◌<◌, ◌∙◌, ◌≡◌}
+use Rattle.std.proofs.Common.{List, Some, ap, length, subst, sym, ℕ, ◌+◌, ◌<◌, ◌∙◌, ◌≡◌}
 use Rattle.std.specs.Prelude.{slice_get, slice_set}
-use Rattle.nam_verbs.specs.declared.now.Now.{Now}
-use Rattle.nam_verbs.specs.declared.now.Now.TheVariants.{At}
-use Rattle.nam_verbs.specs.VerbAt.{found_at, left_at, target}
 use Rattle.nam_catalog.specs.Fits.{FitsLimits}
 use Rattle.nam_catalog.specs.declared.shape.Shape.{Shape}
-use Rattle.nam_layout.specs.Address.{IsField}
+use Rattle.nam_ghost.proofs.IdleLemmas.{aside_idle, begins_idle, idle_chains, idle_holder, same_place, snaps_idle}
+use Rattle.nam_ghost.proofs.IdleLemmas.{stepped_holder}
+use Rattle.nam_ghost.specs.Holders.{Holder, holder_now, holder_of, no_holder}
+use Rattle.nam_ghost.specs.Idle.{IsIdle, Verb}
+use Rattle.nam_ghost.specs.Locks.{AreHeld, HolderOk}
+use Rattle.nam_ghost.specs.Steps.{chains_after, commit_chains}
+use Rattle.nam_ghost.specs.Versions.{Chain}
 use Rattle.nam_layout.specs.declared.field.Field.{Field}
-use Rattle.nam_vector.specs.declared.snap.SnapPoint.{SnapPoint}
-use Rattle.nam_vector.specs.declared.snap.SnapEnd.{SnapEnd}
-use Rattle.nam_vector.specs.Snap.{snap_after}
-use Rattle.nam_protocol.specs.declared.client.Answer.{Answer}
+use Rattle.nam_locks.proofs.CommitLemmas.{commit_locks}
+use Rattle.nam_locks.proofs.HolderLemmas.{holder_spared, looks, still_spared}
+use Rattle.nam_locks.proofs.RowLemmas.{not_collects, not_key, not_moves, row_same}
+use Rattle.nam_locks.specs.Rows.{SameRows, current_row}
+use Rattle.nam_protocol.specs.Commit.{commit_after}
+use Rattle.nam_protocol.specs.Reader.{reader_at}
+use Rattle.nam_protocol.specs.Sorts.{Begins, Collects, Commits, Finds, IsKeyPlace, Moves, Reads, Snaps, StepOf}
+use Rattle.nam_protocol.specs.Sorts.{committing_at, word_taken}
+use Rattle.nam_protocol.specs.Telling.{go, stepped}
+use Rattle.nam_protocol.specs.Txn.{Stepped}
 use Rattle.nam_protocol.specs.declared.client.CallPoint.{CallPoint}
 use Rattle.nam_protocol.specs.declared.client.CallPoint.TheVariants.{Beginning, Collecting, InTxn, Moving, Snapping}
 use Rattle.nam_protocol.specs.declared.client.ClientState.{ClientState}
 use Rattle.nam_protocol.specs.declared.client.Open.{Open}
 use Rattle.nam_protocol.specs.declared.txn.CommitPoint.{CommitPoint}
 use Rattle.nam_protocol.specs.declared.txn.TxnPoint.TheVariants.{Committing}
-use Rattle.nam_protocol.specs.Client.{on_begin, on_snap}
-use Rattle.nam_protocol.specs.Commit.{commit_after}
-use Rattle.nam_protocol.specs.Sorts.{Begins, Collects, Commits, Finds, IsKeyPlace, Moves, Reads, Snaps, StepOf}
-use Rattle.nam_protocol.specs.Sorts.{committing_at, word_taken}
-use Rattle.nam_protocol.specs.Reader.{reader_at}
-use Rattle.nam_protocol.specs.Telling.{go, stepped}
-use Rattle.nam_protocol.specs.Txn.{Stepped}
-use Rattle.nam_protocol.proofs.GoesClient.{begin_goes, snap_goes}
+use Rattle.nam_store.proofs.KindsLemmas.{finds_aside, finds_write, reads_aside, reads_write}
 use Rattle.nam_store.specs.Base.{ClientOk}
-use Rattle.nam_store.specs.Changed.{Changed, OthersStay, written_of}
 use Rattle.nam_store.specs.Kinds.{MayWrite}
 use Rattle.nam_store.specs.Store.{next_verb}
-use Rattle.nam_store.proofs.KindsLemmas.{finds_aside, finds_write, reads_aside, reads_write}
-use Rattle.nam_ghost.specs.Versions.{Chain}
-use Rattle.nam_ghost.specs.Holders.{Holder, holder_now, holder_of, no_holder}
-use Rattle.nam_ghost.specs.Locks.{AreHeld, HolderOk}
-use Rattle.nam_ghost.specs.Steps.{chains_after, commit_chains}
-use Rattle.nam_locks.specs.Idle.{IsIdle}
-use Rattle.nam_locks.specs.Rows.{SameRows, current_row}
-use Rattle.nam_locks.proofs.RowLemmas.{row_same}
-use Rattle.nam_locks.proofs.HolderLemmas.{holder_spared, looks, still_spared}
-use Rattle.nam_locks.proofs.CommitLemmas.{commit_locks}
-use Rattle.nam_locks.proofs.IdleLemmas.{aside_idle, idle_chains, idle_holder, not_collects, not_key, not_moves}
-use Rattle.nam_locks.proofs.IdleLemmas.{stepped_holder}
-
-abbrev pub RunsAt : CallPoint → Option (Now CallPoint Answer)
-RunsAt place = Some (At place)
-
--- where two points are of one call
-pub same_place : (place point : CallPoint) → RunsAt point ≡ RunsAt place → place ≡ point
-same_place place point e = ap place_in (sym e)
-  where
-    place_in : Option (Now CallPoint Answer) → CallPoint
-    place_in (Some (At place)) = place
-    place_in _ = point
-
--- a snapshot that is taken is no commit
-abbrev pub Idles : ClientState → ClientState → Type 0
-Idles client after = IsIdle after.call × (after.worker ≡ client.worker)
-
-pub begins_idle : (shape : Shape) (client : ClientState) (txn nth : ℕ) (now : Now SnapPoint SnapEnd)
-    → Idles client (on_begin shape client txn nth now)
-begins_idle shape client txn nth now =
-    begin_goes (Idles client) shape client txn nth now (λ next e. (tt, refl)) (λ seen e. (tt, refl))
-    (λ worker first second e. (tt, refl))
-
-pub snaps_idle : (shape : Shape) (client : ClientState) (bucket : ℕ) (now : Now SnapPoint SnapEnd)
-    → Idles client (on_snap shape client bucket now)
-snaps_idle shape client bucket now =
-    snap_goes (Idles client) shape client bucket now (λ next e. (tt, refl)) (λ seen e. (tt, refl))
-    (λ worker first second e. (tt, refl))
-
--- what the verb of the nth client does at a point
-pub record Verb (shape : Shape) (m now : Field → ℕ) (nth : ℕ) (before : ClientState) (place : CallPoint) : Type 0 where
-  pub changed : Changed shape m now (target (next_verb shape before)) (left_at m (next_verb shape before))
-  pub leaves : OthersStay shape m now (written_of shape before)
-  pub kinds : (field : Field) → IsField shape field → (MayWrite (nth + 1) place field → ⊥) → now field ≡ m field
+use Rattle.nam_vector.specs.Snap.{snap_after}
+use Rattle.nam_verbs.specs.VerbAt.{found_at}
+use Rattle.nam_verbs.specs.declared.now.Now.TheVariants.{At}
 
 -- 1. A word is taken, by the sorts
 

@@ -2,30 +2,31 @@
 -- header. Each keeps what is said of locks.
 use Rattle.std.proofs.Common.{List, None, Option, Some, ap, arith, false, length, refl, subst, sym, true, ℕ, ⊎_elim}
 use Rattle.std.proofs.Common.{◌+◌, ◌<◌, ◌∙◌, ◌≡◌, ◌≤◌}
-use Rattle.std.specs.Prelude.{Bool, is_some, not, slice_get, slice_index, slice_set}
 use Rattle.std.proofs.lemmas.Bool.{cases_lt}
+use Rattle.std.specs.Prelude.{Bool, is_some, not, slice_get, slice_index, slice_set}
+use Rattle.nam_calls.specs.Record.{word_in}
+use Rattle.nam_calls.specs.Words.{wrapped}
 use Rattle.nam_catalog.specs.Fits.{FitsLimits}
 use Rattle.nam_catalog.specs.declared.shape.Shape.{Shape}
+use Rattle.nam_ghost.proofs.RecordLemmas.{free_says, stamp_says}
+use Rattle.nam_ghost.specs.Holders.{Holder, Holds, version_of}
+use Rattle.nam_ghost.specs.Locks.{AreHeld, HolderOk, RecordOk, RowOk}
+use Rattle.nam_ghost.specs.Steps.{given_back, locked_for, renewed}
+use Rattle.nam_ghost.specs.Versions.{Chain, HasData, IsVersion, RecordImage, Version, current_word, record_image}
 use Rattle.nam_header.specs.Stamp.{FitsStamp, is_locked, sees, version_word, with_lock}
 use Rattle.nam_layout.specs.Address.{IsRow}
 use Rattle.nam_layout.specs.Rows.{width_at}
 use Rattle.nam_layout.specs.declared.field.Field.{Field}
 use Rattle.nam_layout.specs.declared.field.Field.TheVariants.{Count, Header, Word}
-use Rattle.nam_calls.specs.Record.{word_in}
-use Rattle.nam_calls.specs.Words.{wrapped}
+use Rattle.nam_locks.proofs.HolderKinds.{releases, seizes, works}
+use Rattle.nam_locks.proofs.HolderLemmas.{acts}
+use Rattle.nam_locks.proofs.RecordLemmas.{back_ok, count_ok, lock_ok, record_same, renewed_grows, renewed_has}
+use Rattle.nam_locks.proofs.RecordLemmas.{renewed_ok, word_ok}
+use Rattle.nam_locks.proofs.RowLemmas.{written_apart}
+use Rattle.nam_locks.specs.Kinds.{left_behind, one_more, working}
+use Rattle.nam_store.proofs.Lists.{put_cases}
 use Rattle.nam_store.specs.Changed.{Changed}
 use Rattle.nam_store.specs.Everyone.{put}
-use Rattle.nam_store.proofs.Lists.{put_cases}
-use Rattle.nam_ghost.specs.Versions.{Chain, HasData, IsVersion, RecordImage, Version, current_word, record_image}
-use Rattle.nam_ghost.specs.Holders.{Holder, Holds, version_of}
-use Rattle.nam_ghost.specs.Locks.{AreHeld, HolderOk, RecordOk, RowOk}
-use Rattle.nam_ghost.specs.Steps.{given_back, locked_for, renewed}
-use Rattle.nam_locks.proofs.RecordLemmas.{back_ok, count_ok, free_says, lock_ok, record_same, renewed_grows}
-use Rattle.nam_locks.proofs.RecordLemmas.{renewed_has, renewed_ok, stamp_says, word_ok}
-use Rattle.nam_locks.proofs.RowLemmas.{written_apart}
-use Rattle.nam_locks.proofs.HolderLemmas.{acts}
-use Rattle.nam_locks.proofs.HolderKinds.{releases, seizes, works}
-use Rattle.nam_locks.specs.Kinds.{left_behind, one_more, working}
 
 module _ (shape : Shape) (limits : FitsLimits shape) (m now : Field → ℕ) (chains : ℕ → Chain) (holders : List Holder)
     (ok : AreHeld shape m chains holders) (nth : ℕ) (within : nth < shape.workers) (holder : Holder)

@@ -1,7 +1,7 @@
 -- What each kind of a commit's steps makes of its client as a holder.
+use Rattle.std.specs.Prelude.{Bool, [], false, ℕ, ◌++◌, ◌+◌, ◌∷◌}
 use Rattle.nam_ghost.specs.Holders.{Holder}
 use Rattle.nam_ghost.specs.Versions.{Chain}
-use Rattle.std.specs.Prelude.{Bool, [], false, ℕ, ◌++◌, ◌+◌, ◌∷◌}
 
 -- it has one lock more, under this header
 abbrev pub one_more : Holder → ℕ → Holder

@@ -1,28 +1,20 @@
 -- What is claimed of locks holds of each store that comes about, and what it comes to.
-use Rattle.nam_calls.specs.Memory.{memory}
+use Rattle.std.specs.Prelude.{List, Some, true, ℕ, ◌+◌, ◌≡◌}
 use Rattle.nam_catalog.specs.Fits.{FitsLimits}
 use Rattle.nam_catalog.specs.declared.shape.Shape.{Shape}
 use Rattle.nam_ghost.specs.Ghost.{Ghost, IsReachedWith, ghost_step, opening_ghost}
-use Rattle.nam_ghost.specs.Holders.{from_at, record_row}
-use Rattle.nam_ghost.specs.Locks.{LocksOk}
+use Rattle.nam_ghost.specs.Locks.{Lists, LocksOk, header_at}
 use Rattle.nam_header.specs.Flag.{holder_named}
 use Rattle.nam_header.specs.Header.{header_of}
 use Rattle.nam_header.specs.Stamp.{is_locked}
 use Rattle.nam_layout.specs.Address.{IsRow}
-use Rattle.nam_layout.specs.declared.field.Field.TheVariants.{Header}
-use Rattle.nam_protocol.specs.declared.client.CallPoint.TheVariants.{InTxn}
 use Rattle.nam_protocol.specs.declared.client.ClientState.{ClientState}
-use Rattle.nam_protocol.specs.declared.client.Open.{Open}
-use Rattle.nam_protocol.specs.declared.txn.CommitPoint.{CommitPoint}
-use Rattle.nam_protocol.specs.declared.txn.TxnPoint.TheVariants.{Committing}
 use Rattle.nam_store.specs.Base.{BaseOk}
 use Rattle.nam_store.specs.Everyone.{Someone}
 use Rattle.nam_store.specs.Opening.{AreLoaded, opening_store}
 use Rattle.nam_store.specs.Reached.{IsReached}
 use Rattle.nam_store.specs.Store.{StepsTo, Store, client_at}
-use Rattle.nam_verbs.specs.declared.now.Now.TheVariants.{At}
 use Rattle.si_model.specs.declared.row.Row.{Row}
-use Rattle.std.specs.Prelude.{List, Some, length, true, ℕ, ◌+◌, ◌<◌, ◌≡◌, ◌≤◌}
 
 -- 1. The claims
 
@@ -40,21 +32,6 @@ ReachedLaw = (shape : Shape) → FitsLimits shape → (rows : List Row) → AreL
     → (ghost : Ghost) → IsReachedWith shape rows store ghost → LocksOk shape store ghost.chains
 
 -- 2. In words of clients and headers alone
-
--- the client runs a commit that has locked the row's record, and has neither given the lock back nor written the new
--- header
-pub record Lists (row : ℕ) (client : ClientState) : Type 0 where
-  pub at : CommitPoint
-  pub attempt : Open
-  pub runs : client.call ≡ Some (At (InTxn (Committing at)))
-  pub opened : client.txn ≡ Some attempt
-  pub number : ℕ
-  pub begins : from_at attempt.state at ≤ number
-  pub ends : number < length attempt.state.held
-  pub row_is : record_row attempt.state number ≡ row
-
-abbrev pub header_at : Shape → Store → ℕ → ℕ
-header_at shape store row = memory shape store.words (Header row)
 
 -- a locked header is listed by some client; in form Held the header names it
 abbrev pub LockedLaw : Type 0

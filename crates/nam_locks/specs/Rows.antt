@@ -1,10 +1,10 @@
 -- The words of current versions, row by row, and which of them a written word leaves as they were.
+use Rattle.std.specs.Prelude.{None, Option, Some, ℕ, ◌<◌, ◌≡◌, ◌≢◌}
 use Rattle.nam_catalog.specs.declared.shape.Shape.{Shape}
 use Rattle.nam_layout.specs.Address.{IsRow}
 use Rattle.nam_layout.specs.Rows.{width_at}
 use Rattle.nam_layout.specs.declared.field.Field.{Field}
 use Rattle.nam_layout.specs.declared.field.Field.TheVariants.{Count, Header, Word}
-use Rattle.std.specs.Prelude.{None, Option, Some, ℕ, ◌<◌, ◌≡◌, ◌≢◌}
 
 -- the row whose current version a word is of
 abbrev pub current_row : Field → Option ℕ

@@ -1,22 +1,10 @@
 -- Double collect: candidates stay ordered, where the vector doesn't fall and each of them was one or is new.
 use Rattle.std.proofs.Common.{List, arith, inl, inr, ℕ, ◌<◌, ◌≤◌}
-use Rattle.std.specs.Prelude.{slice_index}
-use Rattle.std.proofs.lemmas.Bool.{cases_lt}
+use Rattle.nam_ghost.proofs.ObserverLemmas.{unpassed_before}
 use Rattle.nam_ghost.specs.Moments.{AreFound, AreMoments, AreOrdered, HasGrown, IsUnpassed}
 
 module _ (start workers : ℕ) (V now : ℕ → ℕ) (Was Is : List ℕ → ℕ → Type 0)
     (rises : (a : ℕ) → a < workers → V a ≤ now a) where
-  -- the entries that were confirmed since then are not passed
-  abbrev pub Agrees : List ℕ → ℕ → ℕ → Type 0
-  Agrees s before confirmed = (a : ℕ) → before ≤ a → a < confirmed → now a ≤ slice_index s a
-
-  pub unpassed_before : (s : List ℕ) (before confirmed : ℕ) → Agrees s before confirmed
-      → IsUnpassed workers now s confirmed → IsUnpassed workers V s before
-  unpassed_before s before confirmed agrees unpassed a from less = elim (cases_lt a confirmed) [
-    | inl short ↦ let rose = rises a less in let at_most = agrees a from short in omega arith
-    | inr past ↦ let rose = rises a less in let at_most = unpassed a past less in omega arith
-  ]
-
   module _ (moments : AreMoments start workers V Was)
       (grown : (s : List ℕ) (confirmed : ℕ) → Is s confirmed → HasGrown start workers now Was s confirmed) where
     within_by : (s : List ℕ) (confirmed : ℕ) → HasGrown start workers now Was s confirmed
@@ -29,7 +17,8 @@ module _ (start workers : ℕ) (V now : ℕ → ℕ) (Was Is : List ℕ → ℕ 
     ordered_by : (s t : List ℕ) (k l : ℕ) → HasGrown start workers now Was s k → HasGrown start workers now Was t l
         → IsUnpassed workers now s k → IsUnpassed workers now t l → AreOrdered workers s t
     ordered_by s t k l (inl (j, was, agrees)) (inl (i, other, agree)) u v =
-        moments.ordered s t j i was other (unpassed_before s j k agrees u) (unpassed_before t i l agree v)
+        moments.ordered s t j i was other (unpassed_before workers V now rises s j k agrees u)
+        (unpassed_before workers V now rises t i l agree v)
     ordered_by s t k l (inl (j, was, agrees)) (inr (none, found)) u v =
         inl (λ a less. let at_most = v a (omega arith) less in
         let own = within_by s k (inl (j, was, agrees)) a less in let found = own.1 in omega arith)

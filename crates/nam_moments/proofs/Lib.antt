@@ -2,7 +2,6 @@ pub mod CandidateLemmas
 pub mod NextLemmas
 pub mod SnapLemmas
 pub mod ViewLemmas
-pub mod EntryLemmas
 pub mod StepLemmas
 pub mod OpeningLemmas
 pub mod SnapshotLemmas

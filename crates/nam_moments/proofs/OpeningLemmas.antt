@@ -1,29 +1,19 @@
 -- The opening of a store meets what is claimed of the moments of snapshots: each entry is the start, and nobody has
 -- taken a snapshot.
-use Rattle.std.proofs.Common.{List, Some, [], ap, arith, refl, subst, suc, sym, zero, ℕ, ◌+◌, ◌<◌, ◌∙◌}
-use Rattle.std.proofs.Common.{inl, inr, map, ◌∷◌, ◌≡◌}
-use Rattle.std.specs.Prelude.{slice_get}
+use Rattle.std.proofs.Common.{List, Some, ap, arith, inl, inr, map, subst, sym, ℕ, ◌+◌, ◌<◌, ◌∙◌, ◌≡◌}
 use Rattle.std.proofs.lemmas.List.{length-map}
-use Rattle.std.proofs.lemmas.Option.{none-some, same_Some}
-use Rattle.si_model.specs.declared.row.Row.{Row}
+use Rattle.std.specs.Prelude.{slice_get}
 use Rattle.nam_catalog.specs.declared.shape.Shape.{Shape}
+use Rattle.nam_ghost.proofs.ObserverLemmas.{observed_client}
+use Rattle.nam_ghost.specs.Moments.{IsCandidate, IsCandidateOf, Observer, ObserverOk, entry_in, observer_of}
 use Rattle.nam_layout.specs.declared.field.Field.TheVariants.{Entry}
-use Rattle.nam_protocol.specs.declared.client.ClientState.{ClientState}
-use Rattle.nam_protocol.specs.Telling.{new_client}
+use Rattle.nam_moments.specs.MomentsLaw.{OpensLaw}
 use Rattle.nam_protocol.proofs.OpeningLemmas.{opening_law}
+use Rattle.nam_protocol.specs.Telling.{new_client}
+use Rattle.nam_store.proofs.OpeningLemmas.{new_workers, opening_client}
 use Rattle.nam_store.specs.Opening.{AreLoaded, opening_store}
 use Rattle.nam_store.specs.Store.{Store}
-use Rattle.nam_store.proofs.OpeningLemmas.{new_workers, opening_client}
-use Rattle.nam_ghost.specs.Moments.{IsCandidate, IsCandidateOf, Observer, ObserverOk, observer_of}
-use Rattle.nam_moments.specs.MomentsLaw.{OpensLaw, entry_in}
-
--- an observer in the list is some client
-pub observed_client : (clients : List ClientState) (nth : ℕ) (observer : Observer)
-    → slice_get (map observer_of clients) nth ≡ Some observer
-    → (client : ClientState) × (slice_get clients nth ≡ Some client) × (observer_of client ≡ observer)
-observed_client [] nth observer e = absurd (none-some observer e)
-observed_client (c ∷ cs) zero observer e = (c, refl, same_Some (observer_of c) observer e)
-observed_client (c ∷ cs) (suc nth) observer e = observed_client cs nth observer e
+use Rattle.si_model.specs.declared.row.Row.{Row}
 
 module _ (shape : Shape) (rows : List Row) (loaded : AreLoaded shape rows) where
   abbrev store : Store

@@ -1,24 +1,23 @@
 -- What a step of a client owes as one of an observer of the vector: nothing new is seen, a snapshot begins, a number is
 -- published, or a word of a snapshot is taken.
-use Rattle.std.proofs.Common.{List, None, Some, [], ap, arith, inl, inr, le_of_eq, length, refl, subst, sym, ℕ}
-use Rattle.std.proofs.Common.{◌++◌, ◌+◌, ◌<◌, ◌∙◌, ◌∷◌, ◌≡◌, ◌≢◌, ◌≤◌, ◌⊎◌}
-use Rattle.std.specs.Prelude.{if◌then◌else◌, slice_get, slice_index, ◌==◌}
+use Rattle.std.proofs.Common.{List, None, Some, [], ap, arith, inl, inr, le_of_eq, length, refl, subst, sym, ℕ, ◌++◌}
+use Rattle.std.proofs.Common.{◌+◌, ◌<◌, ◌∙◌, ◌∷◌, ◌≡◌, ◌≢◌, ◌≤◌, ◌⊎◌}
 use Rattle.std.proofs.lemmas.Bool.{cases_lt}
 use Rattle.std.proofs.lemmas.List.{get_or_append_left, get_or_push, length_push}
-use Rattle.si_model.specs.Lists.{Listed}
-use Rattle.si_model.proofs.ListLemmas.{listed_append_cases}
-use Rattle.nam_verbs.specs.declared.now.Now.{Now}
-use Rattle.nam_verbs.specs.declared.now.Now.TheVariants.{At, Over}
-use Rattle.nam_verbs.proofs.TestLemmas.{by_equal}
+use Rattle.std.specs.Prelude.{if◌then◌else◌, slice_get, slice_index, ◌==◌}
+use Rattle.nam_ghost.specs.Moments.{AreFound, AreObservers, FindsOwn, HasGrown, IsCandidateOf, IsFollowing, IsPassing}
+use Rattle.nam_ghost.specs.Moments.{Observer, ObserverNext, ObserverOk, PassOk}
+use Rattle.nam_moments.proofs.NextLemmas.{observer_within}
+use Rattle.nam_vector.specs.Snap.{snap_after, snap_begin}
 use Rattle.nam_vector.specs.declared.snap.SnapEnd.{SnapEnd}
 use Rattle.nam_vector.specs.declared.snap.SnapEnd.TheVariants.{Again, Done}
 use Rattle.nam_vector.specs.declared.snap.SnapPoint.{SnapPoint}
 use Rattle.nam_vector.specs.declared.snap.SnapPoint.TheVariants.{First, Second}
-use Rattle.nam_vector.specs.Snap.{snap_after, snap_begin}
-use Rattle.nam_ghost.specs.Moments.{FindsOwn}
-use Rattle.nam_ghost.specs.Moments.{AreFound, AreObservers, HasGrown, IsCandidateOf, IsFollowing, IsPassing}
-use Rattle.nam_ghost.specs.Moments.{Observer, ObserverNext, ObserverOk, PassOk}
-use Rattle.nam_moments.proofs.NextLemmas.{observer_within}
+use Rattle.nam_verbs.proofs.TestLemmas.{by_equal}
+use Rattle.nam_verbs.specs.declared.now.Now.{Now}
+use Rattle.nam_verbs.specs.declared.now.Now.TheVariants.{At, Over}
+use Rattle.si_model.proofs.ListLemmas.{listed_append_cases}
+use Rattle.si_model.specs.Lists.{Listed}
 
 -- 1. An observer after a step
 

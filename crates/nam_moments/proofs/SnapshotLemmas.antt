@@ -1,32 +1,32 @@
 -- What follows of the vector, of snapshots that were taken, and of one in its second pass.
-use Rattle.std.proofs.Common.{List, Some, ap, arith, inl, inr, length, map, option_map, refl, subst, sym, ℕ}
-use Rattle.std.proofs.Common.{◌-◌, ◌∙◌, ◌≡◌, ◌≤◌, ◌⊎◌}
-use Rattle.std.specs.Prelude.{slice_get, slice_index}
+use Rattle.std.proofs.Common.{List, Some, ap, arith, inl, inr, length, map, refl, subst, sym, ℕ, ◌-◌, ◌∙◌, ◌≡◌, ◌≤◌}
+use Rattle.std.proofs.Common.{◌⊎◌}
 use Rattle.std.proofs.lemmas.Bool.{cases_lt}
 use Rattle.std.proofs.lemmas.List.{get_or_past}
-use Rattle.std.proofs.lemmas.Option.{slice_get-map}
-use Rattle.si_model.proofs.SnapshotLemmas.{contains_is, contains_says}
-use Rattle.nam_verbs.specs.declared.now.Now.TheVariants.{Over}
+use Rattle.std.specs.Prelude.{slice_index}
 use Rattle.nam_catalog.specs.declared.shape.Shape.{Shape}
+use Rattle.nam_ghost.proofs.SnapshotLemmas.{entry_is, observer_at, observer_ok, taken_candidate, taken_found}
+use Rattle.nam_ghost.proofs.SnapshotLemmas.{taken_ordered, taken_wide}
+use Rattle.nam_ghost.specs.Moments.{AreFound, AreOrdered, AtMost, FindsOwn, IsCandidate, IsFollowing, IsPassing}
+use Rattle.nam_ghost.specs.Moments.{IsTaken, IsUnpassed, MomentsOk, PassOk, entry_in, number_now, observer_of, pass_of}
+use Rattle.nam_moments.proofs.OpeningLemmas.{opening_moments}
+use Rattle.nam_moments.proofs.SnapLemmas.{done_is}
+use Rattle.nam_moments.proofs.StepLemmas.{moments_kept}
+use Rattle.nam_moments.specs.MomentsLaw.{EntryLaw, ReachedLaw}
+use Rattle.nam_moments.specs.SnapshotsLaw.{AreSnapshots, IsContainedIn, SnapshotsLaw}
+use Rattle.nam_protocol.specs.Own.{OwnOpen}
+use Rattle.nam_protocol.specs.declared.client.ClientState.{ClientState}
+use Rattle.nam_protocol.specs.declared.client.Open.{Open}
+use Rattle.nam_store.proofs.ReachedLemmas.{reached_holds}
+use Rattle.nam_store.specs.Base.{BaseOk}
+use Rattle.nam_store.specs.Reached.{no_ghost}
+use Rattle.nam_store.specs.Store.{Store, client_at}
+use Rattle.nam_vector.specs.Snap.{snap_after}
 use Rattle.nam_vector.specs.declared.snap.SnapEnd.TheVariants.{Done}
 use Rattle.nam_vector.specs.declared.snap.SnapPoint.{SnapPoint}
 use Rattle.nam_vector.specs.declared.snap.SnapPoint.TheVariants.{Second}
-use Rattle.nam_vector.specs.Snap.{snap_after}
-use Rattle.nam_protocol.specs.declared.client.ClientState.{ClientState}
-use Rattle.nam_protocol.specs.declared.client.Open.{Open}
-use Rattle.nam_protocol.specs.Own.{OwnOpen}
-use Rattle.nam_store.specs.Reached.{no_ghost}
-use Rattle.nam_store.specs.Store.{Store, client_at}
-use Rattle.nam_store.specs.Base.{BaseOk}
-use Rattle.nam_store.proofs.ReachedLemmas.{reached_holds}
-use Rattle.nam_ghost.specs.Moments.{AreOrdered, AtMost, IsCandidate, MomentsOk, ObserverOk, number_now}
-use Rattle.nam_ghost.specs.Moments.{AreFound, IsPassing, IsUnpassed, observer_of, pass_of}
-use Rattle.nam_ghost.specs.Moments.{FindsOwn, IsFollowing, PassOk}
-use Rattle.nam_moments.specs.MomentsLaw.{EntryLaw, ReachedLaw, entry_in}
-use Rattle.nam_moments.specs.SnapshotsLaw.{AreSnapshots, IsTaken, IsContainedIn, SnapshotsLaw}
-use Rattle.nam_moments.proofs.SnapLemmas.{done_is}
-use Rattle.nam_moments.proofs.OpeningLemmas.{opening_moments}
-use Rattle.nam_moments.proofs.StepLemmas.{moments_kept}
+use Rattle.nam_verbs.specs.declared.now.Now.TheVariants.{Over}
+use Rattle.si_model.proofs.SnapshotLemmas.{contains_is, contains_says}
 
 -- 1. Each store that comes about
 
@@ -57,43 +57,16 @@ either_contained workers s t long wide (inl most) = inl (contained_by workers s 
 either_contained workers s t long wide (inr most) = inr (contained_by workers t s wide most)
 
 module _ (shape : Shape) (store : Store) (ok : MomentsOk shape store) where
-  -- 3. A client as an observer
-
-  pub observer_at : (nth : ℕ) (client : ClientState) → client_at store nth ≡ Some client
-      → slice_get (map observer_of store.clients) nth ≡ Some (observer_of client)
-  observer_at nth client here = slice_get-map observer_of store.clients nth ∙ ap (option_map observer_of) here
-
-  pub observer_ok : (nth : ℕ) (client : ClientState) → client_at store nth ≡ Some client
-      → ObserverOk shape.start shape.workers (entry_in shape store) nth (observer_of client)
-  observer_ok nth client here = ok.each nth (observer_of client) (observer_at nth client here)
-
-  -- its entry is what it has published
-  pub entry_is : (nth : ℕ) (client : ClientState) → client_at store nth ≡ Some client
-      → entry_in shape store nth ≡ number_now client.call client.last
-  entry_is nth client here = (observer_ok nth client here).entry
-
-  -- 4. Snapshots that were taken
-
-  pub taken_candidate : (s : List ℕ) → IsTaken store s
-      → IsCandidate shape.workers (map observer_of store.clients) s shape.workers
-  taken_candidate s (nth, (client, (here, listed))) =
-      (nth, (observer_of client, (observer_at nth client here, inr (refl, listed))))
-
-  pub taken_wide : (s : List ℕ) → IsTaken store s → length s ≡ shape.workers
-  taken_wide s (nth, (client, (here, listed))) = (observer_ok nth client here).wide s listed
-
-  pub taken_ordered : (s t : List ℕ) → IsTaken store s → IsTaken store t → AreOrdered shape.workers s t
-  taken_ordered s t one two =
-      ok.moments.ordered s t shape.workers shape.workers (taken_candidate s one) (taken_candidate t two)
-      (λ a from less. absurd (omega arith)) (λ a from less. absurd (omega arith))
+  -- 3. Snapshots that were taken
 
   pub are_snapshots : AreSnapshots shape store
   are_snapshots = record {
-    wide = taken_wide;
-    published = λ s is. ok.moments.within s shape.workers (taken_candidate s is);
-    ordered = taken_ordered;
+    wide = taken_wide shape store ok;
+    published = taken_found shape store ok;
+    ordered = taken_ordered shape store ok;
     prefixes = λ s t one two.
-        either_contained shape.workers s t (taken_wide s one) (taken_wide t two) (taken_ordered s t one two);
+        either_contained shape.workers s t (taken_wide shape store ok s one) (taken_wide shape store ok t two)
+        (taken_ordered shape store ok s t one two);
   }
 
   -- that of an open transaction was taken
@@ -103,7 +76,7 @@ module _ (shape : Shape) (store : Store) (ok : MomentsOk shape store) where
       let own = subst (OwnOpen client.worker client.last client.log.snaps) at (base.clients nth client here).own.opened
       in (nth, (client, (here, own.listed)))
 
-  -- 5. A snapshot in its second pass, with so many entries confirmed
+  -- 4. A snapshot in its second pass, with so many entries confirmed
 
   module _ (nth : ℕ) (client : ClientState) (here : client_at store nth ≡ Some client) (s : List ℕ) (confirmed : ℕ)
       (at : pass_of client.call ≡ Some (Second s confirmed)) where
@@ -113,7 +86,7 @@ module _ (shape : Shape) (store : Store) (ok : MomentsOk shape store) where
       (
         observer_of client,
         (
-          observer_at nth client here,
+          observer_at store nth client here,
           inl (subst (λ pass. IsPassing pass s confirmed) (sym at) (refl, refl)),
         ),
       ),
@@ -126,7 +99,8 @@ module _ (shape : Shape) (store : Store) (ok : MomentsOk shape store) where
     pub passing_ordered : IsUnpassed shape.workers (entry_in shape store) s confirmed → (t : List ℕ) → IsTaken store t
         → AreOrdered shape.workers s t
     passing_ordered unpassed t taken =
-        ok.moments.ordered s t confirmed shape.workers passing_candidate (taken_candidate t taken) unpassed
+        ok.moments.ordered s t confirmed shape.workers passing_candidate
+        (taken_candidate store shape.workers t taken) unpassed
         (λ a from less. absurd (omega arith))
 
   -- one that its next word ends is no less than those that the client has taken, and has all that it has published
@@ -135,13 +109,13 @@ module _ (shape : Shape) (store : Store) (ok : MomentsOk shape store) where
       → snap_after shape.workers point found ≡ Over (Done seen)
       → IsFollowing shape.workers client.log.snaps seen × (slice_index seen nth ≡ number_now client.call client.last)
   done_has nth client here point at found seen e =
-      let own = observer_ok nth client here in
+      let own = observer_ok shape store ok nth client here in
       let done = done_is shape.workers point found seen e in
       let is : pass_of client.call ≡ Some (Second seen done.0) = at ∙ ap Some done.1 in
       let pass = subst (PassOk shape.start shape.workers (entry_in shape store) client.log.snaps) is own.pass in
       (pass.2, subst (FindsOwn nth (number_now client.call client.last)) is own.finds_own)
 
--- 6. The laws
+-- 5. The laws
 
 pub entry_law : EntryLaw
 entry_law shape limits rows loaded store reached =

@@ -1,24 +1,24 @@
 -- Each step of a store keeps what is claimed of the moments of snapshots.
-use Rattle.std.proofs.Common.{List, Some, ap, arith, length, map, option_map, refl, subst, sym, ℕ}
-use Rattle.std.proofs.Common.{◌+◌, ◌<◌, ◌∙◌, ◌≡◌, ◌≤◌}
-use Rattle.std.specs.Prelude.{slice_get, slice_set}
+use Rattle.std.proofs.Common.{List, Some, ap, arith, length, map, option_map, refl, subst, sym, ℕ, ◌+◌, ◌<◌, ◌∙◌, ◌≡◌}
 use Rattle.std.proofs.lemmas.List.{map-set}
 use Rattle.std.proofs.lemmas.Option.{slice_get-map}
-use Rattle.nam_verbs.specs.VerbAt.{found_at}
-use Rattle.nam_catalog.specs.declared.shape.Shape.{Shape}
-use Rattle.nam_layout.specs.declared.field.Field.TheVariants.{Entry}
-use Rattle.nam_vector.specs.declared.snap.SnapPoint.{SnapPoint}
-use Rattle.nam_vector.specs.declared.snap.SnapPoint.TheVariants.{First, Second}
-use Rattle.nam_vector.specs.Snap.{snap_after, snap_begin, snap_verb}
+use Rattle.std.specs.Prelude.{slice_get, slice_set}
 use Rattle.nam_calls.specs.Memory.{memory}
-use Rattle.nam_protocol.specs.declared.client.CallPoint.TheVariants.{Beginning, Snapping}
-use Rattle.nam_protocol.specs.declared.client.ClientState.{ClientState}
-use Rattle.nam_protocol.specs.declared.client.Open.{Open}
-use Rattle.nam_protocol.specs.declared.txn.CommitPoint.{CommitPoint}
-use Rattle.nam_protocol.specs.declared.txn.CommitPoint.TheVariants.{Checking, Clearing, Copying, Counting, Deciding}
-use Rattle.nam_protocol.specs.declared.txn.CommitPoint.TheVariants.{Ending, Freeing, Installing, Listing, Locking}
-use Rattle.nam_protocol.specs.declared.txn.CommitPoint.TheVariants.{Publishing, Returning, Saving}
-use Rattle.nam_protocol.specs.Client.{client_abandon, client_after, client_ask, on_begin, on_snap}
+use Rattle.nam_catalog.specs.declared.shape.Shape.{Shape}
+use Rattle.nam_ghost.proofs.EntryLemmas.{IsNoEntry, IsPublishing, commit_no_entry, entry_one}
+use Rattle.nam_ghost.proofs.IdleLemmas.{rests_aside}
+use Rattle.nam_ghost.proofs.SnapshotLemmas.{entries_go}
+use Rattle.nam_ghost.proofs.SteppingLemmas.{others_same, stepper_here}
+use Rattle.nam_ghost.specs.Moments.{AreObservers, MomentsOk, Observer, ObserverNext, observer_of, vector_of}
+use Rattle.nam_ghost.specs.Stepping.{stepper_after, stepper_before, stepping}
+use Rattle.nam_layout.specs.declared.field.Field.TheVariants.{Entry}
+use Rattle.nam_moments.proofs.NextLemmas.{observers_keep}
+use Rattle.nam_moments.proofs.SnapLemmas.{aside, aside_next, beginning, begins_next, entry_of, observed, publishes_next}
+use Rattle.nam_moments.proofs.SnapLemmas.{snap_next, stays_next}
+use Rattle.nam_moments.proofs.ViewLemmas.{abandoned_observed, asked_observed, begin_observed, begins_observed}
+use Rattle.nam_moments.proofs.ViewLemmas.{commit_observed, plain_observed, publish_observed, snap_observed}
+use Rattle.nam_moments.specs.MomentsLaw.{KeepsLaw, NextLaw, RisesLaw}
+use Rattle.nam_protocol.specs.Client.{client_abandon, client_ask, on_begin, on_snap}
 use Rattle.nam_protocol.specs.Commit.{ask_commit, commit_after}
 use Rattle.nam_protocol.specs.CutClient.{client_cut}
 use Rattle.nam_protocol.specs.Own.{Rests}
@@ -26,21 +26,23 @@ use Rattle.nam_protocol.specs.Plain.{IsAside, Plain}
 use Rattle.nam_protocol.specs.Sorts.{AskOf, AsksBegin, AsksCollect, AsksCommit, AsksPlain, Begins, Collects, Commits}
 use Rattle.nam_protocol.specs.Sorts.{Finds, Moves, Reads, Snaps, StepOf, committing_at}
 use Rattle.nam_protocol.specs.Telling.{go, stepped}
+use Rattle.nam_protocol.specs.declared.client.CallPoint.TheVariants.{Beginning, Snapping}
+use Rattle.nam_protocol.specs.declared.client.ClientState.{ClientState}
+use Rattle.nam_protocol.specs.declared.client.Open.{Open}
+use Rattle.nam_protocol.specs.declared.txn.CommitPoint.{CommitPoint}
+use Rattle.nam_protocol.specs.declared.txn.CommitPoint.TheVariants.{Checking, Clearing, Copying, Counting, Deciding}
+use Rattle.nam_protocol.specs.declared.txn.CommitPoint.TheVariants.{Ending, Freeing, Installing, Listing, Locking}
+use Rattle.nam_protocol.specs.declared.txn.CommitPoint.TheVariants.{Publishing, Returning, Saving}
+use Rattle.nam_store.proofs.BaseLemmas.{asked_sort, does_law, step_sort, words_stay}
+use Rattle.nam_store.proofs.KindsLemmas.{AllWritten, finds_aside, finds_write, reads_aside, reads_write}
 use Rattle.nam_store.specs.Base.{BaseOk, ClientOk}
 use Rattle.nam_store.specs.Changed.{Does}
 use Rattle.nam_store.specs.Kinds.{Writes}
-use Rattle.nam_store.specs.Store.{Abandons, Asks, Cuts, Store, StepsTo, Takes, client_at, found_word, step}
-use Rattle.nam_store.proofs.BaseLemmas.{asked_sort, does_law, step_sort, words_stay}
-use Rattle.nam_store.proofs.KindsLemmas.{AllWritten, finds_aside, finds_write, reads_aside, reads_write}
-use Rattle.nam_ghost.specs.Moments.{AreObservers, MomentsOk, Observer, ObserverNext, observer_of, vector_of}
-use Rattle.nam_moments.specs.MomentsLaw.{KeepsLaw, RisesLaw}
-use Rattle.nam_moments.proofs.EntryLemmas.{IsNoEntry, commit_no_entry, entry_one}
-use Rattle.nam_moments.proofs.NextLemmas.{entries_rise, observers_keep}
-use Rattle.nam_moments.proofs.SnapLemmas.{aside_next, begins_next, entry_of, publishes_next, snap_next, stays_next}
-use Rattle.nam_moments.proofs.SnapLemmas.{aside, beginning, observed}
-use Rattle.nam_moments.proofs.ViewLemmas.{IsPublishing, abandoned_observed, asked_observed, begin_observed}
-use Rattle.nam_moments.proofs.ViewLemmas.{begins_observed, commit_observed, plain_observed, publish_observed}
-use Rattle.nam_moments.proofs.ViewLemmas.{rests_aside, snap_observed}
+use Rattle.nam_store.specs.Store.{Abandons, Asks, Cuts, Store, Takes, client_at, found_word, step}
+use Rattle.nam_vector.specs.Snap.{snap_after, snap_begin, snap_verb}
+use Rattle.nam_vector.specs.declared.snap.SnapPoint.{SnapPoint}
+use Rattle.nam_vector.specs.declared.snap.SnapPoint.TheVariants.{First, Second}
+use Rattle.nam_verbs.specs.VerbAt.{found_at}
 
 module _ (shape : Shape) (store : Store) (base : BaseOk shape store) (ok : MomentsOk shape store) (nth : ℕ) where
   abbrev vector : List ℕ → ℕ → ℕ
@@ -161,7 +163,7 @@ module _ (shape : Shape) (store : Store) (base : BaseOk shape store) (ok : Momen
     commit_kept (Clearing refusal) = other_kept (Clearing refusal) (λ e. e)
     commit_kept Ending = other_kept Ending (λ e. e)
 
-  pub word_next : (before after : ClientState) → StepOf shape (found_word shape store before) before after
+  word_next : (before after : ClientState) → StepOf shape (found_word shape store before) before after
       → client_at store nth ≡ Some before → Does shape store nth before → ClientOk shape nth before
       → Next (words_after before) before after
   word_next _ _ (Finds client place is plain reads) here does own =
@@ -199,7 +201,7 @@ module _ (shape : Shape) (store : Store) (base : BaseOk shape store) (ok : Momen
       (begins_next shape.start shape.workers (vector store.words) observers ok nth (observer_of before)
       (seen_here before here))
 
-  pub asked_next : (before after : ClientState) → AskOf shape before after → client_at store nth ≡ Some before
+  asked_next : (before after : ClientState) → AskOf shape before after → client_at store nth ≡ Some before
       → Rests before.call → Next store.words before after
   asked_next _ _ (AsksPlain client asked plain reads) here rests =
       let after = client_ask shape client asked in
@@ -218,7 +220,7 @@ module _ (shape : Shape) (store : Store) (base : BaseOk shape store) (ok : Momen
 
   -- 3. Nothing is seen of it
 
-  pub same_next : (before : ClientState) → client_at store nth ≡ Some before → (after : ClientState)
+  same_next : (before : ClientState) → client_at store nth ≡ Some before → (after : ClientState)
       → observer_of after ≡ observer_of before → Next store.words before after
   same_next before here after is =
       subst (NextOf store.words before) (sym is)
@@ -227,75 +229,34 @@ module _ (shape : Shape) (store : Store) (base : BaseOk shape store) (ok : Momen
 
   -- 4. What the client's step owes keeps the store
 
-  pub next_keeps : (words : List ℕ) (before after : ClientState) → client_at store nth ≡ Some before
+  next_keeps : (words : List ℕ) (before after : ClientState) → client_at store nth ≡ Some before
       → Next words before after → MomentsOk shape record { words = words; clients = slice_set store.clients nth after }
   next_keeps words before after here next =
       subst (AreObservers shape.start shape.workers (vector words)) (sym (map-set observer_of store.clients nth after))
       (observers_keep shape.start shape.workers (vector store.words) observers ok nth (observer_of before)
       (seen_here before here) (vector words) (observer_of after) next)
 
-  pub next_rises : (words : List ℕ) (before after : ClientState) → client_at store nth ≡ Some before
-      → Next words before after → (a : ℕ) → a < shape.workers → vector store.words a ≤ vector words a
-  next_rises words before after here next =
-      entries_rise shape.start shape.workers (vector store.words) observers ok nth (observer_of before)
-      (seen_here before here) (vector words) (observer_of after) next
-
 -- 5. One step
 
--- what a step owes, and whose it is
-pub record StepNext (shape : Shape) (store later : Store) : Type 0 where
-  pub nth : ℕ
-  pub before : ClientState
-  pub after : ClientState
-  pub here : client_at store nth ≡ Some before
-  pub clients : later.clients ≡ slice_set store.clients nth after
-  pub next : ObserverNext shape.start shape.workers (vector_of (memory shape store.words))
-      (vector_of (memory shape later.words)) nth (observer_of before) (observer_of after)
-
-pub step_next : (shape : Shape) (before after : Store) → StepsTo shape before after → BaseOk shape before
-    → MomentsOk shape before → StepNext shape before after
-step_next shape store _ (Takes nth client place here runs at) base ok = record {
-  nth = nth;
-  before = client;
-  after = client_after shape client (found_word shape store client);
-  here = here;
-  clients = refl;
-  next = word_next shape store base ok nth client _ (step_sort shape store base nth client here place at) here
-      (does_law shape store base nth client place here at) (base.clients nth client here);
-}
-step_next shape store _ (Asks nth client asked here may words) base ok = record {
-  nth = nth;
-  before = client;
-  after = client_ask shape client asked;
-  here = here;
-  clients = refl;
-  next = asked_next shape store base ok nth client _ (asked_sort shape store base nth client here asked may) here
-      may.rests;
-}
-step_next shape store _ (Abandons nth client here rests) base ok = record {
-  nth = nth;
-  before = client;
-  after = client_abandon client;
-  here = here;
-  clients = refl;
-  next = same_next shape store base ok nth client here (client_abandon client) (abandoned_observed client);
-}
-step_next shape store _ (Cuts nth client here) base ok = record {
-  nth = nth;
-  before = client;
-  after = client_cut client;
-  here = here;
-  clients = refl;
-  next = same_next shape store base ok nth client here (client_cut client) refl;
-}
+pub moments_next : NextLaw
+moments_next shape store _ (Takes nth client place here runs at) base ok =
+    word_next shape store base ok nth client _ (step_sort shape store base nth client here place at) here
+    (does_law shape store base nth client place here at) (base.clients nth client here)
+moments_next shape store _ (Asks nth client asked here may words) base ok =
+    asked_next shape store base ok nth client _ (asked_sort shape store base nth client here asked may) here may.rests
+moments_next shape store _ (Abandons nth client here rests) base ok =
+    same_next shape store base ok nth client here (client_abandon client) (abandoned_observed client)
+moments_next shape store _ (Cuts nth client here) base ok =
+    same_next shape store base ok nth client here (client_cut client) refl
 
 pub moments_kept : KeepsLaw
 moments_kept shape before after goes base ok =
-    let step = step_next shape before after goes base ok in
-    subst (λ clients. MomentsOk shape record { words = after.words; clients = clients }) (sym step.clients)
-    (next_keeps shape before base ok step.nth after.words step.before step.after step.here step.next)
+    subst (λ clients. MomentsOk shape record { words = after.words; clients = clients })
+    (sym (others_same shape before after goes))
+    (next_keeps shape before base ok (stepping shape before after goes) after.words
+    (stepper_before shape before after goes) (stepper_after shape before after goes)
+    (stepper_here shape before after goes) (moments_next shape before after goes base ok))
 
 pub vector_rises : RisesLaw
-vector_rises shape before after goes base ok nth less =
-    let step = step_next shape before after goes base ok in
-    next_rises shape before base ok step.nth after.words step.before step.after step.here step.next nth less
+vector_rises shape before after goes base ok =
+    entries_go shape before after goes ok (moments_next shape before after goes base ok)

@@ -1,13 +1,21 @@
 -- What a client is as an observer of the vector, after each sort of step, and after what it is asked.
-use Rattle.std.proofs.Common.{None, Option, Some, ap, cond, false, length, refl, sym, ℕ, ◌+◌}
-use Rattle.std.proofs.Common.{◌∙◌, ◌≡◌}
-use Rattle.nam_verbs.specs.declared.now.Now.{Now}
-use Rattle.nam_verbs.specs.declared.now.Now.TheVariants.{At, Over}
-use Rattle.nam_catalog.specs.declared.shape.Shape.{Shape}
-use Rattle.nam_vector.specs.declared.snap.SnapEnd.{SnapEnd}
-use Rattle.nam_vector.specs.declared.snap.SnapEnd.TheVariants.{Again, Done}
-use Rattle.nam_vector.specs.declared.snap.SnapPoint.{SnapPoint}
+use Rattle.std.proofs.Common.{None, Option, Some, ap, cond, false, length, refl, sym, ℕ, ◌+◌, ◌∙◌, ◌≡◌}
 use Rattle.nam_calls.specs.declared.lock.LockPoint.{LockPoint}
+use Rattle.nam_catalog.specs.declared.shape.Shape.{Shape}
+use Rattle.nam_ghost.proofs.EntryLemmas.{IsPublishing}
+use Rattle.nam_ghost.proofs.IdleLemmas.{rests_aside}
+use Rattle.nam_ghost.specs.Moments.{Observer, has_published, observer_of, pass_of}
+use Rattle.nam_moments.proofs.SnapLemmas.{aside, beginning, observed}
+use Rattle.nam_protocol.proofs.GoesCommit.{ask_commit_goes, next_count_goes, next_free_goes, on_copy_goes}
+use Rattle.nam_protocol.proofs.GoesCommit.{on_install_goes, on_list_goes, on_lock_goes, on_return_goes, on_slot_goes}
+use Rattle.nam_protocol.proofs.GoesCommit.{on_words_goes, refused_goes}
+use Rattle.nam_protocol.specs.Client.{abandon_open, client_abandon, on_begin, on_snap}
+use Rattle.nam_protocol.specs.Commit.{ask_commit, commit_after, lock_at, refusal_answer, refused}
+use Rattle.nam_protocol.specs.Own.{Rests}
+use Rattle.nam_protocol.specs.Plain.{IsAside, Plain}
+use Rattle.nam_protocol.specs.Sorts.{committing_at}
+use Rattle.nam_protocol.specs.Telling.{go, stepped}
+use Rattle.nam_protocol.specs.Txn.{Stepped, over}
 use Rattle.nam_protocol.specs.declared.client.Answer.{Answer}
 use Rattle.nam_protocol.specs.declared.client.CallPoint.{CallPoint}
 use Rattle.nam_protocol.specs.declared.client.CallPoint.TheVariants.{Beginning, InTxn, Snapping}
@@ -18,21 +26,14 @@ use Rattle.nam_protocol.specs.declared.txn.CommitPoint.TheVariants.{Checking, Cl
 use Rattle.nam_protocol.specs.declared.txn.CommitPoint.TheVariants.{Ending, Freeing, Installing, Listing, Locking}
 use Rattle.nam_protocol.specs.declared.txn.CommitPoint.TheVariants.{Publishing, Returning, Saving}
 use Rattle.nam_protocol.specs.declared.txn.Refusal.{Refusal}
-use Rattle.nam_protocol.specs.declared.txn.Refusal.TheVariants as refusal
 use Rattle.nam_protocol.specs.declared.txn.TxnAnswer.TheVariants.{Committed}
 use Rattle.nam_protocol.specs.declared.txn.TxnPoint.TheVariants.{Committing}
-use Rattle.nam_protocol.specs.Client.{abandon_open, client_abandon, on_begin, on_snap}
-use Rattle.nam_protocol.specs.Commit.{ask_commit, commit_after, lock_at, refusal_answer, refused}
-use Rattle.nam_protocol.specs.Own.{Rests}
-use Rattle.nam_protocol.specs.Plain.{IsAside, Plain}
-use Rattle.nam_protocol.specs.Sorts.{committing_at}
-use Rattle.nam_protocol.specs.Telling.{go, stepped}
-use Rattle.nam_protocol.specs.Txn.{Stepped, over}
-use Rattle.nam_protocol.proofs.GoesCommit.{ask_commit_goes, next_count_goes, next_free_goes, on_copy_goes}
-use Rattle.nam_protocol.proofs.GoesCommit.{on_install_goes, on_list_goes, on_lock_goes, on_return_goes, on_slot_goes}
-use Rattle.nam_protocol.proofs.GoesCommit.{on_words_goes, refused_goes}
-use Rattle.nam_ghost.specs.Moments.{Observer, has_published, observer_of, pass_of}
-use Rattle.nam_moments.proofs.SnapLemmas.{aside, beginning, observed}
+use Rattle.nam_vector.specs.declared.snap.SnapEnd.{SnapEnd}
+use Rattle.nam_vector.specs.declared.snap.SnapEnd.TheVariants.{Again, Done}
+use Rattle.nam_vector.specs.declared.snap.SnapPoint.{SnapPoint}
+use Rattle.nam_verbs.specs.declared.now.Now.{Now}
+use Rattle.nam_verbs.specs.declared.now.Now.TheVariants.{At, Over}
+use Rattle.nam_protocol.specs.declared.txn.Refusal.TheVariants as refusal
 
 -- 1. A snapshot's word
 
@@ -65,11 +66,6 @@ aside_unpublished (Some (Over answer)) is = refl
 aside_unpublished (Some (At (InTxn (Committing at)))) is = absurd is
 aside_unpublished (Some (At (InTxn _))) is = refl
 aside_unpublished (Some (At _)) is = refl
-
-pub rests_aside : (call : Option (Now CallPoint Answer)) → Rests call → IsAside call
-rests_aside None rests = tt
-rests_aside (Some (Over answer)) rests = tt
-rests_aside (Some (At place)) rests = absurd rests
 
 pub plain_observed : (before after : ClientState) → IsAside before.call → Plain before after
     → observer_of after ≡ aside (observer_of before)
@@ -117,10 +113,6 @@ pub abandoned_observed : (client : ClientState) → observer_of (client_abandon 
 abandoned_observed client = abandoned_at client client.txn
 
 -- 4. A commit's word
-
-abbrev pub IsPublishing : CommitPoint → Type 0
-IsPublishing Publishing = Unit {0}
-IsPublishing _ = ⊥
 
 module _ (client : ClientState) (attempt : Open) (taken : ℕ) (last_is : attempt.state.last ≡ client.last) where
   abbrev at_commit : CommitPoint → ClientState

@@ -1,23 +1,15 @@
 -- Snapshots that were taken, and the commits that they contain: of any two, one contains all that the other contains.
 -- So there is an order of the commits of which each of them contains a prefix.
 use Rattle.std.specs.Prelude.{IsTrue, List, length, ℕ, ◌≡◌, ◌⊎◌}
-use Rattle.si_model.specs.declared.log.Stamp.{Stamp}
-use Rattle.si_model.specs.declared.row.Row.{Row}
-use Rattle.si_model.specs.Lists.{Listed}
-use Rattle.si_model.specs.Snapshots.{contains}
 use Rattle.nam_catalog.specs.Fits.{FitsLimits}
 use Rattle.nam_catalog.specs.declared.shape.Shape.{Shape}
-use Rattle.nam_protocol.specs.declared.client.ClientState.{ClientState}
-use Rattle.nam_store.specs.Everyone.{Someone}
+use Rattle.nam_ghost.specs.Moments.{AreFound, AreOrdered, IsTaken, entry_in}
 use Rattle.nam_store.specs.Opening.{AreLoaded}
 use Rattle.nam_store.specs.Reached.{IsReached}
 use Rattle.nam_store.specs.Store.{Store}
-use Rattle.nam_ghost.specs.Moments.{AreFound, AreOrdered}
-use Rattle.nam_moments.specs.MomentsLaw.{entry_in}
-
--- some client has taken it, for a transaction or for a collection
-abbrev pub IsTaken : Store → List ℕ → Type 0
-IsTaken store snapshot = Someone (λ nth (client : ClientState). Listed snapshot client.log.snaps) store.clients
+use Rattle.si_model.specs.Snapshots.{contains}
+use Rattle.si_model.specs.declared.log.Stamp.{Stamp}
+use Rattle.si_model.specs.declared.row.Row.{Row}
 
 -- each commit that the first contains the second contains too
 abbrev pub IsContainedIn : List ℕ → List ℕ → Type 0

@@ -1,6 +1,6 @@
 //! What holds of the vector, and of the snapshots that were taken of it.
 
-ghost use Rattle.nam_moments.specs.MomentsLaw.{EntryLaw, KeepsLaw, OpensLaw, ReachedLaw, RisesLaw};
+ghost use Rattle.nam_moments.specs.MomentsLaw.{EntryLaw, KeepsLaw, NextLaw, OpensLaw, ReachedLaw, RisesLaw};
 ghost use Rattle.nam_moments.specs.SnapshotsLaw.{SnapshotsLaw};
 
 /// Snapshots are moments of the vector (`MomentsOk`), whatever the clients of a store do one after another.
@@ -11,10 +11,12 @@ ghost use Rattle.nam_moments.specs.SnapshotsLaw.{SnapshotsLaw};
 /// the same client has taken before, and that of the client's own worker is the number that it has published.
 ///
 /// The opening has it, with any rows that may be loaded, and each verb, each call that may be asked, each transaction
-/// that is given up and each stop keeps it in a store that meets what is said of every store.
+/// that is given up and each stop keeps it in a store that meets what is said of every store, and owes all others what
+/// they rely on (`next`).
 pub fn moments_law()
     ensures opening { OpensLaw }
     ensures step { KeepsLaw }
+    ensures next { NextLaw }
     ensures reached { ReachedLaw }
 {}
 

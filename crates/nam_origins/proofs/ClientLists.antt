@@ -1,21 +1,20 @@
 -- What one client lists after its step: of a step that publishes nothing, and of a commit's word.
-use Rattle.std.proofs.Common.{List, Some, [], ap, subst, sym, ℕ, ◌++◌}
-use Rattle.std.proofs.Common.{◌+◌, ◌<◌, ◌∙◌, ◌∷◌, ◌≡◌}
+use Rattle.std.proofs.Common.{List, Some, [], ap, subst, sym, ℕ, ◌++◌, ◌+◌, ◌<◌, ◌∙◌, ◌∷◌, ◌≡◌}
 use Rattle.std.proofs.lemmas.List.{append-nil}
 use Rattle.nam_catalog.specs.declared.shape.Shape.{Shape}
-use Rattle.nam_header.specs.Header.{flag}
-use Rattle.nam_layout.specs.Address.{IsRow}
-use Rattle.nam_layout.specs.declared.field.Field.{Field}
 use Rattle.nam_ghost.specs.Keys.{KeysNext}
 use Rattle.nam_ghost.specs.Moments.{has_published}
 use Rattle.nam_ghost.specs.Origins.{AreListed, IsListedAs, listed_commits}
 use Rattle.nam_ghost.specs.Publications.{Publication, publication_of}
-use Rattle.nam_origins.specs.Lists.{LogGoes, Matches}
-use Rattle.nam_origins.specs.Logs.{LogOk, pending}
+use Rattle.nam_header.specs.Header.{flag}
+use Rattle.nam_layout.specs.Address.{IsRow}
+use Rattle.nam_layout.specs.declared.field.Field.{Field}
 use Rattle.nam_origins.proofs.CommitLists.{Frees, LateGoes, Lists}
 use Rattle.nam_origins.proofs.LogKinds.{listed_commit}
 use Rattle.nam_origins.proofs.LogLemmas.{listed_goes, log_goes}
 use Rattle.nam_origins.proofs.MatchLemmas.{matches_listed, matches_still}
+use Rattle.nam_origins.specs.Lists.{LogGoes, Matches}
+use Rattle.nam_origins.specs.Logs.{LogOk, pending}
 use Rattle.nam_protocol.specs.Sorts.{committing_at}
 use Rattle.nam_protocol.specs.declared.client.ClientState.{ClientState}
 use Rattle.nam_protocol.specs.declared.client.Open.{Open}

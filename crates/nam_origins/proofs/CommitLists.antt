@@ -1,11 +1,13 @@
 -- What a commit's log lists with each word: nothing before it has published, and itself with its answer after that.
-use Rattle.std.proofs.Common.{Bool, Some, [], ap, false, refl, subst, sym, true, ℕ, ⊎_elim}
-use Rattle.std.proofs.Common.{◌+◌, ◌∷◌, ◌≡◌}
+use Rattle.std.proofs.Common.{Bool, Some, [], ap, false, refl, subst, sym, true, ℕ, ⊎_elim, ◌+◌, ◌∷◌, ◌≡◌}
 use Rattle.nam_ghost.specs.Moments.{has_published}
-use Rattle.nam_origins.specs.Lists.{LogGoes}
 use Rattle.nam_origins.proofs.CommitOrigins.{IsEarly, early_unpublished, publishes}
 use Rattle.nam_origins.proofs.LogKinds.{listed_commit, log_commits}
 use Rattle.nam_origins.proofs.LogTxns.{StepsSilent, stepped_log}
+use Rattle.nam_origins.specs.Lists.{LogGoes}
+use Rattle.nam_protocol.proofs.GoesClient.{step_opens}
+use Rattle.nam_protocol.proofs.GoesCommit.{EndsAs, commit_goes}
+use Rattle.nam_protocol.proofs.GoesTxn.{IsSilent}
 use Rattle.nam_protocol.specs.Commit.{commit_after, refusal_answer}
 use Rattle.nam_protocol.specs.Telling.{stepped}
 use Rattle.nam_protocol.specs.Txn.{Stepped}
@@ -21,9 +23,6 @@ use Rattle.nam_protocol.specs.declared.txn.TxnAnswer.{TxnAnswer}
 use Rattle.nam_protocol.specs.declared.txn.TxnAnswer.TheVariants.{Committed}
 use Rattle.nam_protocol.specs.declared.txn.TxnPoint.{TxnPoint}
 use Rattle.nam_protocol.specs.declared.txn.TxnState.{TxnState}
-use Rattle.nam_protocol.proofs.GoesClient.{step_opens}
-use Rattle.nam_protocol.proofs.GoesCommit.{EndsAs, commit_goes}
-use Rattle.nam_protocol.proofs.GoesTxn.{IsSilent}
 use Rattle.nam_verbs.specs.declared.now.Now.{Now}
 use Rattle.nam_verbs.specs.declared.now.Now.TheVariants.{At, Over}
 use Rattle.nam_protocol.specs.declared.txn.Refusal.TheVariants as refusal

@@ -1,14 +1,25 @@
 -- Each word that a commit takes keeps origins: a version comes only with the header of an installation, and what is
 -- done stays so, or is published.
-use Rattle.std.proofs.Common.{Bool, List, Some, [], ap, arith, false, inl, inr, refl, subst, sym, true, ℕ, ⊎_elim}
-use Rattle.std.proofs.Common.{◌++◌, ◌+◌, ◌<◌, ◌==◌, ◌∙◌, ◌∷◌, ◌≡◌, ◌≤◌, ◌≢◌, ◌⊎◌}
-use Rattle.std.specs.Prelude.{length, slice_get}
+use Rattle.std.proofs.Common.{Bool, List, Some, [], ap, arith, false, inl, inr, refl, subst, sym, true, ℕ, ⊎_elim, ◌++◌}
+use Rattle.std.proofs.Common.{◌+◌, ◌<◌, ◌==◌, ◌∙◌, ◌∷◌, ◌≡◌, ◌≢◌, ◌≤◌, ◌⊎◌}
 use Rattle.std.proofs.lemmas.Bool.{false≢true}
-use Rattle.nam_catalog.specs.declared.shape.Shape.{Shape}
+use Rattle.std.specs.Prelude.{length, slice_get}
+use Rattle.nam_calls.proofs.FallsTests.{either}
 use Rattle.nam_calls.specs.declared.lock.LockPoint.TheVariants.{GiveBack, Peek, Seize}
 use Rattle.nam_calls.specs.declared.record.InstallPoint.TheVariants.{InstallCount, InstallHead, InstallWord}
 use Rattle.nam_calls.specs.declared.ring.SlotPoint.{SlotPoint}
-use Rattle.nam_calls.proofs.FallsTests.{either}
+use Rattle.nam_catalog.specs.declared.shape.Shape.{Shape}
+use Rattle.nam_ghost.proofs.ListLemmas.{got_push}
+use Rattle.nam_ghost.specs.Holders.{Holder, done_at, holder_at, holder_now, record_row}
+use Rattle.nam_ghost.specs.Moments.{has_published}
+use Rattle.nam_ghost.specs.Origins.{IsDoneAs}
+use Rattle.nam_ghost.specs.Publications.{Publication, publication_of}
+use Rattle.nam_ghost.specs.Steps.{at_record, commit_chains, given_back, locked_for, new_version, published_after}
+use Rattle.nam_ghost.specs.Steps.{renewed}
+use Rattle.nam_ghost.specs.Versions.{Chain, IsNth, Version, versions}
+use Rattle.nam_origins.proofs.ListLemmas.{last_listed, last_push}
+use Rattle.nam_origins.specs.Goes.{CommitGoes, GrowsBy, OthersSame, SameVersions, StandsNow}
+use Rattle.nam_protocol.proofs.GoesCommit.{EndsAs, GoesTo, commit_goes, holding_locks, on_install_goes, with_count}
 use Rattle.nam_protocol.specs.Commit.{commit_after, go, on_install}
 use Rattle.nam_protocol.specs.Txn.{Stepped, over}
 use Rattle.nam_protocol.specs.TxnFits.{CommitFits}
@@ -21,20 +32,9 @@ use Rattle.nam_protocol.specs.declared.txn.CommitPoint.TheVariants.{Publishing, 
 use Rattle.nam_protocol.specs.declared.txn.TxnAnswer.{TxnAnswer}
 use Rattle.nam_protocol.specs.declared.txn.TxnPoint.TheVariants.{Committing}
 use Rattle.nam_protocol.specs.declared.txn.TxnState.{TxnState}
-use Rattle.nam_protocol.proofs.GoesCommit.{EndsAs, GoesTo, commit_goes, holding_locks, on_install_goes}
-use Rattle.nam_protocol.proofs.GoesCommit.{with_count}
-use Rattle.nam_verbs.specs.declared.now.Now.TheVariants.{At, Over}
 use Rattle.nam_store.proofs.Lists.{put_beside, put_cases, put_here}
 use Rattle.nam_store.specs.Everyone.{put}
-use Rattle.nam_ghost.specs.Holders.{Holder, done_at, holder_at, holder_now, record_row}
-use Rattle.nam_ghost.specs.Moments.{has_published}
-use Rattle.nam_ghost.specs.Origins.{IsDoneAs}
-use Rattle.nam_ghost.specs.Publications.{Publication, publication_of}
-use Rattle.nam_ghost.specs.Steps.{at_record, commit_chains, given_back, locked_for, new_version}
-use Rattle.nam_ghost.specs.Steps.{published_after, renewed}
-use Rattle.nam_ghost.specs.Versions.{Chain, IsNth, Version, versions}
-use Rattle.nam_origins.specs.Goes.{CommitGoes, GrowsBy, OthersSame, SameVersions, StandsNow}
-use Rattle.nam_origins.proofs.ListLemmas.{got_push, last_listed, last_push}
+use Rattle.nam_verbs.specs.declared.now.Now.TheVariants.{At, Over}
 use Rattle.si_model.proofs.ListLemmas.{listed_append_left}
 use Rattle.si_model.specs.Lists.{Listed, last_of}
 

@@ -1,58 +1,49 @@
 -- A commit that has published may be listed so: its written records stand at the keys of its write set.
-use Rattle.std.proofs.Common.{List, Some, [], ap, length, refl, subst, sym, true, ℕ, ◌+◌, ◌<◌, ◌∙◌, ◌∷◌, ◌≡◌}
+use Rattle.std.proofs.Common.{Some, ap, length, refl, subst, sym, true, ℕ, ◌+◌, ◌<◌, ◌∙◌, ◌≡◌}
+use Rattle.std.proofs.lemmas.Option.{get_or_from_slice_get, slice_get_within}
 use Rattle.std.specs.List.{AllByRecursion}
 use Rattle.std.specs.Prelude.{slice_get, slice_index_or}
-use Rattle.std.proofs.lemmas.Bool.{false≢true}
-use Rattle.std.proofs.lemmas.Option.{get_or_from_slice_get, slice_get_within}
-use Rattle.nam_verbs.proofs.TestLemmas.{by_test}
+use Rattle.nam_calls.specs.Words.{key_word}
 use Rattle.nam_catalog.specs.Fits.{FitsLimits}
 use Rattle.nam_catalog.specs.declared.shape.Shape.{Shape}
+use Rattle.nam_ghost.proofs.KeyLemmas.{claimed_holds}
+use Rattle.nam_ghost.specs.Holders.{record_row}
+use Rattle.nam_ghost.specs.Keys.{AreAtKeys, IsAtKey}
+use Rattle.nam_ghost.specs.Origins.{IsListedAs}
+use Rattle.nam_ghost.specs.Publications.{publication_of}
 use Rattle.nam_layout.proofs.PositionLemmas.{position_is_row}
 use Rattle.nam_layout.specs.Rows.{table_of}
 use Rattle.nam_layout.specs.declared.field.Field.{Field}
 use Rattle.nam_layout.specs.declared.field.Field.TheVariants.{Key}
 use Rattle.nam_layout.specs.declared.field.Place.{Place}
-use Rattle.nam_calls.specs.Words.{key_word}
-use Rattle.nam_ghost.specs.Holders.{record_row}
-use Rattle.nam_ghost.specs.Origins.{IsListedAs}
-use Rattle.nam_ghost.specs.Publications.{publication_of}
 use Rattle.nam_origins.proofs.LogKinds.{listed_commit}
+use Rattle.nam_protocol.proofs.FallsKeys.{all_at, keys_claimed, record_is_placed}
+use Rattle.nam_protocol.proofs.FieldLemmas.{written_less}
+use Rattle.nam_protocol.proofs.RecordLemmas.{place_is, written_key_is}
 use Rattle.nam_protocol.specs.Commit.{commit_keys, no_item, no_record, record_at, record_in, records_of}
 use Rattle.nam_protocol.specs.TxnFits.{StateFits, is_claimed}
 use Rattle.nam_protocol.specs.declared.client.Open.{Open}
 use Rattle.nam_protocol.specs.declared.txn.Record.{Record}
 use Rattle.nam_protocol.specs.declared.txn.TxnState.{TxnState}
-use Rattle.nam_protocol.proofs.FallsKeys.{all_at, keys_claimed, record_is_placed}
-use Rattle.nam_protocol.proofs.FieldLemmas.{written_less}
-use Rattle.nam_protocol.proofs.RecordLemmas.{place_is, written_key_is}
 use Rattle.si_model.proofs.ListLemmas.{All-from_listed, All-listed, All-map}
-use Rattle.si_model.specs.Lists.{Listed}
-use Rattle.si_model.specs.Rows.{item_key, same_key}
+use Rattle.si_model.specs.Rows.{item_key}
 use Rattle.si_model.specs.declared.row.Item.{Item}
 use Rattle.si_model.specs.declared.row.Key as row_key
 
--- what holds of all claims holds of the record of a claimed key
-claimed_holds : (P : Record → Type 0) (claims : List Record) (key : row_key.Key) → AllByRecursion P claims
-    → is_claimed claims key ≡ true → P (record_in claims key)
-claimed_holds P [] key all is = absurd (false≢true is)
-claimed_holds P (c ∷ cs) key all is =
-    by_test P (same_key c.key key) c (record_in cs key) (λ same. all.0)
-    (λ other. claimed_holds P cs key all.1 (rw other at is))
-
 module _ (shape : Shape) (limits : FitsLimits shape) (m : Field → ℕ) (state : TxnState) (fits : StateFits shape state)
     (are : state.records ≡ records_of state)
-    (claims : (claim : Record) → Listed claim state.claims → m (Key claim.place.row) ≡ key_word claim.key.key) where
-  abbrev IsAtKey : Record → Type 0
-  IsAtKey r = m (Key r.place.row) ≡ key_word r.key.key
+    (claims : AreAtKeys shape m state.claims) where
+  abbrev IsAt : Record → Type 0
+  IsAt = IsAtKey shape m
 
-  records_at_keys : AllByRecursion IsAtKey state.records
+  records_at_keys : AllByRecursion IsAt state.records
   records_at_keys =
       let keys = commit_keys state in
-      let claimed = All-from_listed IsAtKey state.claims claims in
-      subst (AllByRecursion IsAtKey) (sym are)
-      (All-map (record_in state.claims) IsAtKey keys
-      (All-from_listed (λ key. IsAtKey (record_in state.claims key)) keys
-      (λ key listed. claimed_holds IsAtKey state.claims key claimed
+      let claimed = All-from_listed IsAt state.claims claims in
+      subst (AllByRecursion IsAt) (sym are)
+      (All-map (record_in state.claims) IsAt keys
+      (All-from_listed (λ key. IsAt (record_in state.claims key)) keys
+      (λ key listed. claimed_holds IsAt state.claims key claimed
       (All-listed (λ k. is_claimed state.claims k ≡ true) keys key (keys_claimed shape state fits) listed))))
 
   module _ (p : ℕ) (less : p < length state.writes) where
@@ -76,7 +67,7 @@ module _ (shape : Shape) (limits : FitsLimits shape) (m : Field → ℕ) (state 
     word_same : m (Key (record_row state p)) ≡ key_word item.key
     word_same =
         let within = written_less shape limits state fits are p less in
-        ap (λ row. m (Key row)) row_same ∙ all_at IsAtKey no_record state.records p records_at_keys within
+        ap (λ row. m (Key row)) row_same ∙ all_at IsAt no_record state.records p records_at_keys within
         ∙ ap (λ (key : row_key.Key). key_word key.key) key_same
 
   pub listed_as : (attempt : Open) → attempt.state ≡ state

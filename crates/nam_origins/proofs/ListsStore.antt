@@ -1,63 +1,56 @@
 -- Each step of a store keeps what logs list; and what that comes to for a client without a published commit in flight.
-use Rattle.std.proofs.Common.{List, None, Option, Some, [], ap, arith, length, refl, subst, sym, ℕ, ◌+◌, ◌∙◌, ◌≡◌}
-use Rattle.std.proofs.Common.{◌++◌, ◌∷◌}
+use Rattle.std.proofs.Common.{List, None, Option, Some, [], ap, arith, length, refl, subst, sym, ℕ, ◌++◌, ◌+◌, ◌∙◌, ◌∷◌}
+use Rattle.std.proofs.Common.{◌≡◌}
+use Rattle.std.proofs.lemmas.Option.{none-some, slice_get_within}
+use Rattle.nam_calls.specs.Memory.{memory}
 use Rattle.nam_catalog.specs.Fits.{FitsLimits}
 use Rattle.nam_catalog.specs.declared.shape.Shape.{Shape}
-use Rattle.nam_calls.specs.Memory.{memory}
-use Rattle.nam_layout.specs.declared.field.Field.{Field}
-use Rattle.nam_protocol.specs.Client.{client_abandon, client_after, client_ask}
-use Rattle.nam_protocol.specs.CutClient.{client_cut}
-use Rattle.nam_protocol.specs.declared.client.CallPoint.{CallPoint}
-use Rattle.nam_protocol.specs.declared.client.ClientState.{ClientState}
-use Rattle.nam_protocol.specs.declared.client.Open.{Open}
-use Rattle.nam_header.specs.Header.{flag}
-use Rattle.std.proofs.lemmas.Option.{none-some, slice_get_within}
-use Rattle.nam_locks.proofs.IdleLemmas.{aside_idle, rests_aside}
-use Rattle.nam_locks.proofs.WordLemmas.{same_place}
-use Rattle.nam_protocol.proofs.PlainLemmas.{abandon_plain}
-use Rattle.nam_protocol.specs.declared.txn.CommitPoint.TheVariants.{Publishing}
-use Rattle.nam_store.proofs.BaseLemmas.{asked_sort, step_sort}
-use Rattle.nam_store.proofs.Lists.{put_beside}
-use Rattle.nam_store.proofs.OpeningLemmas.{opening_client}
-use Rattle.nam_store.proofs.ReachedLemmas.{reached_holds}
-use Rattle.nam_store.specs.Opening.{AreLoaded, opening_store}
-use Rattle.nam_store.specs.Reached.{Opened, Stepped}
-use Rattle.nam_ghost.specs.Publications.{publication_of}
-use Rattle.nam_origins.proofs.LogKinds.{log_stands}
-use Rattle.nam_origins.proofs.StoreLemmas.{origins_reached}
-use Rattle.si_model.specs.declared.row.Row.{Row}
-use Rattle.nam_locks.specs.Idle.{IsIdle}
-use Rattle.nam_ghost.specs.Keys.{ClaimsOk}
-use Rattle.nam_ghost.specs.Origins.{IsStanding}
-use Rattle.nam_ghost.specs.Steps.{published_after}
-use Rattle.nam_origins.specs.Lists.{Matches}
-use Rattle.nam_origins.proofs.LogWords.{abandoned_log, asked_log, word_log}
-use Rattle.nam_origins.proofs.WordLemmas.{asked_unpublished, idle_published, idle_unpublished, rests_idle, word_cases}
-use Rattle.nam_protocol.specs.Client.{after_call}
-use Rattle.nam_protocol.specs.Commit.{commit_after}
-use Rattle.nam_protocol.specs.Own.{IsOpenNow}
-use Rattle.nam_protocol.specs.Sorts.{StepOf, committing_at}
-use Rattle.nam_protocol.specs.Telling.{stepped}
-use Rattle.nam_protocol.specs.declared.client.CallPoint.TheVariants.{InTxn}
-use Rattle.nam_protocol.specs.declared.txn.TxnPoint.TheVariants.{Committing}
-use Rattle.nam_verbs.specs.declared.now.Now.TheVariants.{At}
-use Rattle.nam_store.specs.Base.{BaseOk, ClientOk}
-use Rattle.nam_store.specs.Everyone.{Everyone}
-use Rattle.nam_store.specs.Store.{Abandons, Asks, Cuts, StepsTo, Store, Takes, client_at, found_word, step, with_client}
-use Rattle.nam_store.proofs.Lists.{everyone_set, some_within}
+use Rattle.nam_ghost.proofs.IdleLemmas.{aside_idle, rests_aside, same_place}
 use Rattle.nam_ghost.specs.Ghost.{Ghost, IsReachedWith, ghost_step, opening_ghost}
-use Rattle.nam_ghost.specs.Keys.{KeysNext, KeysOk}
+use Rattle.nam_ghost.specs.Idle.{IsIdle}
+use Rattle.nam_ghost.specs.Keys.{ClaimsOk, KeysNext, KeysOk}
 use Rattle.nam_ghost.specs.Moments.{has_published}
-use Rattle.nam_ghost.specs.Origins.{AreListed, ListedOk, listed_commits}
-use Rattle.nam_ghost.specs.Publications.{Publication}
+use Rattle.nam_ghost.specs.Origins.{AreListed, IsStanding, ListedOk, listed_commits}
+use Rattle.nam_ghost.specs.Publications.{Publication, publication_of}
+use Rattle.nam_ghost.specs.Steps.{published_after}
+use Rattle.nam_header.specs.Header.{flag}
+use Rattle.nam_layout.specs.declared.field.Field.{Field}
+use Rattle.nam_origins.proofs.ClientLists.{AreRows, Pending, quiet_lists, quiet_log}
+use Rattle.nam_origins.proofs.ListsWords.{commit_lists, commit_log}
+use Rattle.nam_origins.proofs.LogKinds.{log_stands}
+use Rattle.nam_origins.proofs.LogWords.{abandoned_log, asked_log, word_log}
+use Rattle.nam_origins.proofs.MatchLemmas.{matches_still}
+use Rattle.nam_origins.proofs.StoreLemmas.{origins_reached}
+use Rattle.nam_origins.proofs.WordLemmas.{asked_unpublished, idle_published, idle_unpublished, rests_idle, word_cases}
 use Rattle.nam_origins.specs.Goes.{OthersSame}
 use Rattle.nam_origins.specs.ListedLaw.{AllListedLaw, ListsKeepLaw, ListsOpenLaw, LogsKeepLaw, LogsOpenLaw}
 use Rattle.nam_origins.specs.ListedLaw.{LogsReachedLaw}
-use Rattle.nam_origins.specs.Lists.{LogGoes}
+use Rattle.nam_origins.specs.Lists.{LogGoes, Matches}
 use Rattle.nam_origins.specs.Logs.{LogOk, LogsOk, pending}
-use Rattle.nam_origins.proofs.ClientLists.{AreRows, Pending, quiet_lists, quiet_log}
-use Rattle.nam_origins.proofs.ListsWords.{commit_lists, commit_log}
-use Rattle.nam_origins.proofs.MatchLemmas.{matches_still}
+use Rattle.nam_protocol.proofs.PlainLemmas.{abandon_plain}
+use Rattle.nam_protocol.specs.Client.{after_call, client_abandon, client_after, client_ask}
+use Rattle.nam_protocol.specs.Commit.{commit_after}
+use Rattle.nam_protocol.specs.CutClient.{client_cut}
+use Rattle.nam_protocol.specs.Own.{IsOpenNow}
+use Rattle.nam_protocol.specs.Sorts.{StepOf, committing_at}
+use Rattle.nam_protocol.specs.Telling.{stepped}
+use Rattle.nam_protocol.specs.declared.client.CallPoint.{CallPoint}
+use Rattle.nam_protocol.specs.declared.client.CallPoint.TheVariants.{InTxn}
+use Rattle.nam_protocol.specs.declared.client.ClientState.{ClientState}
+use Rattle.nam_protocol.specs.declared.client.Open.{Open}
+use Rattle.nam_protocol.specs.declared.txn.CommitPoint.TheVariants.{Publishing}
+use Rattle.nam_protocol.specs.declared.txn.TxnPoint.TheVariants.{Committing}
+use Rattle.nam_store.proofs.BaseLemmas.{asked_sort, step_sort}
+use Rattle.nam_store.proofs.Lists.{everyone_set, put_beside, some_within}
+use Rattle.nam_store.proofs.OpeningLemmas.{opening_client}
+use Rattle.nam_store.proofs.ReachedLemmas.{reached_holds}
+use Rattle.nam_store.specs.Base.{BaseOk, ClientOk}
+use Rattle.nam_store.specs.Everyone.{Everyone}
+use Rattle.nam_store.specs.Opening.{AreLoaded, opening_store}
+use Rattle.nam_store.specs.Reached.{Opened, Stepped}
+use Rattle.nam_store.specs.Store.{Abandons, Asks, Cuts, StepsTo, Store, Takes, client_at, found_word, step, with_client}
+use Rattle.nam_verbs.specs.declared.now.Now.TheVariants.{At}
+use Rattle.si_model.specs.declared.row.Row.{Row}
 
 -- 1. All other clients
 

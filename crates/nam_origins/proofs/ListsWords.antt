@@ -1,17 +1,15 @@
 -- What a client's log lists after each word: of a commit, and of any other call.
-use Rattle.std.proofs.Common.{List, Some, ap, false, length, refl, subst, sym, true, ℕ, ◌++◌, ◌+◌, ◌<◌}
-use Rattle.std.proofs.Common.{[], ◌∙◌, ◌∷◌, ◌≡◌, inl, inr, ⊎_elim}
+use Rattle.std.proofs.Common.{List, Some, [], ap, false, inl, inr, length, refl, subst, sym, true, ℕ, ⊎_elim, ◌++◌, ◌+◌}
+use Rattle.std.proofs.Common.{◌<◌, ◌∙◌, ◌∷◌, ◌≡◌}
 use Rattle.nam_catalog.specs.Fits.{FitsLimits}
 use Rattle.nam_catalog.specs.declared.shape.Shape.{Shape}
-use Rattle.nam_header.specs.Header.{flag}
-use Rattle.nam_layout.specs.Address.{IsRow}
-use Rattle.nam_layout.specs.declared.field.Field.{Field}
 use Rattle.nam_ghost.specs.Keys.{ClaimsOk, KeysNext}
 use Rattle.nam_ghost.specs.Origins.{AreListed, IsListedAs, IsStanding, listed_commits}
 use Rattle.nam_ghost.specs.Publications.{Publication, publication_of}
 use Rattle.nam_ghost.specs.Steps.{published_after}
-use Rattle.nam_origins.specs.Lists.{LogGoes, Matches}
-use Rattle.nam_origins.specs.Logs.{LogOk}
+use Rattle.nam_header.specs.Header.{flag}
+use Rattle.nam_layout.specs.Address.{IsRow}
+use Rattle.nam_layout.specs.declared.field.Field.{Field}
 use Rattle.nam_origins.proofs.ClientLists.{AreRows, late_lists, late_log, quiet_lists, quiet_log}
 use Rattle.nam_origins.proofs.CommitLists.{LateGoes, early_silent, late_goes, late_step, stepped_published}
 use Rattle.nam_origins.proofs.CommitOrigins.{IsEarly, publishes}
@@ -20,6 +18,9 @@ use Rattle.nam_origins.proofs.ListLemmas.{last_push}
 use Rattle.nam_origins.proofs.LogKinds.{listed_commit}
 use Rattle.nam_origins.proofs.LogTxns.{stepped_log}
 use Rattle.nam_origins.proofs.MatchLemmas.{listed_still, matches_published, matches_still}
+use Rattle.nam_origins.specs.Lists.{LogGoes, Matches}
+use Rattle.nam_origins.specs.Logs.{LogOk}
+use Rattle.nam_protocol.proofs.FieldLemmas.{placed, written_less}
 use Rattle.nam_protocol.specs.Commit.{commit_after}
 use Rattle.nam_protocol.specs.Sorts.{committing_at}
 use Rattle.nam_protocol.specs.Telling.{stepped}
@@ -33,9 +34,8 @@ use Rattle.nam_protocol.specs.declared.txn.CommitPoint.TheVariants.{Ending, Free
 use Rattle.nam_protocol.specs.declared.txn.CommitPoint.TheVariants.{Publishing, Returning, Saving}
 use Rattle.nam_protocol.specs.declared.txn.TxnPoint.TheVariants.{Committing}
 use Rattle.nam_protocol.specs.declared.txn.TxnState.{TxnState}
-use Rattle.nam_protocol.proofs.FieldLemmas.{placed, written_less}
-use Rattle.nam_store.specs.Base.{ClientOk}
 use Rattle.nam_store.proofs.Lists.{put_here}
+use Rattle.nam_store.specs.Base.{ClientOk}
 use Rattle.si_model.proofs.ListLemmas.{listed_append_cases}
 use Rattle.si_model.specs.Lists.{Listed, last_of}
 

@@ -1,14 +1,13 @@
 -- A log that goes on: its events own what they did, and its listed commits are those before and the new ones.
-use Rattle.std.proofs.Common.{List, [], ap, arith, length, length-append, sym, ℕ, ◌++◌, ◌<◌, ◌∙◌}
-use Rattle.std.proofs.Common.{◌≡◌}
-use Rattle.std.proofs.lemmas.List.{append_assoc, append-nil}
+use Rattle.std.proofs.Common.{List, [], ap, arith, length, length-append, sym, ℕ, ◌++◌, ◌<◌, ◌∙◌, ◌≡◌}
+use Rattle.std.proofs.lemmas.List.{append-nil, append_assoc}
 use Rattle.nam_catalog.specs.declared.shape.Shape.{Shape}
-use Rattle.nam_layout.specs.Address.{IsRow}
 use Rattle.nam_ghost.specs.Origins.{listed_commits}
 use Rattle.nam_ghost.specs.Publications.{Publication}
+use Rattle.nam_layout.specs.Address.{IsRow}
+use Rattle.nam_origins.proofs.TellLemmas.{commits_more, listed_are, total_more}
 use Rattle.nam_origins.specs.Lists.{LogGoes, commits_of}
 use Rattle.nam_origins.specs.Logs.{LogOk, pending}
-use Rattle.nam_origins.proofs.TellLemmas.{commits_more, listed_are, total_more}
 use Rattle.nam_protocol.specs.declared.client.ClientState.{ClientState}
 use Rattle.si_model.specs.Commits.{Published}
 use Rattle.si_model.specs.Lists.{Listed}

@@ -1,11 +1,14 @@
 -- A log goes on with each step of a transaction but a commit's last, and with each word of a scan: with no commit.
 use Rattle.std.proofs.Common.{List, Option, Some, [], ap, refl, ℕ, ◌++◌, ◌+◌, ◌∙◌, ◌∷◌, ◌≡◌}
-use Rattle.nam_catalog.specs.declared.shape.Shape.{Shape}
-use Rattle.nam_calls.specs.Reading.{read_begin}
 use Rattle.nam_calls.proofs.FallsTests.{either}
+use Rattle.nam_calls.specs.Reading.{read_begin}
+use Rattle.nam_catalog.specs.declared.shape.Shape.{Shape}
+use Rattle.nam_origins.proofs.LogKinds.{IsNoCommit, SameItems, log_ends, log_stands}
 use Rattle.nam_origins.specs.Lists.{LogGoes}
 use Rattle.nam_origins.specs.Logs.{pending}
-use Rattle.nam_origins.proofs.LogKinds.{IsNoCommit, SameItems, log_ends, log_stands}
+use Rattle.nam_protocol.proofs.GoesClient.{left_goes, step_opens, with_rows}
+use Rattle.nam_protocol.proofs.GoesCommit.{ask_commit_goes}
+use Rattle.nam_protocol.proofs.GoesTxn.{IsSilent, ask_goes, claiming_goes, finding_goes, reading_goes, silent_answer}
 use Rattle.nam_protocol.specs.Log.{attempt_of, with_locks}
 use Rattle.nam_protocol.specs.Operations.{own_value}
 use Rattle.nam_protocol.specs.Plain.{IsOperation}
@@ -26,11 +29,8 @@ use Rattle.nam_protocol.specs.declared.txn.TxnAnswer.{TxnAnswer}
 use Rattle.nam_protocol.specs.declared.txn.TxnCall.{TxnCall}
 use Rattle.nam_protocol.specs.declared.txn.TxnCall.TheVariants.{Add, Commit, Del, Get, Guard, Need, Put}
 use Rattle.nam_protocol.specs.declared.txn.TxnPoint.{TxnPoint}
-use Rattle.nam_protocol.specs.declared.txn.TxnPoint.TheVariants.{Finding, Reading, Claiming, Committing}
+use Rattle.nam_protocol.specs.declared.txn.TxnPoint.TheVariants.{Claiming, Committing, Finding, Reading}
 use Rattle.nam_protocol.specs.declared.txn.TxnState.{TxnState}
-use Rattle.nam_protocol.proofs.GoesClient.{left_goes, step_opens, with_rows}
-use Rattle.nam_protocol.proofs.GoesCommit.{ask_commit_goes}
-use Rattle.nam_protocol.proofs.GoesTxn.{IsSilent, ask_goes, claiming_goes, finding_goes, reading_goes, silent_answer}
 use Rattle.nam_verbs.specs.declared.now.Now.{Now}
 use Rattle.nam_verbs.specs.declared.now.Now.TheVariants.{At, Over}
 use Rattle.si_model.specs.Evaluation.{op_key}

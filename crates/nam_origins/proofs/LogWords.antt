@@ -3,20 +3,19 @@
 use Rattle.std.proofs.Common.{IsNone, List, None, Option, Some, [], ap, false, length, refl, subst, sym, ℕ, ◌++◌, ◌+◌}
 use Rattle.std.proofs.Common.{◌∙◌, ◌∷◌, ◌≡◌}
 use Rattle.std.proofs.lemmas.List.{append-nil}
-use Rattle.nam_catalog.specs.declared.shape.Shape.{Shape}
-use Rattle.nam_calls.specs.Mover.{move_begin}
-use Rattle.nam_layout.specs.Place.{bucket_of, place_of}
-use Rattle.nam_vector.specs.Snap.{snap_after, snap_begin}
-use Rattle.nam_vector.specs.declared.snap.SnapPoint.{SnapPoint}
-use Rattle.nam_calls.specs.declared.mover.MovePoint.{MovePoint}
-use Rattle.nam_calls.specs.declared.horizon.CollectPoint.{CollectPoint}
 use Rattle.nam_calls.specs.Horizon.{collect_begin}
 use Rattle.nam_calls.specs.Index.{find_begin}
-use Rattle.nam_locks.specs.Idle.{IsIdle}
-use Rattle.nam_origins.specs.Lists.{LogGoes}
-use Rattle.nam_origins.specs.Logs.{pending}
+use Rattle.nam_calls.specs.Mover.{move_begin}
+use Rattle.nam_calls.specs.declared.horizon.CollectPoint.{CollectPoint}
+use Rattle.nam_calls.specs.declared.mover.MovePoint.{MovePoint}
+use Rattle.nam_catalog.specs.declared.shape.Shape.{Shape}
+use Rattle.nam_ghost.specs.Idle.{IsIdle}
+use Rattle.nam_layout.specs.Place.{bucket_of, place_of}
 use Rattle.nam_origins.proofs.LogKinds.{IsNoCommit, log_adds, log_ends, log_stands, log_takes}
 use Rattle.nam_origins.proofs.LogTxns.{ask_silent, operation_silent, scan_log, stepped_log}
+use Rattle.nam_origins.specs.Lists.{LogGoes}
+use Rattle.nam_origins.specs.Logs.{pending}
+use Rattle.nam_protocol.proofs.GoesClient.{begin_goes, begun, collect_goes, move_goes, seek_goes, snap_goes}
 use Rattle.nam_protocol.specs.Client.{abandon_open, ask_scan, ask_txn, call_after, client_abandon, client_ask}
 use Rattle.nam_protocol.specs.Client.{take_scan, take_txn, with_call}
 use Rattle.nam_protocol.specs.Log.{prefix_of, unbegun, with_snap}
@@ -37,7 +36,8 @@ use Rattle.nam_protocol.specs.declared.scan.ScanPoint.{ScanPoint}
 use Rattle.nam_protocol.specs.declared.txn.TxnCall.{TxnCall}
 use Rattle.nam_protocol.specs.declared.txn.TxnPoint.{TxnPoint}
 use Rattle.nam_protocol.specs.declared.txn.TxnPoint.TheVariants.{Claiming, Committing, Finding, Reading}
-use Rattle.nam_protocol.proofs.GoesClient.{begin_goes, begun, collect_goes, move_goes, seek_goes, snap_goes}
+use Rattle.nam_vector.specs.Snap.{snap_after, snap_begin}
+use Rattle.nam_vector.specs.declared.snap.SnapPoint.{SnapPoint}
 use Rattle.nam_verbs.specs.declared.now.Now.{Now}
 use Rattle.nam_verbs.specs.declared.now.Now.TheVariants.{At, Over}
 use Rattle.si_model.specs.Tells.{snaps_in, writes_in}

@@ -1,16 +1,16 @@
 -- Publications and what is listed of them: while key words stand, with one more published, and with one more listed.
-use Rattle.std.proofs.Common.{List, Some, [], arith, length, subst, sym, ℕ, ⊎_elim, ◌++◌, ◌<◌, ◌∙◌}
-use Rattle.std.proofs.Common.{◌∷◌, ◌≡◌}
+use Rattle.std.proofs.Common.{List, Some, [], arith, length, subst, sym, ℕ, ⊎_elim, ◌++◌, ◌<◌, ◌∙◌, ◌∷◌, ◌≡◌}
 use Rattle.std.proofs.lemmas.List.{length_push}
 use Rattle.std.proofs.lemmas.Option.{same_Some, slice_get_within}
 use Rattle.nam_catalog.specs.declared.shape.Shape.{Shape}
-use Rattle.nam_layout.specs.Address.{IsRow}
-use Rattle.nam_layout.specs.declared.field.Field.{Field}
+use Rattle.nam_ghost.proofs.ListLemmas.{got_listed, got_push}
 use Rattle.nam_ghost.specs.Keys.{KeysNext}
 use Rattle.nam_ghost.specs.Origins.{IsListedAs}
 use Rattle.nam_ghost.specs.Publications.{Publication}
+use Rattle.nam_layout.specs.Address.{IsRow}
+use Rattle.nam_layout.specs.declared.field.Field.{Field}
+use Rattle.nam_origins.proofs.ListLemmas.{last_got}
 use Rattle.nam_origins.specs.Lists.{Matches}
-use Rattle.nam_origins.proofs.ListLemmas.{got_listed, got_push, last_got}
 use Rattle.si_model.specs.Commits.{Published}
 use Rattle.si_model.specs.Lists.{Listed, last_of}
 

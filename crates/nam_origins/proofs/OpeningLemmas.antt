@@ -2,11 +2,11 @@
 use Rattle.std.proofs.Common.{arith, subst, sym, ◌+◌}
 use Rattle.std.proofs.lemmas.Bool.{false≢true}
 use Rattle.std.proofs.lemmas.Option.{slice_get_within}
-use Rattle.nam_store.proofs.OpeningLemmas.{opening_client}
 use Rattle.nam_ghost.specs.Ghost.{opening_ghost}
 use Rattle.nam_ghost.specs.Origins.{IsStanding}
 use Rattle.nam_ghost.specs.Versions.{versions}
 use Rattle.nam_origins.specs.OriginsLaw.{OpensLaw}
+use Rattle.nam_store.proofs.OpeningLemmas.{opening_client}
 
 pub origins_open : OpensLaw
 origins_open shape limits rows loaded = record {

@@ -1,11 +1,18 @@
 -- What a step of one client owes is enough for all: each version has an origin, and each commit that has published
 -- stands last.
-use Rattle.std.proofs.Common.{List, Some, ap, arith, false, inl, inr, refl, subst, sym, ℕ, ⊎_elim}
-use Rattle.std.proofs.Common.{◌+◌, ◌∙◌, ◌≡◌, ◌≢◌, ◌⊎◌}
-use Rattle.std.specs.Prelude.{slice_get, slice_set}
+use Rattle.std.proofs.Common.{List, Some, ap, arith, false, inl, inr, refl, subst, sym, ℕ, ⊎_elim, ◌+◌, ◌∙◌, ◌≡◌, ◌≢◌}
+use Rattle.std.proofs.Common.{◌⊎◌}
 use Rattle.std.proofs.lemmas.Bool.{cases_eq, false≢true}
 use Rattle.std.proofs.lemmas.Option.{same_Some}
+use Rattle.std.specs.Prelude.{slice_get, slice_set}
 use Rattle.nam_catalog.specs.declared.shape.Shape.{Shape}
+use Rattle.nam_ghost.proofs.IdleLemmas.{stepped_holder}
+use Rattle.nam_ghost.specs.Holders.{Holder, holder_now, holder_of}
+use Rattle.nam_ghost.specs.Moments.{has_published}
+use Rattle.nam_ghost.specs.Origins.{HasOrigin, IsDoneAs, IsStanding, OriginsOk}
+use Rattle.nam_ghost.specs.Publications.{Publication, publication_of}
+use Rattle.nam_ghost.specs.Versions.{Chain, IsNth, Version}
+use Rattle.nam_origins.specs.Goes.{CommitGoes, Goes, OriginIn, StandsNow}
 use Rattle.nam_protocol.specs.Telling.{stepped}
 use Rattle.nam_protocol.specs.Txn.{Stepped}
 use Rattle.nam_protocol.specs.declared.client.ClientState.{ClientState}
@@ -13,18 +20,11 @@ use Rattle.nam_protocol.specs.declared.client.Open.{Open}
 use Rattle.nam_protocol.specs.declared.txn.TxnAnswer.{TxnAnswer}
 use Rattle.nam_protocol.specs.declared.txn.TxnPoint.{TxnPoint}
 use Rattle.nam_protocol.specs.declared.txn.TxnState.{TxnState}
-use Rattle.nam_verbs.specs.declared.now.Now.{Now}
-use Rattle.nam_verbs.specs.declared.now.Now.TheVariants.{At, Over}
+use Rattle.nam_store.proofs.Lists.{everyone_set, get_beside, get_set}
 use Rattle.nam_store.specs.Everyone.{Someone}
 use Rattle.nam_store.specs.Store.{Store, client_at, with_client}
-use Rattle.nam_store.proofs.Lists.{everyone_set, get_beside, get_set}
-use Rattle.nam_ghost.specs.Holders.{Holder, holder_now, holder_of}
-use Rattle.nam_ghost.specs.Moments.{has_published}
-use Rattle.nam_ghost.specs.Origins.{HasOrigin, IsDoneAs, IsStanding, OriginsOk}
-use Rattle.nam_ghost.specs.Publications.{Publication, publication_of}
-use Rattle.nam_ghost.specs.Versions.{Chain, IsNth, Version}
-use Rattle.nam_locks.proofs.IdleLemmas.{stepped_holder}
-use Rattle.nam_origins.specs.Goes.{CommitGoes, Goes, OriginIn, StandsNow}
+use Rattle.nam_verbs.specs.declared.now.Now.{Now}
+use Rattle.nam_verbs.specs.declared.now.Now.TheVariants.{At, Over}
 use Rattle.si_model.specs.Lists.{last_of}
 
 -- 1. One client for all

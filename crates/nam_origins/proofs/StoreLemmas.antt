@@ -1,11 +1,29 @@
 -- Each step of a store keeps what is said of origins.
 use Rattle.std.proofs.Common.{List, Some, false, inl, length, refl, subst, sym, ℕ, ◌≡◌}
 use Rattle.nam_catalog.specs.declared.shape.Shape.{Shape}
+use Rattle.nam_ghost.proofs.IdleLemmas.{aside_idle, idle_chains, rests_aside, same_place}
+use Rattle.nam_ghost.specs.Ghost.{Ghost, ghost_after, ghost_step, opening_ghost}
+use Rattle.nam_ghost.specs.Holders.{holder_at}
+use Rattle.nam_ghost.specs.Idle.{IsIdle}
+use Rattle.nam_ghost.specs.Moments.{has_published}
+use Rattle.nam_ghost.specs.Origins.{IsStanding, OriginsOk}
+use Rattle.nam_ghost.specs.Publications.{Publication}
+use Rattle.nam_ghost.specs.Steps.{chains_after, commit_chains, published_after}
+use Rattle.nam_ghost.specs.Versions.{Chain}
+use Rattle.nam_origins.proofs.CommitOrigins.{commit_origins}
+use Rattle.nam_origins.proofs.OpeningLemmas.{origins_open}
+use Rattle.nam_origins.proofs.OriginLemmas.{commit_goes_on, origins_go, rests_on}
+use Rattle.nam_origins.proofs.WordLemmas.{asked_unpublished, idle_done, idle_published, idle_unpublished, rests_idle}
+use Rattle.nam_origins.proofs.WordLemmas.{word_cases}
+use Rattle.nam_origins.specs.Goes.{CommitGoes, Goes}
+use Rattle.nam_origins.specs.OriginsLaw.{KeepsLaw, ReachedLaw}
+use Rattle.nam_protocol.proofs.PlainLemmas.{abandon_plain}
 use Rattle.nam_protocol.specs.Client.{client_abandon, client_after, client_ask}
 use Rattle.nam_protocol.specs.Commit.{commit_after}
 use Rattle.nam_protocol.specs.CutClient.{client_cut}
 use Rattle.nam_protocol.specs.Own.{MayAsk, Rests}
 use Rattle.nam_protocol.specs.Sorts.{StepOf, committing_at}
+use Rattle.nam_protocol.specs.Telling.{stepped}
 use Rattle.nam_protocol.specs.declared.client.Call.{Call}
 use Rattle.nam_protocol.specs.declared.client.CallPoint.{CallPoint}
 use Rattle.nam_protocol.specs.declared.client.CallPoint.TheVariants.{InTxn}
@@ -13,30 +31,11 @@ use Rattle.nam_protocol.specs.declared.client.ClientState.{ClientState}
 use Rattle.nam_protocol.specs.declared.client.Open.{Open}
 use Rattle.nam_protocol.specs.declared.txn.CommitPoint.{CommitPoint}
 use Rattle.nam_protocol.specs.declared.txn.TxnPoint.TheVariants.{Committing}
-use Rattle.nam_protocol.specs.Telling.{stepped}
-use Rattle.nam_protocol.proofs.PlainLemmas.{abandon_plain}
-use Rattle.nam_verbs.specs.declared.now.Now.TheVariants.{At}
-use Rattle.nam_store.specs.Base.{BaseOk, ClientOk}
-use Rattle.nam_store.specs.Store.{Abandons, Asks, Cuts, Store, Takes, client_at, found_word, step}
 use Rattle.nam_store.proofs.BaseLemmas.{asked_sort, step_sort}
 use Rattle.nam_store.proofs.ReachedLemmas.{reached_holds}
-use Rattle.nam_ghost.specs.Ghost.{Ghost, ghost_after, ghost_step, opening_ghost}
-use Rattle.nam_ghost.specs.Holders.{holder_at}
-use Rattle.nam_ghost.specs.Moments.{has_published}
-use Rattle.nam_ghost.specs.Origins.{IsStanding, OriginsOk}
-use Rattle.nam_ghost.specs.Publications.{Publication}
-use Rattle.nam_ghost.specs.Steps.{chains_after, commit_chains, published_after}
-use Rattle.nam_ghost.specs.Versions.{Chain}
-use Rattle.nam_locks.specs.Idle.{IsIdle}
-use Rattle.nam_locks.proofs.IdleLemmas.{aside_idle, idle_chains, rests_aside}
-use Rattle.nam_locks.proofs.WordLemmas.{same_place}
-use Rattle.nam_origins.specs.Goes.{CommitGoes, Goes}
-use Rattle.nam_origins.specs.OriginsLaw.{KeepsLaw, ReachedLaw}
-use Rattle.nam_origins.proofs.CommitOrigins.{commit_origins}
-use Rattle.nam_origins.proofs.OpeningLemmas.{origins_open}
-use Rattle.nam_origins.proofs.OriginLemmas.{commit_goes_on, origins_go, rests_on}
-use Rattle.nam_origins.proofs.WordLemmas.{asked_unpublished, idle_done, idle_published, idle_unpublished, rests_idle}
-use Rattle.nam_origins.proofs.WordLemmas.{word_cases}
+use Rattle.nam_store.specs.Base.{BaseOk, ClientOk}
+use Rattle.nam_store.specs.Store.{Abandons, Asks, Cuts, Store, Takes, client_at, found_word, step}
+use Rattle.nam_verbs.specs.declared.now.Now.TheVariants.{At}
 
 -- 1. A word is taken
 

@@ -1,16 +1,15 @@
 -- The commits that a log lists, by its events, its written items and its snapshots alone; and those of a log with more.
-use Rattle.std.proofs.Common.{List, None, Option, Some, [], ap, arith, drop, length, refl, sym}
-use Rattle.std.proofs.Common.{take, ℕ, ◌++◌, ◌+◌, ◌∙◌, ◌∷◌, ◌≡◌, ◌≤◌}
-use Rattle.std.specs.Prelude.{slice_index_or}
-use Rattle.std.proofs.lemmas.List.{append_assoc, length-drop, nil_from_length}
+use Rattle.std.proofs.Common.{List, None, Option, Some, [], ap, arith, drop, length, refl, sym, take, ℕ, ◌++◌, ◌+◌, ◌∙◌}
+use Rattle.std.proofs.Common.{◌∷◌, ◌≡◌, ◌≤◌}
 use Rattle.std.proofs.Math.Seq.{drop-append-le, take-append-le}
+use Rattle.std.proofs.lemmas.List.{append_assoc, length-drop, nil_from_length}
+use Rattle.std.specs.Prelude.{slice_index_or}
 use Rattle.nam_calls.proofs.FallsTests.{either}
-use Rattle.nam_origins.specs.Lists.{commits_of, tell_of}
 use Rattle.nam_ghost.specs.Origins.{listed_commits}
+use Rattle.nam_origins.specs.Lists.{commits_of, tell_of}
 use Rattle.nam_protocol.specs.declared.client.ClientState.{ClientState}
 use Rattle.si_model.specs.Commits.{published_at, published_in, published_of}
-use Rattle.si_model.specs.Tells.{Tell, is_attempt, locks_in, ops_each, reads_in, snaps_in, tells_each, total}
-use Rattle.si_model.specs.Tells.{writes_in}
+use Rattle.si_model.specs.Tells.{Tell, is_attempt, locks_in, ops_each, reads_in, snaps_in, tells_each, total, writes_in}
 use Rattle.si_model.specs.declared.log.Attempt.{Attempt}
 use Rattle.si_model.specs.declared.log.Event.{Event}
 use Rattle.si_model.specs.declared.log.Event.TheVariants.{Tried}

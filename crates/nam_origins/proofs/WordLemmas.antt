@@ -2,7 +2,13 @@
 use Rattle.std.proofs.Common.{List, None, Option, Some, ap, false, refl, ℕ, ◌≡◌}
 use Rattle.std.specs.Prelude.{length}
 use Rattle.nam_catalog.specs.declared.shape.Shape.{Shape}
-use Rattle.nam_vector.specs.Snap.{snap_after}
+use Rattle.nam_ghost.proofs.IdleLemmas.{aside_idle, begins_idle, idle_holder, rests_aside, snaps_idle}
+use Rattle.nam_ghost.specs.Holders.{holder_of}
+use Rattle.nam_ghost.specs.Idle.{IsIdle}
+use Rattle.nam_ghost.specs.Moments.{has_published}
+use Rattle.nam_ghost.specs.Publications.{Publication}
+use Rattle.nam_ghost.specs.Steps.{published_after}
+use Rattle.nam_protocol.proofs.GoesCommit.{ask_commit_goes}
 use Rattle.nam_protocol.specs.Commit.{commit_after}
 use Rattle.nam_protocol.specs.Own.{Rests}
 use Rattle.nam_protocol.specs.Sorts.{AskOf, AsksBegin, AsksCollect, AsksCommit, AsksPlain, Begins, Collects, Commits}
@@ -16,17 +22,10 @@ use Rattle.nam_protocol.specs.declared.client.ClientState.{ClientState}
 use Rattle.nam_protocol.specs.declared.client.Open.{Open}
 use Rattle.nam_protocol.specs.declared.txn.CommitPoint.{CommitPoint}
 use Rattle.nam_protocol.specs.declared.txn.TxnPoint.TheVariants.{Committing}
-use Rattle.nam_protocol.proofs.GoesCommit.{ask_commit_goes}
+use Rattle.nam_store.proofs.KindsLemmas.{finds_aside, reads_aside}
+use Rattle.nam_vector.specs.Snap.{snap_after}
 use Rattle.nam_verbs.specs.declared.now.Now.{Now}
 use Rattle.nam_verbs.specs.declared.now.Now.TheVariants.{At, Over}
-use Rattle.nam_store.proofs.KindsLemmas.{finds_aside, reads_aside}
-use Rattle.nam_ghost.specs.Holders.{holder_of}
-use Rattle.nam_ghost.specs.Moments.{has_published}
-use Rattle.nam_ghost.specs.Publications.{Publication}
-use Rattle.nam_ghost.specs.Steps.{published_after}
-use Rattle.nam_locks.specs.Idle.{IsIdle}
-use Rattle.nam_locks.proofs.IdleLemmas.{aside_idle, idle_holder, rests_aside}
-use Rattle.nam_locks.proofs.WordLemmas.{begins_idle, snaps_idle}
 
 -- 1. Clients without a commit
 

@@ -1,24 +1,24 @@
 -- What is claimed of origins, for versions and for commits.
 use Rattle.std.proofs.Common.{List, Some, ap, inr, subst, sym, ℕ, ⊎_elim, ◌∙◌, ◌≡◌, ◌≢◌}
-use Rattle.std.specs.Prelude.{slice_get}
 use Rattle.std.proofs.lemmas.Bool.{cases_eq}
 use Rattle.std.proofs.lemmas.Option.{same_Some}
+use Rattle.std.specs.Prelude.{slice_get}
 use Rattle.nam_catalog.specs.declared.shape.Shape.{Shape}
-use Rattle.nam_protocol.specs.Client.{client_abandon, client_after, client_ask}
-use Rattle.nam_protocol.specs.CutClient.{client_cut}
-use Rattle.nam_protocol.specs.declared.client.ClientState.{ClientState}
-use Rattle.nam_store.specs.Store.{Abandons, Asks, Cuts, StepsTo, Store, Takes, client_at, found_word, step, with_client}
-use Rattle.nam_store.specs.Base.{BaseOk}
-use Rattle.nam_store.proofs.Lists.{get_beside, get_set}
-use Rattle.nam_store.proofs.ReachedLemmas.{reached_base}
 use Rattle.nam_ghost.specs.Ghost.{Ghost, ghost_after, ghost_step, opening_ghost}
 use Rattle.nam_ghost.specs.Holders.{holder_of}
 use Rattle.nam_ghost.specs.Origins.{HasOrigin, IsDoneAs, OriginsOk}
 use Rattle.nam_ghost.specs.Publications.{Publication}
 use Rattle.nam_ghost.specs.Versions.{Chain, Version}
+use Rattle.nam_origins.proofs.StoreLemmas.{abandons_goes, asks_goes, cuts_goes, origins_reached, takes_goes}
 use Rattle.nam_origins.specs.Goes.{Goes}
 use Rattle.nam_origins.specs.OriginsLaw.{StaysLaw, WrittenLaw}
-use Rattle.nam_origins.proofs.StoreLemmas.{abandons_goes, asks_goes, cuts_goes, origins_reached, takes_goes}
+use Rattle.nam_protocol.specs.Client.{client_abandon, client_after, client_ask}
+use Rattle.nam_protocol.specs.CutClient.{client_cut}
+use Rattle.nam_protocol.specs.declared.client.ClientState.{ClientState}
+use Rattle.nam_store.proofs.Lists.{get_beside, get_set}
+use Rattle.nam_store.proofs.ReachedLemmas.{reached_base}
+use Rattle.nam_store.specs.Base.{BaseOk}
+use Rattle.nam_store.specs.Store.{Abandons, Asks, Cuts, StepsTo, Store, Takes, client_at, found_word, step, with_client}
 
 -- a client, and its commit's record as it is now
 abbrev StaysAt : Store → (ℕ → List Publication) → ℕ → ℕ → Version → Type 0

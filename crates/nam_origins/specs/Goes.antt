@@ -1,4 +1,5 @@
 -- What the step of one client owes the group of origins: of the client itself, and of a commit's step.
+use Rattle.std.specs.Prelude.{List, Some, true, ℕ, ◌+◌, ◌≡◌, ◌≢◌, ◌⊎◌}
 use Rattle.nam_ghost.specs.Holders.{Holder, holder_now, holder_of}
 use Rattle.nam_ghost.specs.Moments.{has_published}
 use Rattle.nam_ghost.specs.Origins.{HasOrigin, IsDoneAs, IsPublishedAs, IsStanding}
@@ -13,7 +14,6 @@ use Rattle.nam_protocol.specs.declared.txn.TxnState.{TxnState}
 use Rattle.nam_verbs.specs.declared.now.Now.{Now}
 use Rattle.nam_verbs.specs.declared.now.Now.TheVariants.{At}
 use Rattle.si_model.specs.Lists.{Listed, last_of}
-use Rattle.std.specs.Prelude.{List, Some, true, ℕ, ◌+◌, ◌≡◌, ◌≢◌, ◌⊎◌}
 
 -- no chain has a version more or less
 abbrev pub SameVersions : (ℕ → Chain) → (ℕ → Chain) → Type 0

@@ -1,5 +1,6 @@
 -- What is claimed of lists holds of each store that comes about, and what it comes to for a client without a published
 -- commit in flight.
+use Rattle.std.specs.Prelude.{List, Some, false, length, slice_get, ℕ, ◌≡◌}
 use Rattle.nam_calls.specs.Memory.{memory}
 use Rattle.nam_catalog.specs.Fits.{FitsLimits}
 use Rattle.nam_catalog.specs.declared.shape.Shape.{Shape}
@@ -15,7 +16,6 @@ use Rattle.nam_store.specs.Opening.{AreLoaded, opening_store}
 use Rattle.nam_store.specs.Store.{StepsTo, Store, client_at}
 use Rattle.si_model.specs.Commits.{Published}
 use Rattle.si_model.specs.declared.row.Row.{Row}
-use Rattle.std.specs.Prelude.{List, Some, false, length, slice_get, ℕ, ◌≡◌}
 
 -- 1. Logs by themselves
 

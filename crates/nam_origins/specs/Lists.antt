@@ -1,4 +1,5 @@
 -- How a client's log goes on with a step, and how its listed commits stand to its publications.
+use Rattle.std.specs.Prelude.{List, Some, [], drop, length, slice_get, slice_index_or, take, ℕ, ◌++◌, ◌+◌, ◌∷◌, ◌≡◌}
 use Rattle.nam_catalog.specs.declared.shape.Shape.{Shape}
 use Rattle.nam_ghost.specs.Origins.{IsListedAs}
 use Rattle.nam_ghost.specs.Publications.{Publication}
@@ -9,7 +10,6 @@ use Rattle.si_model.specs.Commits.{Published, published_at}
 use Rattle.si_model.specs.Tells.{Tell, snaps_in, total, writes_in}
 use Rattle.si_model.specs.declared.log.Event.{Event}
 use Rattle.si_model.specs.declared.row.Item.{Item}
-use Rattle.std.specs.Prelude.{List, Some, [], drop, length, slice_get, slice_index_or, take, ℕ, ◌++◌, ◌+◌, ◌∷◌, ◌≡◌}
 
 -- an event with its written items and its snapshot alone, which stand first in these lists
 abbrev pub tell_of : Event → List Item → List (List ℕ) → Tell

@@ -1,5 +1,6 @@
 -- What a client's log has by itself: its events own all written items that it lists, and all snapshots but the one that
 -- is still in use. And the rows of what was published are rows of the shape.
+use Rattle.std.specs.Prelude.{List, None, Option, Some, [], length, ℕ, ◌++◌, ◌<◌, ◌∷◌, ◌≡◌}
 use Rattle.nam_catalog.specs.declared.shape.Shape.{Shape}
 use Rattle.nam_ghost.specs.Publications.{Publication}
 use Rattle.nam_layout.specs.Address.{IsRow}
@@ -14,7 +15,6 @@ use Rattle.nam_verbs.specs.declared.now.Now.{Now}
 use Rattle.nam_verbs.specs.declared.now.Now.TheVariants.{At}
 use Rattle.si_model.specs.Lists.{Listed}
 use Rattle.si_model.specs.Tells.{snaps_in, total, writes_in}
-use Rattle.std.specs.Prelude.{List, None, Option, Some, [], length, ℕ, ◌++◌, ◌<◌, ◌∷◌, ◌≡◌}
 
 -- The snapshot that the log lists and that no event owns yet: the open transaction's, or the running collection's.
 abbrev pub pending : Option Open → Option (Now CallPoint Answer) → List (List ℕ)

@@ -1,4 +1,5 @@
 -- What is claimed of origins holds of each store that comes about, and what it comes to for versions and commits.
+use Rattle.std.specs.Prelude.{List, Some, ℕ, ◌+◌, ◌≡◌}
 use Rattle.nam_catalog.specs.Fits.{FitsLimits}
 use Rattle.nam_catalog.specs.declared.shape.Shape.{Shape}
 use Rattle.nam_ghost.specs.Ghost.{Ghost, IsReachedWith, ghost_step, opening_ghost}
@@ -12,7 +13,6 @@ use Rattle.nam_store.specs.Everyone.{Someone}
 use Rattle.nam_store.specs.Opening.{AreLoaded, opening_store}
 use Rattle.nam_store.specs.Store.{StepsTo, Store, client_at}
 use Rattle.si_model.specs.declared.row.Row.{Row}
-use Rattle.std.specs.Prelude.{List, Some, ℕ, ◌+◌, ◌≡◌}
 
 -- 1. The claims
 

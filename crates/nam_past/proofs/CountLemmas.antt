@@ -1,13 +1,13 @@
 -- Counting stamps in a front of an order: one publication more, later moments, and the place of each number.
-use Rattle.std.proofs.Common.{List, Some, [], ap, arith, inl, inr, le_refl, length, refl, suc, take, zero, ℕ}
-use Rattle.std.proofs.Common.{◌++◌, ◌+◌, ◌<◌, ◌∷◌, ◌≡◌, ◌≢◌, ◌≤◌}
-use Rattle.std.specs.Prelude.{slice_get}
+use Rattle.std.proofs.Common.{List, Some, [], ap, arith, inl, inr, le_refl, length, refl, suc, take, zero, ℕ, ◌++◌, ◌+◌}
+use Rattle.std.proofs.Common.{◌<◌, ◌∷◌, ◌≡◌, ◌≢◌, ◌≤◌}
 use Rattle.std.proofs.lemmas.Bool.{cases_eq}
 use Rattle.std.proofs.lemmas.List.{take-append-le, take_all}
 use Rattle.std.proofs.lemmas.Option.{none-some, same_Some}
+use Rattle.std.specs.Prelude.{slice_get}
+use Rattle.nam_past.specs.Past.{count_of, entry_after}
 use Rattle.nam_verbs.proofs.TestLemmas.{by_equal}
 use Rattle.si_model.specs.declared.log.Stamp.{Stamp}
-use Rattle.nam_past.specs.Past.{count_of, entry_after}
 
 -- 1. Stamps of one worker
 

@@ -1,20 +1,19 @@
 -- One client's step keeps the moments of snapshots, where the order goes on with the vector.
 use Rattle.std.proofs.Common.{List, None, Option, Some, [], arith, inl, inr, length, refl, slice_set, subst, sym, ℕ}
 use Rattle.std.proofs.Common.{⊎_elim, ◌++◌, ◌+◌, ◌<◌, ◌∙◌, ◌∷◌, ◌≡◌, ◌≢◌, ◌≤◌, ◌⊎◌}
-use Rattle.std.specs.Prelude.{slice_get, slice_index}
 use Rattle.std.proofs.lemmas.Bool.{cases_eq, cases_lt}
 use Rattle.std.proofs.lemmas.List.{length_push}
 use Rattle.std.proofs.lemmas.Option.{slice_get_within}
+use Rattle.std.specs.Prelude.{slice_get, slice_index}
+use Rattle.nam_ghost.proofs.ListLemmas.{got_push}
+use Rattle.nam_ghost.specs.Moments.{HasGrown, IsCandidate, IsCandidateOf, IsPassing, Observer, ObserverNext, ObserverOk}
+use Rattle.nam_ghost.specs.Moments.{PassOk}
+use Rattle.nam_past.proofs.CountLemmas.{after_rises, after_stays, more_other, more_own}
+use Rattle.nam_past.specs.Past.{ArePast, HasMoment, IsNext, entry_after}
+use Rattle.nam_store.proofs.Lists.{someone_set}
 use Rattle.nam_vector.specs.declared.snap.SnapPoint.{SnapPoint}
 use Rattle.nam_vector.specs.declared.snap.SnapPoint.TheVariants.{First, Second}
-use Rattle.nam_store.proofs.Lists.{someone_set}
 use Rattle.si_model.specs.declared.log.Stamp.{Stamp}
-use Rattle.nam_ghost.specs.Moments.{AreObservers, HasGrown, IsCandidate, IsCandidateOf, IsPassing}
-use Rattle.nam_ghost.specs.Moments.{Observer, ObserverNext, PassOk}
-use Rattle.nam_moments.proofs.NextLemmas.{observers_keep}
-use Rattle.nam_versions.proofs.ListLemmas.{pushed_cases}
-use Rattle.nam_past.specs.Past.{ArePast, HasMoment, IsNext, entry_after}
-use Rattle.nam_past.proofs.CountLemmas.{after_rises, after_stays, more_other, more_own}
 
 -- 1. The order
 
@@ -69,7 +68,7 @@ module _ (start workers : ℕ) (V : ℕ → ℕ) (observers : List Observer) (or
             ∙ sym (after_stays start order new (length order) worker (omega arith)) in
             λ t. record { thread = worker + 1; number = entry t + 1 };
       })
-      (pushed_cases order new stamp place at)
+      (got_push order new stamp place at)
 
   pub order_goes : (later : List Stamp) → OrderNext workers V now order later
       → OrderGoes start workers now order later
@@ -154,15 +153,15 @@ passing_few start workers V snaps (Some (First got)) s confirmed ok is = absurd 
 passing_few start workers V snaps (Some (Second seen at)) s confirmed ok is =
     let less = ok.0 in let same = is.1 in omega arith
 
-candidate_few : (start workers : ℕ) (V : ℕ → ℕ) (observers : List Observer) → AreObservers start workers V observers
-    → (s : List ℕ) (confirmed : ℕ) → IsCandidate workers observers s confirmed → confirmed ≤ workers
-candidate_few start workers V observers ok s confirmed (nth, (observer, (here, inl passing))) =
-    passing_few start workers V observer.snaps observer.pass s confirmed (ok.each nth observer here).pass passing
-candidate_few start workers V observers ok s confirmed (nth, (observer, (here, inr taken))) =
-    let all = taken.0 in omega arith
+candidate_few : (start workers : ℕ) (V : ℕ → ℕ) (nth : ℕ) (observer : Observer)
+    → ObserverOk start workers V nth observer → (s : List ℕ) (confirmed : ℕ)
+    → IsCandidateOf workers observer s confirmed → confirmed ≤ workers
+candidate_few start workers V nth observer ok s confirmed (inl passing) =
+    passing_few start workers V observer.snaps observer.pass s confirmed ok.pass passing
+candidate_few start workers V nth observer ok s confirmed (inr taken) = let all = taken.0 in omega arith
 
-module _ (start workers : ℕ) (V : ℕ → ℕ) (observers : List Observer) (ok : AreObservers start workers V observers)
-    (nth : ℕ) (before : Observer) (here : slice_get observers nth ≡ Some before) (now : ℕ → ℕ) (after : Observer)
+module _ (start workers : ℕ) (V : ℕ → ℕ) (observers : List Observer) (nth : ℕ) (before : Observer)
+    (here : slice_get observers nth ≡ Some before) (now : ℕ → ℕ) (after : Observer)
     (next : ObserverNext start workers V now nth before after) (order later : List Stamp)
     (past : ArePast start workers V observers order) (goes : OrderNext workers V now order later) where
   moments_keep : (s : List ℕ) (confirmed : ℕ) → IsCandidate workers (slice_set observers nth after) s confirmed
@@ -173,18 +172,14 @@ module _ (start workers : ℕ) (V : ℕ → ℕ) (observers : List Observer) (ok
       goes_so : OrderGoes start workers now order later
       goes_so = order_goes start workers V observers order past now later goes
 
-      few : confirmed ≤ workers
-      few =
-          candidate_few start workers now (slice_set observers nth after)
-          (observers_keep start workers V observers ok nth before here now after next) s confirmed is
-
       by_client : (IsCandidateOf workers after s confirmed)
           ⊎ ((other : ℕ) × ((x : Observer) × ((other ≢ nth) × ((slice_get observers other ≡ Some x)
           × IsCandidateOf workers x s confirmed))))
           → HasMoment start workers later s confirmed
       by_client (inl own) =
           grown_has start workers now order later goes_so (IsCandidateOf workers before)
-          (λ t j was. past.moments t j (nth, (before, (here, was)))) s confirmed few (next.grown s confirmed own)
+          (λ t j was. past.moments t j (nth, (before, (here, was)))) s confirmed
+          (candidate_few start workers now nth after next.own s confirmed own) (next.grown s confirmed own)
       by_client (inr (other, (x, (apart, (there, was))))) =
           moment_stays start workers now order later goes_so s confirmed
           (past.moments s confirmed (other, (x, (there, was))))

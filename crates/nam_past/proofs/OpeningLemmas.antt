@@ -1,17 +1,16 @@
 -- At the opening nothing is published: each entry is the start, and nobody has taken a snapshot.
 use Rattle.std.proofs.Common.{List, arith, inl, inr, map, subst, sym, ℕ, ◌+◌, ◌<◌, ◌∙◌, ◌≡◌}
 use Rattle.std.proofs.lemmas.Option.{none-some}
-use Rattle.si_model.specs.declared.row.Row.{Row}
 use Rattle.nam_catalog.specs.declared.shape.Shape.{Shape}
+use Rattle.nam_ghost.proofs.ObserverLemmas.{observed_client}
+use Rattle.nam_ghost.specs.Moments.{IsCandidate, IsCandidateOf, Observer, entry_in, observer_of}
 use Rattle.nam_layout.specs.declared.field.Field.TheVariants.{Entry}
-use Rattle.nam_protocol.specs.Telling.{new_client}
-use Rattle.nam_protocol.proofs.OpeningLemmas.{opening_law}
-use Rattle.nam_store.specs.Opening.{AreLoaded, opening_store}
-use Rattle.nam_store.proofs.OpeningLemmas.{opening_client}
-use Rattle.nam_ghost.specs.Moments.{IsCandidate, IsCandidateOf, Observer, observer_of}
-use Rattle.nam_moments.specs.MomentsLaw.{entry_in}
-use Rattle.nam_moments.proofs.OpeningLemmas.{observed_client}
 use Rattle.nam_past.specs.PastLaw.{OpensLaw}
+use Rattle.nam_protocol.proofs.OpeningLemmas.{opening_law}
+use Rattle.nam_protocol.specs.Telling.{new_client}
+use Rattle.nam_store.proofs.OpeningLemmas.{opening_client}
+use Rattle.nam_store.specs.Opening.{AreLoaded, opening_store}
+use Rattle.si_model.specs.declared.row.Row.{Row}
 
 module _ (shape : Shape) (rows : List Row) where
   new_none : (nth : ℕ) (s : List ℕ) (confirmed : ℕ)

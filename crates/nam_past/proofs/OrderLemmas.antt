@@ -1,9 +1,11 @@
 -- The order of publication only grows at its end, so each moment of a snapshot stays one.
 use Rattle.std.proofs.Common.{List, None, Option, Some, [], ap, arith, refl, subst, sym, ℕ, ◌+◌, ◌∙◌, ◌∷◌}
 use Rattle.std.proofs.lemmas.List.{append-nil, length-append, take-append-le}
-use Rattle.si_model.specs.Lists.{IsFront}
-use Rattle.si_model.specs.declared.log.Stamp.{Stamp}
 use Rattle.nam_catalog.specs.declared.shape.Shape.{Shape}
+use Rattle.nam_ghost.specs.Ghost.{Ghost, ghost_step}
+use Rattle.nam_ghost.specs.Steps.{order_after}
+use Rattle.nam_past.specs.Past.{IsMoment, count_of}
+use Rattle.nam_past.specs.PrefixLaw.{StaysLaw}
 use Rattle.nam_protocol.specs.Commit.{own_stamp}
 use Rattle.nam_protocol.specs.declared.client.CallPoint.{CallPoint}
 use Rattle.nam_protocol.specs.declared.client.CallPoint.TheVariants.{InTxn}
@@ -11,10 +13,8 @@ use Rattle.nam_protocol.specs.declared.client.Open.{Open}
 use Rattle.nam_protocol.specs.declared.txn.CommitPoint.TheVariants.{Publishing}
 use Rattle.nam_protocol.specs.declared.txn.TxnPoint.TheVariants.{Committing}
 use Rattle.nam_store.specs.Store.{Abandons, Asks, Cuts, StepsTo, Store, Takes}
-use Rattle.nam_ghost.specs.Ghost.{Ghost, ghost_step}
-use Rattle.nam_ghost.specs.Steps.{order_after}
-use Rattle.nam_past.specs.Past.{IsMoment, count_of}
-use Rattle.nam_past.specs.PrefixLaw.{StaysLaw}
+use Rattle.si_model.specs.Lists.{IsFront}
+use Rattle.si_model.specs.declared.log.Stamp.{Stamp}
 
 same_order : (order : List Stamp) → IsFront order order
 same_order order = ([], append-nil order)

@@ -1,4 +1,5 @@
 -- Two commits, three snapshots around them, and their moments, by computing.
+use Rattle.std.proofs.Common.{List, [], arith, refl, slice_index, suc, true, zero, ℕ, ◌<◌, ◌∷◌, ◌≡◌, ◌≤◌}
 use Rattle.nam_calls.specs.Memory.{memory}
 use Rattle.nam_ghost.proofs.CommitExample.{held_shape}
 use Rattle.nam_ghost.proofs.Runs.{Calls, Seen, Turns, after_deeds, client_of, opened, stamp, turns}
@@ -11,7 +12,6 @@ use Rattle.nam_protocol.specs.Opening.{copies, load_from}
 use Rattle.nam_protocol.specs.declared.client.Call.TheVariants.{Begin, Txn}
 use Rattle.nam_protocol.specs.declared.txn.TxnCall.TheVariants.{Commit, Put}
 use Rattle.si_model.specs.declared.log.Stamp.{Stamp}
-use Rattle.std.proofs.Common.{List, [], arith, refl, suc, slice_index, true, zero, ℕ, ◌<◌, ◌∷◌, ◌≡◌, ◌≤◌}
 
 -- Both clients take a snapshot. The first commits. It begins another snapshot, and has read its own entry when the
 -- second client commits; then it goes on.

@@ -1,46 +1,31 @@
 -- What the moment of a snapshot that was taken comes to: which stamps it contains, and how many they are.
-use Rattle.std.proofs.Common.{List, Some, ap, arith, drop, inl, inr, length, subst, suc, take, true, ℕ, ⊎_elim}
-use Rattle.std.proofs.Common.{◌+◌, ◌-◌, ◌<◌, ◌^◌, ◌∙◌, ◌≡◌, ◌≤◌}
-use Rattle.std.specs.Prelude.{slice_get, slice_index}
+use Rattle.std.proofs.Common.{List, Some, ap, arith, drop, inl, inr, length, subst, suc, take, true, ℕ, ⊎_elim, ◌+◌}
+use Rattle.std.proofs.Common.{◌-◌, ◌<◌, ◌^◌, ◌∙◌, ◌≡◌, ◌≤◌}
 use Rattle.std.proofs.lemmas.Bool.{cases_lt}
 use Rattle.std.proofs.lemmas.List.{length-take-le, take-append-drop}
 use Rattle.std.proofs.lemmas.Nat.{mul-le}
-use Rattle.si_model.specs.Snapshots.{sum_above}
-use Rattle.si_model.specs.declared.log.Stamp.{Stamp}
-use Rattle.nam_catalog.specs.Greatest.{greatest_number}
-use Rattle.nam_catalog.specs.declared.form.Form.{Form}
-use Rattle.nam_catalog.specs.declared.form.Form.TheVariants.{Held, Narrow, Wide}
+use Rattle.std.specs.Prelude.{slice_get, slice_index}
 use Rattle.nam_catalog.specs.declared.shape.Shape.{Shape}
+use Rattle.nam_ghost.proofs.ListLemmas.{got_front}
+use Rattle.nam_ghost.proofs.SnapshotLemmas.{entry_small, greatest_small, taken_candidate, taken_found, taken_wide}
+use Rattle.nam_ghost.proofs.VisibleLemmas.{sees_by, sees_says, visible_says}
+use Rattle.nam_ghost.specs.Moments.{AreFound, IsTaken, entry_in}
 use Rattle.nam_header.specs.Visible.{IsLoaders, IsReached, is_visible}
-use Rattle.nam_protocol.specs.Log.{prefix_of}
-use Rattle.nam_store.specs.Store.{Store}
-use Rattle.nam_store.proofs.Lists.{some_within}
-use Rattle.nam_ghost.specs.Moments.{AreFound, has_published, number_now}
-use Rattle.nam_moments.specs.MomentsLaw.{entry_in}
-use Rattle.nam_moments.specs.SnapshotsLaw.{IsTaken}
-use Rattle.nam_moments.proofs.SnapshotLemmas.{entry_is, taken_candidate, taken_wide}
-use Rattle.nam_since.proofs.ListLemmas.{got_front}
-use Rattle.nam_since.proofs.SightLemmas.{sees_by, sees_says}
-use Rattle.nam_verbs.proofs.TestLemmas.{by_test}
-use Rattle.nam_versions.proofs.VisibleLemmas.{visible_says}
+use Rattle.nam_past.proofs.CountLemmas.{after_next, after_rises, stands}
+use Rattle.nam_past.proofs.SumLemmas.{all_counted, prefix_sum, sum_entries, sum_most, sum_over}
 use Rattle.nam_past.specs.Past.{IsNext, PastOk, count_of, entry_after}
 use Rattle.nam_past.specs.PastLaw.{RestsOn}
 use Rattle.nam_past.specs.PrefixLaw.{AllLaw, ContainsLaw, IsPrefix, MomentLaw, SumLaw}
-use Rattle.nam_past.proofs.CountLemmas.{after_next, after_rises, stands}
-use Rattle.nam_past.proofs.StepLemmas.{holds_reached}
-use Rattle.nam_past.proofs.SumLemmas.{all_counted, prefix_sum, sum_entries, sum_most, sum_over}
-
--- no number is far from the greatest one
-greatest_small : (form : Form) → greatest_number form < 2 ^ 45
-greatest_small Narrow = omega arith
-greatest_small Wide = omega arith
-greatest_small Held = omega arith
+use Rattle.nam_protocol.specs.Log.{prefix_of}
+use Rattle.nam_store.specs.Store.{Store}
+use Rattle.si_model.specs.Snapshots.{sum_above}
+use Rattle.si_model.specs.declared.log.Stamp.{Stamp}
 
 module _ (shape : Shape) (store : Store) (rests : RestsOn shape store) (order : List Stamp)
     (past : PastOk shape store order) where
   pub taken_moment : (s : List ℕ) → IsTaken store s → (count : ℕ) × IsPrefix shape order s count
   taken_moment s taken =
-      let has = past.moments s shape.workers (taken_candidate shape store rests.moments s taken) in
+      let has = past.moments s shape.workers (taken_candidate store shape.workers s taken) in
       (has.count, record { within = has.within; entries = has.same })
 
   -- 1. What the order says of a stamp
@@ -63,19 +48,6 @@ module _ (shape : Shape) (store : Store) (rests : RestsOn shape store) (order : 
         let same : next.worker ≡ worker = omega arith in
         subst (λ w. stamp.number ≡ entry_after shape.start order place w + 1) same number_is
 
-  -- no entry is above a commit's next number
-  entry_small : (a : ℕ) → a < shape.workers → entry_in shape store a ≤ 2 ^ 45
-  entry_small a less =
-      let all = rests.base.workers in
-      let t = some_within store.clients a (omega arith) in
-      let is = entry_is shape store rests.moments a t.0 t.1 in
-      let last = (rests.base.clients a t.0 t.1).fits.3 in
-      let small = greatest_small shape.form in
-      let more : number_now t.0.call t.0.last ≤ t.0.last + 1 =
-      by_test (λ n. n ≤ t.0.last + 1) (has_published t.0.call) (t.0.last + 1) t.0.last (λ e. omega arith)
-      (λ e. omega arith) in
-      omega arith
-
   -- 2. A snapshot and its moment
 
   module _ (s : List ℕ) (taken : IsTaken store s) (count : ℕ) (is : IsPrefix shape order s count) where
@@ -83,7 +55,7 @@ module _ (shape : Shape) (store : Store) (rests : RestsOn shape store) (order : 
     wide = taken_wide shape store rests.moments s taken
 
     found : AreFound shape.start (entry_in shape store) shape.workers s
-    found = rests.moments.moments.within s shape.workers (taken_candidate shape store rests.moments s taken)
+    found = taken_found shape store rests.moments s taken
 
     pub sees_front : (place : ℕ) (stamp : Stamp) → slice_get order place ≡ Some stamp → place < count
         → is_visible stamp s ≡ true
@@ -163,32 +135,26 @@ module _ (shape : Shape) (store : Store) (rests : RestsOn shape store) (order : 
         let start = rests.base.limits.start in
         let small = greatest_small shape.form in
         let most = sum_most shape.start (2 ^ 45) s
-        (λ a less. let most = (found a (omega arith)).1 in let entry = entry_small a (omega arith) in omega arith) in
+        (λ a less. let most = (found a (omega arith)).1 in
+        let entry = entry_small shape store rests.base rests.moments a (omega arith) in
+        omega arith) in
         let product = mul-le (length s) (2 ^ 45) 16 (2 ^ 45) (omega arith) (omega arith) in
         prefix_sum shape.start s (omega arith) (λ a less. (found a (omega arith)).0) (omega arith) ∙ sum_is
 
 -- 4. The laws
 
 pub moment_law : MomentLaw
-moment_law shape limits rows loaded store ghost reached =
-    let holds = holds_reached shape limits rows loaded store ghost reached in
-    taken_moment shape store holds.rests ghost.order holds.past
+moment_law shape store order rests past = taken_moment shape store rests order past
 
 pub contains_law : ContainsLaw
-contains_law shape limits rows loaded store ghost reached s taken count is place stamp at =
-    let holds = holds_reached shape limits rows loaded store ghost reached in (
-      front_seen shape store holds.rests ghost.order holds.past s taken count is place stamp at,
-      sees_front shape store holds.rests ghost.order holds.past s taken count is place stamp at,
-    )
+contains_law shape store order rests past s taken count is place stamp at = (
+  front_seen shape store rests order past s taken count is place stamp at,
+  sees_front shape store rests order past s taken count is place stamp at,
+)
 
 pub all_law : AllLaw
-all_law shape limits rows loaded store ghost reached =
-    let holds = holds_reached shape limits rows loaded store ghost reached in
-    all_stand shape store holds.rests ghost.order holds.past
+all_law shape store order rests past = all_stand shape store rests order past
 
 pub sum_law : SumLaw
-sum_law shape limits rows loaded store ghost reached s taken count is =
-    let holds = holds_reached shape limits rows loaded store ghost reached in (
-      sum_is shape store holds.rests ghost.order holds.past s taken count is,
-      prefix_is shape store holds.rests ghost.order holds.past s taken count is,
-    )
+sum_law shape store order rests past s taken count is =
+    (sum_is shape store rests order past s taken count is, prefix_is shape store rests order past s taken count is)

@@ -1,14 +1,23 @@
 -- Each step of a store: how the vector and the order go on, and that snapshots keep their moments.
-use Rattle.std.proofs.Common.{List, None, Option, Some, [], ap, arith, map, refl, subst, sym, ℕ, ◌++◌, ◌+◌}
-use Rattle.std.proofs.Common.{◌∙◌, ◌∷◌, ◌≡◌}
+use Rattle.std.proofs.Common.{List, None, Option, Some, [], ap, arith, map, refl, subst, sym, ℕ, ◌++◌, ◌+◌, ◌∙◌, ◌∷◌}
+use Rattle.std.proofs.Common.{◌≡◌}
 use Rattle.std.proofs.lemmas.List.{map-set}
-use Rattle.si_model.specs.declared.log.Stamp.{Stamp}
-use Rattle.si_model.specs.declared.row.Row.{Row}
-use Rattle.nam_verbs.specs.declared.now.Now.{Now}
-use Rattle.nam_catalog.specs.Fits.{FitsLimits}
-use Rattle.nam_catalog.specs.declared.shape.Shape.{Shape}
-use Rattle.nam_layout.specs.declared.field.Field.TheVariants.{Entry}
 use Rattle.nam_calls.specs.Memory.{memory}
+use Rattle.nam_catalog.specs.declared.shape.Shape.{Shape}
+use Rattle.nam_ghost.proofs.EntryLemmas.{IsNoEntry, commit_no_entry, entry_one}
+use Rattle.nam_ghost.proofs.SnapshotLemmas.{observer_at, observer_ok}
+use Rattle.nam_ghost.proofs.SteppingLemmas.{others_same, stepper_here}
+use Rattle.nam_ghost.specs.Ghost.{Ghost, ghost_step}
+use Rattle.nam_ghost.specs.Idle.{at_place}
+use Rattle.nam_ghost.specs.Moments.{observer_of, vector_of}
+use Rattle.nam_ghost.specs.Stepping.{stepper_after, stepper_before, stepping}
+use Rattle.nam_ghost.specs.Steps.{order_after}
+use Rattle.nam_layout.specs.declared.field.Field.TheVariants.{Entry}
+use Rattle.nam_past.proofs.MomentLemmas.{Adds, OrderNext, Stays, next_stamp, past_keeps}
+use Rattle.nam_past.specs.Past.{ArePast}
+use Rattle.nam_past.specs.PastLaw.{KeepsLaw, RestsOn}
+use Rattle.nam_protocol.specs.Commit.{own_stamp}
+use Rattle.nam_protocol.specs.Sorts.{committing_at}
 use Rattle.nam_protocol.specs.declared.client.Answer.{Answer}
 use Rattle.nam_protocol.specs.declared.client.CallPoint.{CallPoint}
 use Rattle.nam_protocol.specs.declared.client.CallPoint.TheVariants.{InTxn}
@@ -16,27 +25,12 @@ use Rattle.nam_protocol.specs.declared.client.ClientState.{ClientState}
 use Rattle.nam_protocol.specs.declared.client.Open.{Open}
 use Rattle.nam_protocol.specs.declared.txn.CommitPoint.TheVariants.{Publishing}
 use Rattle.nam_protocol.specs.declared.txn.TxnPoint.TheVariants.{Committing}
-use Rattle.nam_protocol.specs.Commit.{own_stamp}
-use Rattle.nam_protocol.specs.Sorts.{committing_at}
-use Rattle.nam_store.specs.Changed.{Does}
-use Rattle.nam_store.specs.Opening.{AreLoaded, opening_store}
-use Rattle.nam_store.specs.Store.{Abandons, Asks, Cuts, StepsTo, Store, Takes, client_at, step}
-use Rattle.nam_store.proofs.BaseLemmas.{base_keeps, client_within, does_law}
+use Rattle.nam_store.proofs.BaseLemmas.{client_within, does_law}
 use Rattle.nam_store.proofs.KindsLemmas.{AllWritten}
-use Rattle.nam_store.proofs.OpeningLemmas.{opening_ok}
-use Rattle.nam_store.proofs.ReachedLemmas.{reached_keeps}
-use Rattle.nam_ghost.specs.Ghost.{Ghost, IsReachedWith, ghost_step, opening_ghost}
-use Rattle.nam_ghost.specs.Moments.{observer_of, vector_of}
-use Rattle.nam_ghost.specs.Steps.{order_after}
-use Rattle.nam_moments.proofs.EntryLemmas.{IsNoEntry, commit_no_entry, entry_one}
-use Rattle.nam_moments.proofs.OpeningLemmas.{opening_moments}
-use Rattle.nam_moments.proofs.SnapshotLemmas.{observer_at, observer_ok}
-use Rattle.nam_moments.proofs.StepLemmas.{moments_kept, step_next}
-use Rattle.nam_versions.proofs.TurnLemmas.{at_place}
-use Rattle.nam_past.specs.Past.{ArePast, PastOk}
-use Rattle.nam_past.specs.PastLaw.{KeepsLaw, ReachedLaw, RestsOn}
-use Rattle.nam_past.proofs.OpeningLemmas.{past_open}
-use Rattle.nam_past.proofs.MomentLemmas.{Adds, OrderNext, Stays, next_stamp, past_keeps}
+use Rattle.nam_store.specs.Changed.{Does}
+use Rattle.nam_store.specs.Store.{Abandons, Asks, Cuts, StepsTo, Store, Takes, client_at, step}
+use Rattle.nam_verbs.specs.declared.now.Now.{Now}
+use Rattle.si_model.specs.declared.log.Stamp.{Stamp}
 
 module _ (shape : Shape) (store : Store) (rests : RestsOn shape store) (nth : ℕ) (client : ClientState) where
   abbrev vector : List ℕ → ℕ → ℕ
@@ -100,49 +94,18 @@ order_next shape store _ (Abandons nth client here resting) ghost rests = Stays 
 order_next shape store _ (Cuts nth client here) ghost rests = Stays (λ a less. refl)
 
 pub past_keep : KeepsLaw
-past_keep shape before after goes ghost rests past =
+past_keep shape before after goes ghost rests next past =
     let later = (ghost_step shape before after goes ghost).order in
-    let step = step_next shape before after goes rests.base rests.moments in
+    let nth = stepping shape before after goes in
+    let client = stepper_before shape before after goes in
+    let then = stepper_after shape before after goes in
     let V = vector_of (memory shape before.words) in
     let now = vector_of (memory shape after.words) in
     let observers = map observer_of before.clients in
-    subst (λ clients. ArePast shape.start shape.workers now (map observer_of clients) later) (sym step.clients)
+    subst (λ clients. ArePast shape.start shape.workers now (map observer_of clients) later)
+    (sym (others_same shape before after goes))
     (subst (λ observers. ArePast shape.start shape.workers now observers later)
-    (sym (map-set observer_of before.clients step.nth step.after))
-    (past_keeps shape.start shape.workers V observers rests.moments step.nth (observer_of step.before)
-    (observer_at shape before rests.moments step.nth step.before step.here) now (observer_of step.after) step.next
-    ghost.order later past (order_next shape before after goes ghost rests)))
-
--- Each store that comes about
-
-rests_open : (shape : Shape) → FitsLimits shape → (rows : List Row) → AreLoaded shape rows
-    → RestsOn shape (opening_store shape rows)
-rests_open shape limits rows loaded =
-    record { base = opening_ok shape limits rows loaded; moments = opening_moments shape limits rows loaded }
-
-rests_keep : (shape : Shape) (before after : Store) → StepsTo shape before after → RestsOn shape before
-    → RestsOn shape after
-rests_keep shape before after goes rests = record {
-  base = base_keeps shape before after goes rests.base;
-  moments = moments_kept shape before after goes rests.base rests.moments;
-}
-
--- with what it rests on
-pub record Holds (shape : Shape) (store : Store) (order : List Stamp) : Type 0 where
-  pub rests : RestsOn shape store
-  pub past : PastOk shape store order
-
-pub holds_reached : (shape : Shape) → FitsLimits shape → (rows : List Row) → AreLoaded shape rows → (store : Store)
-    → (ghost : Ghost) → IsReachedWith shape rows store ghost → Holds shape store ghost.order
-holds_reached shape limits rows loaded =
-    reached_keeps shape rows (opening_ghost shape rows) (ghost_step shape)
-    (λ store ghost. Holds shape store ghost.order)
-    record { rests = rests_open shape limits rows loaded; past = past_open shape limits rows loaded }
-    (λ before after ghost goes holds. record {
-      rests = rests_keep shape before after goes holds.rests;
-      past = past_keep shape before after goes ghost holds.rests holds.past;
-    })
-
-pub past_reached : ReachedLaw
-past_reached shape limits rows loaded store ghost reached =
-    (holds_reached shape limits rows loaded store ghost reached).past
+    (sym (map-set observer_of before.clients nth then))
+    (past_keeps shape.start shape.workers V observers nth (observer_of client)
+    (observer_at before nth client (stepper_here shape before after goes)) now (observer_of then)
+    next ghost.order later past (order_next shape before after goes ghost rests)))

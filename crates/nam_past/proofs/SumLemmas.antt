@@ -1,16 +1,16 @@
 -- Sums: over all workers the stamps of an order are as many as it has; and a snapshot's entries above the start, as a
 -- number and modulo 2^64.
-use Rattle.std.proofs.Common.{List, Some, [], ap, arith, inl, inr, length, refl, suc, sym, zero, ℕ, ◌*◌, ◌+◌, ◌-◌}
-use Rattle.std.proofs.Common.{◌<◌, ◌^◌, ◌∙◌, ◌∷◌, ◌≡◌, ◌≢◌, ◌≤◌}
-use Rattle.std.specs.Prelude.{slice_get, slice_index}
+use Rattle.std.proofs.Common.{List, Some, [], ap, arith, inl, inr, length, refl, suc, sym, zero, ℕ, ◌*◌, ◌+◌, ◌-◌, ◌<◌}
+use Rattle.std.proofs.Common.{◌^◌, ◌∙◌, ◌∷◌, ◌≡◌, ◌≢◌, ◌≤◌}
 use Rattle.std.proofs.Math.Nat.{add-mod_left, mod-eq_of_lt}
 use Rattle.std.proofs.lemmas.Bool.{cases_eq}
+use Rattle.std.specs.Prelude.{slice_get, slice_index}
 use Rattle.nam_calls.specs.Words.{wrapped}
+use Rattle.nam_past.proofs.CountLemmas.{count_other, count_own}
+use Rattle.nam_past.specs.Past.{count_of}
 use Rattle.nam_protocol.specs.Log.{prefix_of}
 use Rattle.si_model.specs.Snapshots.{sum_above}
 use Rattle.si_model.specs.declared.log.Stamp.{Stamp}
-use Rattle.nam_past.specs.Past.{count_of}
-use Rattle.nam_past.proofs.CountLemmas.{count_other, count_own}
 
 -- 1. Over so many workers, from one on
 

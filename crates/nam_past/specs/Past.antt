@@ -1,12 +1,12 @@
 -- The order of publication as a line of moments, and the moment of a snapshot: the number of the order's first stamps
 -- that it contains, which are all that it contains above the start.
+use Rattle.std.specs.Prelude.{List, Some, [], if◌then◌else◌, length, map, slice_get, slice_index, take, ℕ, ◌+◌, ◌<◌}
+use Rattle.std.specs.Prelude.{◌==◌, ◌∷◌, ◌≡◌, ◌≤◌}
 use Rattle.nam_calls.specs.Memory.{memory}
 use Rattle.nam_catalog.specs.declared.shape.Shape.{Shape}
 use Rattle.nam_ghost.specs.Moments.{IsCandidate, Observer, observer_of, vector_of}
 use Rattle.nam_store.specs.Store.{Store}
 use Rattle.si_model.specs.declared.log.Stamp.{Stamp}
-use Rattle.std.specs.Prelude.{List, Some, [], if◌then◌else◌, length, map, slice_get, slice_index, take, ℕ, ◌+◌, ◌<◌}
-use Rattle.std.specs.Prelude.{◌==◌, ◌∷◌, ◌≡◌, ◌≤◌}
 
 -- 1. The vector at a moment
 

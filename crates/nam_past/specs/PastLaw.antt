@@ -1,14 +1,14 @@
--- What is claimed of the moments of snapshots in the order of publication holds of every store that comes about.
+-- What is claimed of the moments of snapshots in the order of publication holds at the opening, and each step keeps it.
+use Rattle.std.specs.Prelude.{List}
 use Rattle.nam_catalog.specs.Fits.{FitsLimits}
 use Rattle.nam_catalog.specs.declared.shape.Shape.{Shape}
-use Rattle.nam_ghost.specs.Ghost.{Ghost, IsReachedWith, ghost_step, opening_ghost}
-use Rattle.nam_ghost.specs.Moments.{MomentsOk}
+use Rattle.nam_ghost.specs.Ghost.{Ghost, ghost_step, opening_ghost}
+use Rattle.nam_ghost.specs.Moments.{MomentsNext, MomentsOk}
 use Rattle.nam_past.specs.Past.{PastOk}
 use Rattle.nam_store.specs.Base.{BaseOk}
 use Rattle.nam_store.specs.Opening.{AreLoaded, opening_store}
 use Rattle.nam_store.specs.Store.{StepsTo, Store}
 use Rattle.si_model.specs.declared.row.Row.{Row}
-use Rattle.std.specs.Prelude.{List}
 
 -- what the law of words says before a step; no more of it is needed
 pub record RestsOn (shape : Shape) (store : Store) : Type 0 where
@@ -21,9 +21,5 @@ OpensLaw = (shape : Shape) → FitsLimits shape → (rows : List Row) → AreLoa
 
 abbrev pub KeepsLaw : Type 0
 KeepsLaw = (shape : Shape) (before after : Store) (goes : StepsTo shape before after) (ghost : Ghost)
-    → RestsOn shape before → PastOk shape before ghost.order
+    → RestsOn shape before → MomentsNext shape before after goes → PastOk shape before ghost.order
     → PastOk shape after (ghost_step shape before after goes ghost).order
-
-abbrev pub ReachedLaw : Type 0
-ReachedLaw = (shape : Shape) → FitsLimits shape → (rows : List Row) → AreLoaded shape rows → (store : Store)
-    → (ghost : Ghost) → IsReachedWith shape rows store ghost → PastOk shape store ghost.order

@@ -1,6 +1,6 @@
 //! What holds of the order of publication and the snapshots, step by step, and what it comes to.
 
-ghost use Rattle.nam_past.specs.PastLaw.{KeepsLaw, OpensLaw, ReachedLaw};
+ghost use Rattle.nam_past.specs.PastLaw.{KeepsLaw, OpensLaw};
 ghost use Rattle.nam_past.specs.PrefixLaw.{AllLaw, ContainsLaw, MomentLaw, StaysLaw, SumLaw};
 
 /// Snapshots are moments of the order in which commits were published (`PastOk`).
@@ -11,14 +11,13 @@ ghost use Rattle.nam_past.specs.PrefixLaw.{AllLaw, ContainsLaw, MomentLaw, Stays
 ///
 /// The opening has it, with any rows that may be loaded (`opening`). Each verb, each call that is asked, each
 /// transaction that is given up and each stop keeps it (`step`), of a store that meets what is said of calls and of
-/// snapshots (`RestsOn`). So each store that comes about has it (`reached`).
+/// snapshots (`RestsOn`), where the step's client goes on as an observer of the vector may.
 pub fn past_law()
     ensures opening { OpensLaw }
     ensures step { KeepsLaw }
-    ensures reached { ReachedLaw }
 {}
 
-/// What that comes to, for each snapshot that some client has taken, in each store that comes about.
+/// What that comes to, for each snapshot that some client has taken.
 ///
 /// It is the vector after a front of the order of publication (`moment`), which no step changes (`stays`). Of the
 /// stamps in the order it sees those of the front and no others (`contains`), and above the start it sees no others at

@@ -2,15 +2,11 @@
 -- none gives another one, and after the last cell a horizon entry is above the snapshot's.
 use Rattle.std.proofs.Common.{List, None, Some, [], ap, arith, eqb, false, inl, inr, length, not, refl, slice_get}
 use Rattle.std.proofs.Common.{subst, sym, true, ℕ, ◌++◌, ◌+◌, ◌-◌, ◌<◌, ◌∙◌, ◌∷◌, ◌≡◌, ◌≢◌}
-use Rattle.std.specs.Prelude.{Bool, if◌then◌else◌, is_some, nat_lt, slice_index}
+use Rattle.std.proofs.Math.Arith.{lt_of_le-ne}
 use Rattle.std.proofs.lemmas.Bool.{cases_eq, cases_lt, ltb-false, ltb-true, true≢false}
 use Rattle.std.proofs.lemmas.List.{length_push}
 use Rattle.std.proofs.lemmas.Option.{same_Some}
-use Rattle.std.proofs.Math.Arith.{lt_of_le-ne}
-use Rattle.nam_verbs.specs.VerbAt.{found_at}
-use Rattle.nam_verbs.specs.declared.now.Now.{Now}
-use Rattle.nam_verbs.specs.declared.now.Now.TheVariants.{At, Over}
-use Rattle.nam_verbs.proofs.TestLemmas.{by_equal, by_test}
+use Rattle.std.specs.Prelude.{Bool, if◌then◌else◌, is_some, nat_lt, slice_index}
 use Rattle.nam_calls.specs.Fits.{CellFits, IsOf}
 use Rattle.nam_calls.specs.Horizon.{old_after}
 use Rattle.nam_calls.specs.Overflow.{cell_after, cell_verb, next_cell}
@@ -22,32 +18,36 @@ use Rattle.nam_calls.specs.declared.overflow.CellPoint.TheVariants.{CellTag, Cel
 use Rattle.nam_calls.specs.declared.ring.SearchEnd.{SearchEnd}
 use Rattle.nam_calls.specs.declared.ring.SearchEnd.TheVariants.{Found, NotThere}
 use Rattle.nam_catalog.specs.declared.shape.Shape.{Shape}
-use Rattle.nam_header.specs.declared.header.Header.{Header}
-use Rattle.nam_header.specs.Header.{header_of}
-use Rattle.nam_header.specs.Stamp.{is_deleted, sees, stamp_in}
-use Rattle.nam_header.specs.Tag.{state_of}
-use Rattle.nam_header.specs.Visible.{is_visible}
-use Rattle.nam_layout.specs.Place.{bucket_of, cells_of, place_at}
-use Rattle.nam_layout.specs.Rows.{width_at}
-use Rattle.nam_layout.specs.declared.field.Cells.{Cells}
-use Rattle.nam_layout.specs.declared.field.Field.{Field}
-use Rattle.nam_layout.specs.declared.field.Field.TheVariants.{Begin, CellWord, End, Horizon, Owner, Tag}
-use Rattle.nam_layout.specs.declared.field.Place.{Place}
-use Rattle.si_model.specs.declared.log.Stamp.{Stamp}
-use Rattle.nam_store.proofs.Lists.{some_within}
+use Rattle.nam_ghost.proofs.CellLemmas.{bucket_within}
+use Rattle.nam_ghost.proofs.ValueLemmas.{got_more, got_none, old_says, stamp_says}
+use Rattle.nam_ghost.proofs.VisibleLemmas.{reached_visible}
 use Rattle.nam_ghost.specs.Cells.{Cell, CellIs, CellMap, CellsAre, ClaimedBy, FreeCell, IsElsewhere, IsEnded}
 use Rattle.nam_ghost.specs.Cells.{IsOverflowed, IsWhole, Stores, end_at, end_by}
 use Rattle.nam_ghost.specs.Reads.{CellTest, CellsAt, HorizonAt, IsAheadOf, UnderTag}
 use Rattle.nam_ghost.specs.Slots.{Ring, home}
 use Rattle.nam_ghost.specs.Versions.{Chain, HasData, HasGot, IsNth, Version, cell_image, current_number, versions}
 use Rattle.nam_ghost.specs.Wanted.{Wanted}
-use Rattle.nam_ghost.proofs.ValueLemmas.{got_more, got_none, old_says, stamp_says}
-use Rattle.nam_cells.proofs.StayLemmas.{bucket_within}
+use Rattle.nam_header.specs.Header.{header_of}
+use Rattle.nam_header.specs.Stamp.{is_deleted, sees, stamp_in}
+use Rattle.nam_header.specs.Tag.{state_of}
+use Rattle.nam_header.specs.Visible.{is_visible}
+use Rattle.nam_header.specs.declared.header.Header.{Header}
+use Rattle.nam_layout.specs.Place.{bucket_of, cells_of, place_at}
+use Rattle.nam_layout.specs.Rows.{width_at}
+use Rattle.nam_layout.specs.declared.field.Cells.{Cells}
+use Rattle.nam_layout.specs.declared.field.Field.{Field}
+use Rattle.nam_layout.specs.declared.field.Field.TheVariants.{Begin, CellWord, End, Horizon, Owner, Tag}
+use Rattle.nam_layout.specs.declared.field.Place.{Place}
+use Rattle.nam_reads.proofs.CurrentLemmas.{whole_value}
+use Rattle.nam_reads.proofs.WantedLemmas.{next_hidden, only, wanted_is}
 use Rattle.nam_reads.specs.Comes.{CellsCome, HorizonComes}
 use Rattle.nam_reads.specs.Facts.{RowFacts}
-use Rattle.nam_reads.proofs.CurrentLemmas.{whole_value}
-use Rattle.nam_reads.proofs.FrontLemmas.{reached_seen}
-use Rattle.nam_reads.proofs.WantedLemmas.{next_hidden, only, wanted_is}
+use Rattle.nam_store.proofs.Lists.{some_within}
+use Rattle.nam_verbs.proofs.TestLemmas.{by_equal, by_test}
+use Rattle.nam_verbs.specs.VerbAt.{found_at}
+use Rattle.nam_verbs.specs.declared.now.Now.{Now}
+use Rattle.nam_verbs.specs.declared.now.Now.TheVariants.{At, Over}
+use Rattle.si_model.specs.declared.log.Stamp.{Stamp}
 
 module _ (shape : Shape) (chains : ℕ → Chain) (rings : ℕ → Ring) (m : Field → ℕ) (cells : CellMap) (seen : List ℕ)
     (row : ℕ) where
@@ -102,7 +102,8 @@ module _ (shape : Shape) (chains : ℕ → Chain) (rings : ℕ → Ring) (m : Fi
           | inr reached ↦
               let long = facts.long in
               let most = ended.1 in
-              absurd (true≢false (sym (reached_seen (end_of number) seen (ended.0, omega arith, reached)) ∙ end_hidden))
+              absurd (true≢false (sym (reached_visible (end_of number) seen (ended.0, omega arith, reached))
+              ∙ end_hidden))
         ]
 
     -- 2. A cell is left, which doesn't have the wanted version

@@ -1,14 +1,23 @@
 -- A copy of the current version ends with the stamp of its holder's next commit, which no snapshot sees yet.
-use Rattle.std.proofs.Common.{List, None, Option, Some, ap, arith, eqb, false, inl, inr, option_map, refl}
-use Rattle.std.proofs.Common.{subst, sym}
+use Rattle.std.proofs.Common.{List, None, Option, Some, ap, arith, eqb, false, inl, inr, option_map, refl, subst, sym}
 use Rattle.std.proofs.Common.{true, ℕ, ◌+◌, ◌-◌, ◌<◌, ◌∙◌, ◌≡◌, ◌≤◌}
 use Rattle.std.proofs.lemmas.Bool.{and_parts, cases_lt, eqb-true, true_from_ne_false, true≢false}
 use Rattle.std.proofs.lemmas.Option.{same_Some, slice_get-map}
-use Rattle.si_model.specs.declared.log.Stamp.{Stamp}
-use Rattle.nam_verbs.specs.declared.now.Now.{Now}
-use Rattle.nam_verbs.specs.declared.now.Now.TheVariants.{At, Over}
 use Rattle.nam_calls.specs.Memory.{memory}
+use Rattle.nam_calls.specs.declared.ring.CopyPoint.{CopyPoint}
+use Rattle.nam_calls.specs.declared.ring.CopyPoint.TheVariants.{CopyEnding, CopyHead, CopyMark, CopyWord}
 use Rattle.nam_catalog.specs.declared.shape.Shape.{Shape}
+use Rattle.nam_ghost.proofs.IdleLemmas.{copier_holds}
+use Rattle.nam_ghost.proofs.SnapshotLemmas.{entry_is, taken_found}
+use Rattle.nam_ghost.proofs.VisibleLemmas.{unreached_hidden}
+use Rattle.nam_ghost.specs.Copiers.{Aside, Copied, CopyOk, CopyState, EndNext, Fills, IsCopy, MarkNext, Saves}
+use Rattle.nam_ghost.specs.Copiers.{copier_in, copier_of, copying_in, current_slot, has_copied}
+use Rattle.nam_ghost.specs.Ghost.{Ghost}
+use Rattle.nam_ghost.specs.Holders.{Holder, Holds, HoldsRow, holder_of}
+use Rattle.nam_ghost.specs.Locks.{HolderOk}
+use Rattle.nam_ghost.specs.Moments.{IsTaken, number_now}
+use Rattle.nam_ghost.specs.Slots.{Kept, KeptOk, SlotIs, home}
+use Rattle.nam_ghost.specs.Versions.{current_number, slot_image}
 use Rattle.nam_header.specs.Header.{flag}
 use Rattle.nam_header.specs.Visible.{is_visible}
 use Rattle.nam_layout.specs.Address.{IsRow}
@@ -22,35 +31,16 @@ use Rattle.nam_protocol.specs.declared.client.CallPoint.{CallPoint}
 use Rattle.nam_protocol.specs.declared.client.CallPoint.TheVariants.{InTxn}
 use Rattle.nam_protocol.specs.declared.client.ClientState.{ClientState}
 use Rattle.nam_protocol.specs.declared.client.Open.{Open}
-use Rattle.nam_calls.specs.declared.ring.CopyPoint.{CopyPoint}
-use Rattle.nam_calls.specs.declared.ring.CopyPoint.TheVariants.{CopyEnding, CopyHead, CopyMark, CopyWord}
 use Rattle.nam_protocol.specs.declared.txn.CommitPoint.TheVariants.{Copying, Installing}
 use Rattle.nam_protocol.specs.declared.txn.TxnPoint.TheVariants.{Committing}
-use Rattle.nam_store.specs.Store.{Store, client_at}
-use Rattle.nam_store.proofs.Lists.{some_within}
-use Rattle.nam_ghost.specs.Copiers.{Aside, Copied, CopyOk, CopyState, EndNext, Fills, IsCopy, MarkNext, Saves}
-use Rattle.nam_ghost.specs.Copiers.{copier_in, copier_of, copying_in, current_slot, has_copied}
-use Rattle.nam_ghost.specs.Ghost.{Ghost}
-use Rattle.nam_ghost.specs.Holders.{Holder, Holds, HoldsRow, holder_in, holder_of}
-use Rattle.nam_ghost.specs.Locks.{HolderOk}
-use Rattle.nam_ghost.specs.Moments.{number_now}
-use Rattle.nam_ghost.specs.Slots.{Kept, KeptOk, SlotIs, home}
-use Rattle.nam_ghost.specs.Versions.{current_number, slot_image}
-use Rattle.nam_moments.specs.SnapshotsLaw.{IsTaken}
-use Rattle.nam_moments.proofs.SnapshotLemmas.{are_snapshots, entry_is}
 use Rattle.nam_reads.specs.ReadsLaw.{Stands}
-use Rattle.nam_reads.proofs.FrontLemmas.{unreached_hidden}
+use Rattle.nam_store.proofs.Lists.{some_within}
+use Rattle.nam_store.specs.Store.{Store, client_at}
+use Rattle.nam_verbs.specs.declared.now.Now.{Now}
+use Rattle.nam_verbs.specs.declared.now.Now.TheVariants.{At, Over}
+use Rattle.si_model.specs.declared.log.Stamp.{Stamp}
 
 -- 1. A client as one that copies
-
-copier_holder : (worker : ℕ) (call : Option (Now CallPoint Answer)) (opened : Option Open)
-    → (copier_in worker call opened).holder ≡ holder_in worker call opened
-copier_holder worker (Some (At (InTxn (Committing at)))) (Some attempt) = refl
-copier_holder worker (Some (At (InTxn (Committing at)))) None = refl
-copier_holder worker (Some (At (InTxn _))) opened = refl
-copier_holder worker (Some (At _)) opened = refl
-copier_holder worker (Some (Over answer)) opened = refl
-copier_holder worker None opened = refl
 
 -- while it copies it has not copied
 copies_yet : (width : ℕ) (old : List ℕ) (at : CopyPoint) → has_copied (copying_in width old at) ≡ false
@@ -104,7 +94,7 @@ module _ (shape : Shape) (store : Store) (ghost : Ghost) (stands : Stands shape 
 
     holder_ok : HolderOk shape m ghost.chains nth holder
     holder_ok =
-        subst (HolderOk shape m ghost.chains nth) (sym (copier_holder client.worker client.call client.txn))
+        subst (HolderOk shape m ghost.chains nth) (sym (copier_holds client))
         (stands.locks.each nth (holder_of client)
         (slice_get-map holder_of store.clients nth ∙ ap (option_map holder_of) here))
 
@@ -134,7 +124,7 @@ module _ (shape : Shape) (store : Store) (ghost : Ghost) (stands : Stands shape 
         let number = copied_number client.worker client.last client.log.snaps client.call client.txn own made.0 in
         let entry = entry_is shape store stands.moments nth client here in
         let worker = (stands.locks.rows row inside).worker in
-        let most = (are_snapshots shape store stands.moments).published seen taken nth (omega arith) in
+        let most = taken_found shape store stands.moments seen taken nth (omega arith) in
         let least = most.1 in
         unreached_hidden nth holder.stamp seen holder_ok.worker (omega arith)
 

@@ -1,13 +1,9 @@
 -- Each word of a read that looks at the current version.
 use Rattle.std.proofs.Common.{List, None, Option, Some, [], ap, arith, eqb, false, inl, inr, length, not, refl, subst}
-use Rattle.std.proofs.Common.{sym, true, ℕ, ⊎_elim, ◌++◌, ◌<◌, ◌∙◌, ◌∷◌, ◌≡◌, ◌||◌, ◌⊎◌}
-use Rattle.std.specs.Prelude.{Bool, if◌then◌else◌, is_some, slice_index}
+use Rattle.std.proofs.Common.{sym, true, ℕ, ⊎_elim, ◌++◌, ◌<◌, ◌||◌, ◌∙◌, ◌∷◌, ◌≡◌, ◌⊎◌}
 use Rattle.std.proofs.lemmas.Bool.{cases_Bool, ltb-false, not-false, or_parts, true≢false}
 use Rattle.std.proofs.lemmas.List.{ext_get_or}
-use Rattle.nam_verbs.specs.VerbAt.{found_at}
-use Rattle.nam_verbs.specs.declared.now.Now.{Now}
-use Rattle.nam_verbs.specs.declared.now.Now.TheVariants.{At, Over}
-use Rattle.nam_verbs.proofs.TestLemmas.{by_test}
+use Rattle.std.specs.Prelude.{Bool, if◌then◌else◌, is_some, slice_index}
 use Rattle.nam_calls.specs.Fits.{CurrentFits, HasWidth}
 use Rattle.nam_calls.specs.Reading.{on_current}
 use Rattle.nam_calls.specs.Record.{current_after, current_verb, recheck_end}
@@ -19,24 +15,28 @@ use Rattle.nam_calls.specs.declared.record.CurrentEnd.TheVariants.{Found, GoOld,
 use Rattle.nam_calls.specs.declared.record.CurrentPoint.{CurrentPoint}
 use Rattle.nam_calls.specs.declared.record.CurrentPoint.TheVariants.{CurrentAgain, CurrentHead, CurrentWords}
 use Rattle.nam_catalog.specs.declared.shape.Shape.{Shape}
-use Rattle.nam_header.specs.declared.header.Header.{Header}
-use Rattle.nam_header.specs.Stamp.{is_deleted, is_locked, same_stamp, sees}
-use Rattle.nam_header.specs.Visible.{is_visible}
-use Rattle.nam_layout.specs.Place.{place_at}
-use Rattle.nam_layout.specs.Rows.{width_at}
-use Rattle.nam_layout.specs.declared.field.Field.{Field}
-use Rattle.nam_layout.specs.declared.field.Place.{Place}
-use Rattle.nam_layout.specs.declared.field.Field.TheVariants as field
+use Rattle.nam_ghost.proofs.ValueLemmas.{got_more, got_none}
 use Rattle.nam_ghost.specs.Cells.{CellMap, IsElsewhere}
 use Rattle.nam_ghost.specs.Reads.{CurrentAt, CurrentWith, HeaderRead, IsUnsure}
 use Rattle.nam_ghost.specs.Slots.{Keeps, Ring, home}
 use Rattle.nam_ghost.specs.Versions.{Chain, HasData, HasGot, Version, current_number}
 use Rattle.nam_ghost.specs.Wanted.{IsAhead, Wanted}
-use Rattle.nam_ghost.proofs.ValueLemmas.{got_more, got_none}
+use Rattle.nam_header.specs.Stamp.{is_deleted, is_locked, same_stamp, sees}
+use Rattle.nam_header.specs.Visible.{is_visible}
+use Rattle.nam_header.specs.declared.header.Header.{Header}
+use Rattle.nam_layout.specs.Place.{place_at}
+use Rattle.nam_layout.specs.Rows.{width_at}
+use Rattle.nam_layout.specs.declared.field.Field.{Field}
+use Rattle.nam_layout.specs.declared.field.Place.{Place}
+use Rattle.nam_reads.proofs.WantedLemmas.{by_stamp, is_old, newest, now_header, now_is, now_last, now_sees, now_stamp}
+use Rattle.nam_reads.proofs.WantedLemmas.{nth_within, same_stamps, stamps_same}
 use Rattle.nam_reads.specs.Comes.{Comes}
 use Rattle.nam_reads.specs.Facts.{RowFacts}
-use Rattle.nam_reads.proofs.WantedLemmas.{by_stamp, header_says, is_old, newest, now_is, now_last, now_stamp}
-use Rattle.nam_reads.proofs.WantedLemmas.{now_sees, nth_within, same_stamps, stamps_same}
+use Rattle.nam_verbs.proofs.TestLemmas.{by_test}
+use Rattle.nam_verbs.specs.VerbAt.{found_at}
+use Rattle.nam_verbs.specs.declared.now.Now.{Now}
+use Rattle.nam_verbs.specs.declared.now.Now.TheVariants.{At, Over}
+use Rattle.nam_layout.specs.declared.field.Field.TheVariants as field
 
 -- 1. Values
 
@@ -100,7 +100,7 @@ module _ (shape : Shape) (chains : ℕ → Chain) (rings : ℕ → Ring) (m : Fi
     }
 
     deleted_says : is_deleted shape.form header ≡ not (is_some chain.now.value)
-    deleted_says = ap (λ (h : Header). h.deleted) (header_says facts)
+    deleted_says = ap (λ (h : Header). h.deleted) (now_header facts)
 
     visible_found : sees shape.form seen header ≡ true
         → Goes (if is_deleted shape.form header then Over (Found None) else At (CurrentWords header []))
@@ -227,7 +227,7 @@ module _ (shape : Shape) (chains : ℕ → Chain) (rings : ℕ → Ring) (m : Fi
         where
           clean : is_locked shape.form header ≡ false → chain.dirty ≡ false
           clean unlocked =
-              let says = ap (λ (h : Header). h.locked) (header_says facts) in
+              let says = ap (λ (h : Header). h.locked) (now_header facts) in
               let least = ltb-false 0 chain.holder (sym says ∙ unlocked) in
               (facts.record_is.free (omega arith)).0
 

@@ -1,7 +1,5 @@
 -- What the next word of a client that reads leads to, and so what the end of its read tells.
 use Rattle.std.proofs.Common.{Some, ap, subst, sym, ℕ, ◌∙◌, ◌≡◌}
-use Rattle.nam_verbs.specs.VerbAt.{VerbAt, found_at}
-use Rattle.nam_verbs.specs.declared.now.Now.TheVariants.{Over}
 use Rattle.nam_calls.specs.Fits.{ReadFits}
 use Rattle.nam_calls.specs.Memory.{memory}
 use Rattle.nam_calls.specs.Reading.{read_after, read_verb}
@@ -9,18 +7,20 @@ use Rattle.nam_calls.specs.declared.reading.ReadingEnd.{ReadingEnd}
 use Rattle.nam_calls.specs.declared.reading.ReadingEnd.TheVariants.{Astray, Got, Passed}
 use Rattle.nam_calls.specs.declared.reading.Sight.{Sight}
 use Rattle.nam_catalog.specs.declared.shape.Shape.{Shape}
+use Rattle.nam_ghost.specs.Ghost.{Ghost}
+use Rattle.nam_ghost.specs.Reads.{ReadOkAt, ReaderOk}
 use Rattle.nam_layout.specs.declared.field.Field.{Field}
 use Rattle.nam_protocol.specs.Reader.{Reader, reader_of}
 use Rattle.nam_protocol.specs.declared.client.ClientState.{ClientState}
-use Rattle.nam_store.specs.Store.{Store, client_at, found_word, next_verb}
-use Rattle.nam_ghost.specs.Ghost.{Ghost}
-use Rattle.nam_ghost.specs.Reads.{ReadOkAt, ReaderOk}
-use Rattle.nam_reads.specs.Comes.{Comes, row_sight}
-use Rattle.nam_reads.specs.FoundLaw.{NeverAstrayLaw, NewestLaw, ReadsAs, TooOldLaw, now_read}
-use Rattle.nam_reads.specs.ReadsLaw.{Stands}
 use Rattle.nam_reads.proofs.FactsLemmas.{row_facts}
 use Rattle.nam_reads.proofs.ReadLemmas.{read_found}
 use Rattle.nam_reads.proofs.ReaderLemmas.{reading, reading_taken}
+use Rattle.nam_reads.specs.Comes.{Comes, row_sight}
+use Rattle.nam_reads.specs.FoundLaw.{NeverAstrayLaw, NewestLaw, ReadsAs, TooOldLaw, now_read}
+use Rattle.nam_reads.specs.ReadsLaw.{Stands}
+use Rattle.nam_store.specs.Store.{Store, client_at, found_word, next_verb}
+use Rattle.nam_verbs.specs.VerbAt.{VerbAt, found_at}
+use Rattle.nam_verbs.specs.declared.now.Now.TheVariants.{Over}
 
 module _ (shape : Shape) (store : Store) (ghost : Ghost) (stands : Stands shape store ghost) (nth : ℕ)
     (client : ClientState) (here : client_at store nth ≡ Some client) (reader : Reader)

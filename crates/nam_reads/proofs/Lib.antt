@@ -1,4 +1,3 @@
-pub mod FrontLemmas
 pub mod WantedLemmas
 pub mod CurrentLemmas
 pub mod RingLemmas

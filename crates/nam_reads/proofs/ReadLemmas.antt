@@ -1,8 +1,5 @@
 -- Each word of a read: where it leads, the reader may rely on what is claimed there; where it ends, it tells the truth.
 use Rattle.std.proofs.Common.{List, Option, subst, sym, ℕ, ◌<◌, ◌≡◌}
-use Rattle.nam_verbs.specs.VerbAt.{found_at}
-use Rattle.nam_verbs.specs.declared.now.Now.{Now}
-use Rattle.nam_verbs.specs.declared.now.Now.TheVariants.{At, Over}
 use Rattle.nam_calls.specs.Fits.{HasWidth, ReadFits}
 use Rattle.nam_calls.specs.Horizon.{old_after}
 use Rattle.nam_calls.specs.Overflow.{cell_after, cell_verb}
@@ -19,22 +16,25 @@ use Rattle.nam_calls.specs.declared.ring.RingPoint.{RingPoint}
 use Rattle.nam_calls.specs.declared.ring.SearchEnd.{SearchEnd}
 use Rattle.nam_calls.specs.declared.ring.SearchEnd.TheVariants.{Found, NotThere}
 use Rattle.nam_catalog.specs.declared.shape.Shape.{Shape}
+use Rattle.nam_ghost.specs.Cells.{CellMap, CellsAre, IsElsewhere}
+use Rattle.nam_ghost.specs.Reads.{HeaderRead, IsUnsure, ReadOkAt}
+use Rattle.nam_ghost.specs.Slots.{Ring}
+use Rattle.nam_ghost.specs.Versions.{Chain, Version, current_number}
+use Rattle.nam_ghost.specs.Wanted.{IsNewest, RingNow, Wanted}
 use Rattle.nam_layout.specs.Place.{bucket_of, cells_of, place_at}
 use Rattle.nam_layout.specs.Rows.{width_at}
 use Rattle.nam_layout.specs.declared.field.Cells.{Cells}
 use Rattle.nam_layout.specs.declared.field.Field.{Field}
 use Rattle.nam_layout.specs.declared.field.Field.TheVariants.{Horizon}
 use Rattle.nam_layout.specs.declared.field.Place.{Place}
-use Rattle.nam_ghost.specs.Cells.{CellMap, CellsAre, IsElsewhere}
-use Rattle.nam_ghost.specs.Reads.{HeaderRead, IsUnsure, ReadOkAt}
-use Rattle.nam_ghost.specs.Slots.{Ring}
-use Rattle.nam_ghost.specs.Versions.{Chain, Version, current_number}
-use Rattle.nam_ghost.specs.Wanted.{IsNewest, RingNow, Wanted}
-use Rattle.nam_reads.specs.Comes.{CellsCome, Comes, HorizonComes, row_sight}
-use Rattle.nam_reads.specs.Facts.{RowFacts}
 use Rattle.nam_reads.proofs.CellLemmas.{cell_found, horizon_found}
 use Rattle.nam_reads.proofs.CurrentLemmas.{current_found, recheck_found}
 use Rattle.nam_reads.proofs.RingLemmas.{ring_found}
+use Rattle.nam_reads.specs.Comes.{CellsCome, Comes, HorizonComes, row_sight}
+use Rattle.nam_reads.specs.Facts.{RowFacts}
+use Rattle.nam_verbs.specs.VerbAt.{found_at}
+use Rattle.nam_verbs.specs.declared.now.Now.{Now}
+use Rattle.nam_verbs.specs.declared.now.Now.TheVariants.{At, Over}
 
 module _ (shape : Shape) (chains : ℕ → Chain) (rings : ℕ → Ring) (m : Field → ℕ) (cells : CellMap) (seen : List ℕ)
     (row : ℕ) where

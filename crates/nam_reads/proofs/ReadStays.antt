@@ -1,6 +1,5 @@
 -- What a reader may rely on stays under each step, its own too: by rows, cells and the horizon going on as they may.
-use Rattle.std.proofs.Common.{List, [], ap, arith, inl, inr, subst, true, ℕ, ◌+◌, ◌-◌, ◌<◌}
-use Rattle.std.proofs.Common.{◌∙◌, ◌≡◌, ◌≤◌}
+use Rattle.std.proofs.Common.{List, [], ap, arith, inl, inr, subst, true, ℕ, ◌+◌, ◌-◌, ◌<◌, ◌∙◌, ◌≡◌, ◌≤◌}
 use Rattle.std.specs.Prelude.{Bool, false}
 use Rattle.nam_calls.specs.Fits.{CellFits, ReadFits}
 use Rattle.nam_calls.specs.declared.overflow.CellPoint.{CellPoint}
@@ -12,23 +11,23 @@ use Rattle.nam_calls.specs.declared.reading.ReadPoint.TheVariants.{ReadRing, Rea
 use Rattle.nam_calls.specs.declared.record.CurrentPoint.{CurrentPoint}
 use Rattle.nam_calls.specs.declared.record.CurrentPoint.TheVariants.{CurrentAgain, CurrentHead, CurrentWords}
 use Rattle.nam_catalog.specs.declared.shape.Shape.{Shape}
+use Rattle.nam_ghost.proofs.CellLemmas.{bucket_within, elsewhere_stays, ended_stays, overflow_stays, tagged_stays}
+use Rattle.nam_ghost.specs.Cells.{CellMap, IsElsewhere, OldOk, Stores, copied_at}
+use Rattle.nam_ghost.specs.Reads.{CellTest, CellsAt, CurrentAt, HorizonAt, IsAheadOf, ReadOkAt, UnderTag}
+use Rattle.nam_ghost.specs.Slots.{RowNext}
+use Rattle.nam_ghost.specs.Turn.{Turn}
+use Rattle.nam_ghost.specs.Upkeep.{CellsNext}
+use Rattle.nam_ghost.specs.Versions.{Version}
 use Rattle.nam_header.specs.Visible.{is_visible}
 use Rattle.nam_layout.specs.Address.{IsCell, IsRow}
 use Rattle.nam_layout.specs.Place.{bucket_of, cells_of, place_at}
 use Rattle.nam_layout.specs.declared.field.Cells.{Cells}
 use Rattle.nam_layout.specs.declared.field.Field.TheVariants.{Horizon}
 use Rattle.nam_layout.specs.declared.field.Place.{Place}
-use Rattle.si_model.specs.declared.log.Stamp.{Stamp}
-use Rattle.nam_ghost.specs.Cells.{CellMap, IsElsewhere, OldOk, Stores, copied_at}
-use Rattle.nam_ghost.specs.Reads.{CellTest, CellsAt, CurrentAt, HorizonAt, IsAheadOf, ReadOkAt, UnderTag}
-use Rattle.nam_ghost.specs.Slots.{RowNext}
-use Rattle.nam_ghost.specs.Upkeep.{CellsNext}
-use Rattle.nam_ghost.specs.Versions.{Version}
-use Rattle.nam_cells.specs.Turn.{Turn}
-use Rattle.nam_cells.proofs.StayLemmas.{bucket_within, elsewhere_stays, ended_stays, overflow_stays, tagged_stays}
-use Rattle.nam_reads.specs.Comes.{row_sight}
 use Rattle.nam_reads.proofs.RowStays.{old_ring_stays, old_stays, recheck_stays, unsure_at_stays, wanted_stays}
 use Rattle.nam_reads.proofs.RowStays.{with_stays}
+use Rattle.nam_reads.specs.Comes.{row_sight}
+use Rattle.si_model.specs.declared.log.Stamp.{Stamp}
 
 module _ (shape : Shape) (turn : Turn shape) (after : CellMap) (nth : ℕ)
     (spares : CellsNext shape turn.m turn.now turn.later turn.next turn.cells after nth) (seen : List ℕ) (row : ℕ)

@@ -1,12 +1,6 @@
 -- A client as a reader: where it reads, and how it goes on after its word and after what it is asked.
 use Rattle.std.proofs.Common.{List, None, Option, Some, inl, inr, length, refl, subst, sym, ℕ, ◌≡◌, ◌⊎◌}
 use Rattle.std.proofs.lemmas.Option.{none-some, same_Some}
-use Rattle.si_model.specs.Evaluation.{op_key}
-use Rattle.si_model.specs.Lists.{Listed}
-use Rattle.nam_verbs.specs.VerbAt.{VerbAt}
-use Rattle.nam_verbs.specs.declared.now.Now.{Now}
-use Rattle.nam_verbs.specs.declared.now.Now.TheVariants.{At, Over}
-use Rattle.nam_vector.specs.Snap.{snap_after, snap_begin}
 use Rattle.nam_calls.specs.Fits.{ReadFits}
 use Rattle.nam_calls.specs.Horizon.{collect_after}
 use Rattle.nam_calls.specs.Mover.{move_after}
@@ -16,11 +10,15 @@ use Rattle.nam_calls.specs.declared.mover.MoveAnswer.{MoveAnswer}
 use Rattle.nam_calls.specs.declared.mover.MovePoint.{MovePoint}
 use Rattle.nam_catalog.specs.Fits.{FitsLimits}
 use Rattle.nam_catalog.specs.declared.shape.Shape.{Shape}
+use Rattle.nam_ghost.specs.Moments.{IsTaken}
+use Rattle.nam_layout.proofs.PositionLemmas.{position_is_row}
 use Rattle.nam_layout.specs.Address.{IsRow}
 use Rattle.nam_layout.specs.Place.{bucket_of, cells_of, place_at}
 use Rattle.nam_layout.specs.Rows.{row_of}
 use Rattle.nam_layout.specs.declared.field.Field.{Field}
-use Rattle.nam_layout.proofs.PositionLemmas.{position_is_row}
+use Rattle.nam_protocol.proofs.FallsKeys.{op_table}
+use Rattle.nam_protocol.proofs.GoesClient.{begin_goes, snap_goes}
+use Rattle.nam_protocol.proofs.GoesCommit.{ask_commit_goes, commit_goes}
 use Rattle.nam_protocol.specs.Client.{abandon_open, client_abandon, client_ask, on_collect, on_move}
 use Rattle.nam_protocol.specs.ClientFits.{NowFits}
 use Rattle.nam_protocol.specs.Own.{OwnOpen, Rests}
@@ -36,14 +34,16 @@ use Rattle.nam_protocol.specs.declared.client.ClientState.{ClientState}
 use Rattle.nam_protocol.specs.declared.client.Open.{Open}
 use Rattle.nam_protocol.specs.declared.scan.ScanPoint.TheVariants.{ScanRead}
 use Rattle.nam_protocol.specs.declared.txn.TxnPoint.TheVariants.{Reading}
-use Rattle.nam_protocol.proofs.FallsKeys.{op_table}
-use Rattle.nam_protocol.proofs.GoesClient.{begin_goes, snap_goes}
-use Rattle.nam_protocol.proofs.GoesCommit.{ask_commit_goes, commit_goes}
+use Rattle.nam_reads.specs.Comes.{row_sight}
 use Rattle.nam_store.specs.Base.{BaseOk}
 use Rattle.nam_store.specs.Store.{Store, client_at, next_verb}
+use Rattle.nam_vector.specs.Snap.{snap_after, snap_begin}
+use Rattle.nam_verbs.specs.VerbAt.{VerbAt}
+use Rattle.nam_verbs.specs.declared.now.Now.{Now}
+use Rattle.nam_verbs.specs.declared.now.Now.TheVariants.{At, Over}
+use Rattle.si_model.specs.Evaluation.{op_key}
+use Rattle.si_model.specs.Lists.{Listed}
 use Rattle.nam_calls.specs.declared.mover.MoveAnswer.TheVariants as move_end
-use Rattle.nam_moments.specs.SnapshotsLaw.{IsTaken}
-use Rattle.nam_reads.specs.Comes.{row_sight}
 
 -- 1. Where it reads
 

@@ -1,15 +1,11 @@
 -- Each word of a search of the ring: it goes on past no slot that keeps the wanted version, and finds no other one.
 use Rattle.std.proofs.Common.{List, None, Option, Some, [], ap, arith, eqb, false, inl, inr, length, not, refl}
-use Rattle.std.proofs.Common.{slice_get}
-use Rattle.std.proofs.Common.{subst, sym, true, ℕ, ◌&&◌, ◌++◌, ◌+◌, ◌<◌, ◌∙◌, ◌∷◌, ◌≡◌, ◌||◌, ◌⊎◌}
-use Rattle.std.specs.Prelude.{Bool, if◌then◌else◌, is_some}
+use Rattle.std.proofs.Common.{slice_get, subst, sym, true, ℕ, ◌&&◌, ◌++◌, ◌+◌, ◌<◌, ◌||◌, ◌∙◌, ◌∷◌, ◌≡◌, ◌⊎◌}
 use Rattle.std.proofs.lemmas.Bool.{and_cases, and_parts, cases_eq, cases_lt, eqb-false, eqb-true, not-false, not-true}
 use Rattle.std.proofs.lemmas.Bool.{or_cases, or_parts, true≢false}
+use Rattle.std.proofs.lemmas.List.{length_push}
 use Rattle.std.proofs.lemmas.Option.{same_Some}
-use Rattle.nam_verbs.specs.VerbAt.{found_at}
-use Rattle.nam_verbs.specs.declared.now.Now.{Now}
-use Rattle.nam_verbs.specs.declared.now.Now.TheVariants.{At, Over}
-use Rattle.nam_verbs.proofs.TestLemmas.{by_equal, by_test}
+use Rattle.std.specs.Prelude.{Bool, if◌then◌else◌, is_some}
 use Rattle.nam_calls.specs.Fits.{RingFits}
 use Rattle.nam_calls.specs.Ring.{next_slot, ring_after, ring_verb}
 use Rattle.nam_calls.specs.declared.ring.RingPoint.{RingPoint}
@@ -18,27 +14,29 @@ use Rattle.nam_calls.specs.declared.ring.SearchEnd.{SearchEnd}
 use Rattle.nam_calls.specs.declared.ring.SearchEnd.TheVariants.{Found, NotThere}
 use Rattle.nam_catalog.specs.declared.form.Form.{Form}
 use Rattle.nam_catalog.specs.declared.shape.Shape.{Shape}
-use Rattle.nam_header.specs.declared.header.Header.{Header}
+use Rattle.nam_ghost.proofs.ValueLemmas.{got_more, got_none, old_says, stamp_says}
+use Rattle.nam_ghost.specs.Slots.{Kept, KeptOk, Ring, SlotIs, home}
+use Rattle.nam_ghost.specs.Versions.{Chain, HasData, HasGot, Version, current_number, old_header, slot_image, versions}
+use Rattle.nam_ghost.specs.Wanted.{IsAhead, IsTested, RingAt, RingNow, SlotTest, TestAt, Wanted}
 use Rattle.nam_header.specs.Header.{header_of}
 use Rattle.nam_header.specs.Stamp.{is_deleted, mark, same_stamp, sees, stamp_in}
 use Rattle.nam_header.specs.Visible.{is_visible}
+use Rattle.nam_header.specs.declared.header.Header.{Header}
+use Rattle.nam_layout.proofs.LimitLemmas.{place_within_limits}
 use Rattle.nam_layout.specs.Place.{place_at}
 use Rattle.nam_layout.specs.Rows.{ring_at, width_at}
 use Rattle.nam_layout.specs.declared.field.Field.{Field}
 use Rattle.nam_layout.specs.declared.field.Field.TheVariants.{SlotEnd, SlotHeader, SlotWord}
 use Rattle.nam_layout.specs.declared.field.Place.{Place}
-use Rattle.nam_layout.proofs.LimitLemmas.{place_within_limits}
-use Rattle.si_model.specs.declared.log.Stamp.{Stamp}
-use Rattle.nam_store.proofs.Lists.{some_within}
-use Rattle.nam_ghost.specs.Slots.{Kept, KeptOk, Ring, SlotIs, home}
-use Rattle.nam_ghost.specs.Versions.{Chain, HasData, HasGot, Version, current_number, old_header}
-use Rattle.nam_ghost.specs.Versions.{slot_image, versions}
-use Rattle.nam_ghost.specs.Wanted.{IsAhead, IsTested, RingAt, RingNow, SlotTest, TestAt, Wanted}
-use Rattle.nam_ghost.proofs.ValueLemmas.{got_more, got_none, old_says, stamp_says}
-use Rattle.nam_reads.specs.Facts.{RowFacts}
 use Rattle.nam_reads.proofs.CurrentLemmas.{whole_value}
 use Rattle.nam_reads.proofs.WantedLemmas.{is_old, only, same_stamps, stamps_same, wanted_is}
-use Rattle.std.proofs.lemmas.List.{length_push}
+use Rattle.nam_reads.specs.Facts.{RowFacts}
+use Rattle.nam_store.proofs.Lists.{some_within}
+use Rattle.nam_verbs.proofs.TestLemmas.{by_equal, by_test}
+use Rattle.nam_verbs.specs.VerbAt.{found_at}
+use Rattle.nam_verbs.specs.declared.now.Now.{Now}
+use Rattle.nam_verbs.specs.declared.now.Now.TheVariants.{At, Over}
+use Rattle.si_model.specs.declared.log.Stamp.{Stamp}
 
 mark_locked : (form : Form) → (header_of form mark).locked ≡ true
 mark_locked form = refl

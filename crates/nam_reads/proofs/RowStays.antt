@@ -1,28 +1,30 @@
 -- What a reader may rely on of a row and its ring stays, whatever a step makes of them.
 use Rattle.std.proofs.Common.{List, None, Option, Some, [], ap, arith, false, inl, inr, length, refl, slice_get, subst}
-use Rattle.std.proofs.Common.{suc, sym, true, zero, ℕ, ⊎_elim, ◌++◌, ◌<◌, ◌∙◌, ◌∷◌, ◌≡◌, ◌≤◌, ◌⊎◌}
-use Rattle.std.specs.Prelude.{Bool}
+use Rattle.std.proofs.Common.{sym, true, ℕ, ⊎_elim, ◌++◌, ◌<◌, ◌∙◌, ◌∷◌, ◌≡◌, ◌≤◌, ◌⊎◌}
 use Rattle.std.proofs.lemmas.List.{length_push}
 use Rattle.std.proofs.lemmas.Option.{none-some, same_Some, slice_get_within}
+use Rattle.std.specs.Prelude.{Bool}
 use Rattle.nam_calls.specs.Fits.{RingFits}
 use Rattle.nam_calls.specs.declared.ring.RingPoint.{RingPoint}
 use Rattle.nam_calls.specs.declared.ring.RingPoint.TheVariants.{SlotAgain, SlotEnding, SlotHead, SlotWords}
 use Rattle.nam_catalog.specs.declared.shape.Shape.{Shape}
-use Rattle.nam_header.specs.Visible.{is_visible}
-use Rattle.nam_layout.specs.Address.{IsRow}
-use Rattle.nam_layout.specs.Place.{place_at}
-use Rattle.nam_layout.specs.Rows.{ring_at}
-use Rattle.nam_layout.specs.declared.field.Place.{Place}
-use Rattle.nam_layout.proofs.LimitLemmas.{place_within_limits}
-use Rattle.si_model.specs.declared.log.Stamp.{Stamp}
-use Rattle.nam_store.proofs.Lists.{put_cases}
+use Rattle.nam_ghost.proofs.ListLemmas.{got_push}
+use Rattle.nam_ghost.proofs.RowLemmas.{moved_keeps}
 use Rattle.nam_ghost.specs.Cells.{OldOk}
 use Rattle.nam_ghost.specs.Reads.{CurrentWith, HeaderRead, IsUnsure, OldRingAt, RecheckAt, UnsureAt}
 use Rattle.nam_ghost.specs.Slots.{Copies, Flags, GetsCopy, GetsFlag, GetsMark, Idles, IsFreeSlot, Keeps, KeepsOn, Kept}
 use Rattle.nam_ghost.specs.Slots.{Marks, Renews, Ring, RowNext, SlotNext, copied_count, copy_of, home, moved_of}
+use Rattle.nam_ghost.specs.Turn.{Turn}
 use Rattle.nam_ghost.specs.Versions.{Chain, HasGot, IsNth, Version, current_number, versions}
 use Rattle.nam_ghost.specs.Wanted.{IsAhead, IsTested, RingAt, SlotTest, TestAt, Wanted}
-use Rattle.nam_cells.specs.Turn.{Turn}
+use Rattle.nam_header.specs.Visible.{is_visible}
+use Rattle.nam_layout.proofs.LimitLemmas.{place_within_limits}
+use Rattle.nam_layout.specs.Address.{IsRow}
+use Rattle.nam_layout.specs.Place.{place_at}
+use Rattle.nam_layout.specs.Rows.{ring_at}
+use Rattle.nam_layout.specs.declared.field.Place.{Place}
+use Rattle.nam_store.proofs.Lists.{put_cases}
+use Rattle.si_model.specs.declared.log.Stamp.{Stamp}
 
 -- 1. A slot: a version that was copied stays the one with its number, and ends so
 
@@ -36,19 +38,6 @@ goes_back copied _ _ (GetsCopy {kept} number) other at less =
 goes_back copied _ _ (GetsFlag {kept}) other at less =
     let same = same_Some (record kept { moved = true }) other at in
     (kept, refl, ap (λ (k : Kept). k.number) same, ap (λ (k : Kept). k.next) same)
-
-moved_keeps : (slot : Option Kept) (number : ℕ) → Keeps slot number → Keeps (moved_of slot) number
-moved_keeps None number (kept, at, is) = absurd (none-some kept at)
-moved_keeps (Some old) number (kept, at, is) =
-    (record old { moved = true }, refl, ap (λ (k : Kept). k.number) (same_Some old kept at) ∙ is)
-
--- one more at the end of a list
-get_more : {A : Type 0} (xs : List A) (y z : A) (n : ℕ) → slice_get (xs ++ y ∷ []) n ≡ Some z
-    → (slice_get xs n ≡ Some z) ⊎ (y ≡ z)
-get_more [] y z zero e = inr (same_Some y z e)
-get_more [] y z (suc n) e = absurd (none-some z e)
-get_more (x ∷ xs) y z zero e = inl e
-get_more (x ∷ xs) y z (suc n) e = get_more xs y z n e
 
 module _ (place : Place) (Flagged : ℕ → Type 0) (New : Version → Type 0) where
   -- 2. Versions
@@ -71,8 +60,9 @@ module _ (place : Place) (Flagged : ℕ → Type 0) (New : Version → Type 0) w
   nth_before chain _ ring _ (Copies next empty) n version is = inl is
   nth_before chain _ ring _ (Flags slot elsewhere) n version is = inl is
   nth_before chain later ring _ (Renews old new whole ends) n version is =
-      ⊎_elim (λ there. inl there) (λ (same : later.now ≡ version). inr (subst New same new))
-      (get_more (versions chain) later.now version n (sym (ap (λ vs. slice_get (vs ++ later.now ∷ []) n) old) ∙ is))
+      ⊎_elim (λ there. inl there)
+      (λ (last : (n ≡ length (versions chain)) × (later.now ≡ version)). inr (subst New last.1 new))
+      (got_push (versions chain) later.now version n (sym (ap (λ vs. slice_get (vs ++ later.now ∷ []) n) old) ∙ is))
 
   -- what was got under the header, while its version is the current one and not written over
   got_stays : (number : ℕ) (version : Version) (got : List ℕ) (chain later : Chain) (ring next : Ring)

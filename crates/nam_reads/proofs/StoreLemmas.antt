@@ -1,8 +1,6 @@
 -- Each step of a store keeps what readers may rely on.
 use Rattle.std.proofs.Common.{List, None, Option, Some, inl, inr, map, refl, subst, sym, ℕ, ◌≡◌}
 use Rattle.std.specs.Prelude.{false, slice_get, slice_set}
-use Rattle.nam_verbs.specs.declared.now.Now.{Now}
-use Rattle.nam_verbs.specs.declared.now.Now.TheVariants.{At, Over}
 use Rattle.nam_calls.specs.Fits.{ReadFits}
 use Rattle.nam_calls.specs.Memory.{memory}
 use Rattle.nam_calls.specs.Reading.{read_after}
@@ -10,6 +8,16 @@ use Rattle.nam_calls.specs.declared.reading.ReadPoint.{ReadPoint}
 use Rattle.nam_calls.specs.declared.reading.ReadingEnd.{ReadingEnd}
 use Rattle.nam_calls.specs.declared.reading.Sight.{Sight}
 use Rattle.nam_catalog.specs.declared.shape.Shape.{Shape}
+use Rattle.nam_ghost.proofs.ChainLemmas.{once}
+use Rattle.nam_ghost.proofs.RowLemmas.{rows_go}
+use Rattle.nam_ghost.proofs.SnapshotLemmas.{taken_snap}
+use Rattle.nam_ghost.specs.Cells.{IsElsewhere}
+use Rattle.nam_ghost.specs.Chains.{IsNew}
+use Rattle.nam_ghost.specs.Ghost.{Ghost, ghost_step}
+use Rattle.nam_ghost.specs.Moments.{IsTaken, observer_of}
+use Rattle.nam_ghost.specs.Reads.{ReadOkAt, ReaderOk, ReadsOk}
+use Rattle.nam_ghost.specs.Stepping.{stepping}
+use Rattle.nam_ghost.specs.Turn.{Turn}
 use Rattle.nam_layout.specs.Address.{IsRow}
 use Rattle.nam_layout.specs.Place.{place_at}
 use Rattle.nam_layout.specs.Rows.{width_at}
@@ -18,28 +26,16 @@ use Rattle.nam_protocol.specs.CutClient.{client_cut}
 use Rattle.nam_protocol.specs.Reader.{Reader, ReadsAnew, ReadsOn, reader_of, reads_at}
 use Rattle.nam_protocol.specs.declared.client.CallPoint.{CallPoint}
 use Rattle.nam_protocol.specs.declared.client.ClientState.{ClientState}
-use Rattle.nam_store.specs.Everyone.{Someone}
-use Rattle.nam_store.specs.Store.{Abandons, Asks, Cuts, StepsTo, Store, Takes, client_at, found_word}
-use Rattle.nam_store.proofs.BaseLemmas.{asked_sort, base_keeps, step_sort}
-use Rattle.nam_store.proofs.Lists.{everyone_set, get_set}
-use Rattle.si_model.specs.Lists.{Listed}
-use Rattle.nam_ghost.specs.Cells.{IsElsewhere}
-use Rattle.nam_ghost.specs.Chains.{IsNew}
-use Rattle.nam_ghost.specs.Ghost.{Ghost, ghost_step}
-use Rattle.nam_ghost.specs.Moments.{observer_of}
-use Rattle.nam_ghost.specs.Reads.{ReadOkAt, ReaderOk, ReadsOk}
-use Rattle.nam_ghost.proofs.ChainLemmas.{once}
-use Rattle.nam_moments.specs.SnapshotsLaw.{IsTaken}
-use Rattle.nam_moments.proofs.SnapshotLemmas.{observer_at}
-use Rattle.nam_moments.proofs.StepLemmas.{vector_rises}
-use Rattle.nam_cells.specs.CellsLaw.{stepping}
-use Rattle.nam_cells.specs.Turn.{Turn}
-use Rattle.nam_cells.proofs.RowLemmas.{rows_go}
-use Rattle.nam_reads.specs.Comes.{Comes, row_sight}
-use Rattle.nam_reads.specs.ReadsLaw.{KeepsLaw, Ready}
 use Rattle.nam_reads.proofs.FoundLemmas.{relies, word_leads}
 use Rattle.nam_reads.proofs.ReadStays.{read_stays}
 use Rattle.nam_reads.proofs.ReaderLemmas.{GoesOn, abandoned_anew, asked_anew, goes_on, reading, reading_taken}
+use Rattle.nam_reads.specs.Comes.{Comes, row_sight}
+use Rattle.nam_reads.specs.ReadsLaw.{KeepsLaw, Ready}
+use Rattle.nam_store.proofs.BaseLemmas.{asked_sort, base_keeps, step_sort}
+use Rattle.nam_store.proofs.Lists.{everyone_set, get_set}
+use Rattle.nam_store.specs.Store.{Abandons, Asks, Cuts, StepsTo, Store, Takes, client_at, found_word}
+use Rattle.nam_verbs.specs.declared.now.Now.{Now}
+use Rattle.nam_verbs.specs.declared.now.Now.TheVariants.{At, Over}
 
 -- 1. The step as readers see it
 
@@ -68,7 +64,7 @@ module _ (shape : Shape) (before after : Store) (goes : StepsTo shape before aft
         ready.stands.slots.rows
         (λ row. IsElsewhere shape ghost.chains ghost.rings (memory shape before.words) ghost.cells row)
         (λ row. IsNew (width_at shape.tables row) (map observer_of before.clients)) ready.rows;
-    vector = vector_rises shape before after goes ready.stands.base ready.stands.moments;
+    vector = ready.vector;
     are = ready.stands.cells.are;
     behind = ready.stands.cells.behind;
   }
@@ -81,11 +77,6 @@ module _ (shape : Shape) (before after : Store) (goes : StepsTo shape before aft
   abbrev OkNow : Option Reader → Type 0
   OkNow o = ReaderOk shape later.chains later.rings (memory shape after.words) later.cells o
 
-  observed : (seen : List ℕ) → IsTaken before seen
-      → Someone (λ _ observer. Listed seen observer.snaps) (map observer_of before.clients)
-  observed seen (nth, (client, (here, listed))) =
-      (nth, (observer_of client, (observer_at shape before ready.stands.moments nth client here, listed)))
-
   at_row : (seen : List ℕ) → IsTaken before seen → (row : ℕ) → IsRow shape row → (at : ReadPoint)
       → ReadFits (row_sight shape row) at
       → ReadOkAt shape ghost.chains ghost.rings (memory shape before.words) ghost.cells seen row
@@ -94,7 +85,7 @@ module _ (shape : Shape) (before after : Store) (goes : StepsTo shape before aft
   at_row seen taken row inside at fits o =
       read_stays shape turn later.cells (stepping shape before after goes) ready.next seen row inside
       (IsNew (width_at shape.tables row) (map observer_of before.clients))
-      (λ version new. new.hidden seen (observed seen taken)) (ready.rows row inside)
+      (λ version new. new.hidden seen (taken_snap before seen taken)) (ready.rows row inside)
       (ready.stands.cells.old row inside) at fits o
 
   -- 2. What is known of a reader at any point stays

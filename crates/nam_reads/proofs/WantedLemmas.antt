@@ -1,28 +1,27 @@
 -- The newest version that a snapshot sees: that there is one, and how it is told from others.
-use Rattle.std.proofs.Common.{List, Some, [], ap, arith, eqb, false, inl, inr, length, refl, slice_get}
-use Rattle.std.proofs.Common.{subst, suc, sym}
-use Rattle.std.proofs.Common.{true, zero, ℕ, ◌++◌, ◌+◌, ◌<◌, ◌∙◌, ◌∷◌, ◌≡◌, ◌≢◌, ◌≤◌}
+use Rattle.std.proofs.Common.{List, ap, arith, eqb, false, inl, inr, slice_get, subst, suc, sym, true, zero, ℕ, ◌+◌}
+use Rattle.std.proofs.Common.{◌<◌, ◌∙◌, ◌≡◌, ◌≢◌, ◌≤◌}
+use Rattle.std.proofs.Math.Arith.{lt_of_le-ne}
 use Rattle.std.proofs.lemmas.Bool.{and_from, and_parts, cases_Bool, cases_eq, cases_order, eq-eqb, eqb-true, true≢false}
 use Rattle.std.proofs.lemmas.List.{length_push}
 use Rattle.std.proofs.lemmas.Option.{same_Some, slice_get_within}
-use Rattle.std.proofs.Math.Arith.{lt_of_le-ne}
-use Rattle.si_model.specs.declared.log.Stamp.{Stamp}
 use Rattle.nam_catalog.specs.declared.form.Form.{Form}
-use Rattle.nam_catalog.specs.declared.form.Form.TheVariants.{Held, Narrow, Wide}
 use Rattle.nam_catalog.specs.declared.shape.Shape.{Shape}
-use Rattle.nam_header.specs.declared.header.Header.{Header}
-use Rattle.nam_header.specs.Flag.{holder_named}
-use Rattle.nam_header.specs.Header.{fields_of, header_of}
+use Rattle.nam_ghost.proofs.ListLemmas.{got_end}
+use Rattle.nam_ghost.proofs.RecordLemmas.{header_says}
+use Rattle.nam_ghost.specs.Slots.{Ring}
+use Rattle.nam_ghost.specs.Versions.{Chain, IsNth, Version, current_header, current_number, record_image, versions}
+use Rattle.nam_ghost.specs.Wanted.{Wanted}
+use Rattle.nam_header.specs.Header.{header_of}
 use Rattle.nam_header.specs.Stamp.{same_stamp, sees, stamp_in}
 use Rattle.nam_header.specs.Visible.{is_visible}
-use Rattle.nam_header.proofs.StampLemmas.{header_of-word_of}
+use Rattle.nam_header.specs.declared.header.Header.{Header}
+use Rattle.nam_layout.specs.Rows.{width_at}
 use Rattle.nam_layout.specs.declared.field.Field.{Field}
-use Rattle.nam_layout.specs.declared.field.Field.TheVariants as field
-use Rattle.nam_store.proofs.Lists.{some_within}
-use Rattle.nam_ghost.specs.Slots.{Ring}
-use Rattle.nam_ghost.specs.Versions.{Chain, IsNth, Version, current_header, current_number, versions}
-use Rattle.nam_ghost.specs.Wanted.{Wanted}
 use Rattle.nam_reads.specs.Facts.{RowFacts}
+use Rattle.nam_store.proofs.Lists.{some_within}
+use Rattle.si_model.specs.declared.log.Stamp.{Stamp}
+use Rattle.nam_layout.specs.declared.field.Field.TheVariants as field
 
 -- 1. Stamps and headers
 
@@ -44,22 +43,12 @@ module _ (form : Form) (a b : ℕ) where
       (eq-eqb one.thread two.thread (ap (λ (s : Stamp). s.thread) is))
       (eq-eqb one.number two.number (ap (λ (s : Stamp). s.number) is))
 
--- each worker can be named in a header
-named_fits : (form : Form) (worker : ℕ) → worker ≤ 16 → holder_named form worker < (fields_of form).holders
-named_fits Narrow worker few = omega arith
-named_fits Wide worker few = omega arith
-named_fits Held worker few = omega arith
-
-last_is : (vs : List Version) (version : Version) → slice_get (vs ++ version ∷ []) (length vs) ≡ Some version
-last_is [] version = refl
-last_is (v ∷ vs) version = last_is vs version
-
 module _ {shape : Shape} {m : Field → ℕ} {row : ℕ} {seen : List ℕ} {chain : Chain} {ring : Ring}
     {Elsewhere : ℕ → Type 0} (facts : RowFacts shape m row seen chain ring Elsewhere) where
   -- 2. The current version
 
   pub now_last : IsNth chain (current_number chain) chain.now
-  now_last = last_is chain.old chain.now
+  now_last = got_end chain.old chain.now
 
   pub nth_within : (number : ℕ) (version : Version) → IsNth chain number version → number ≤ current_number chain
   nth_within number version is =
@@ -67,21 +56,14 @@ module _ {shape : Shape} {m : Field → ℕ} {row : ℕ} {seen : List ℕ} {chai
       let long = length_push chain.old chain.now in
       omega arith
 
-  pub header_says : header_of shape.form (m (field.Header row)) ≡ current_header shape.form chain.holder chain.now
-  header_says =
-      let fits = facts.record_is.fits in
-      let few = facts.limits.most_workers in
-      let worker = facts.record_is.worker in
-      ap (header_of shape.form) facts.record_is.header_is
-      ∙ header_of-word_of shape.form (current_header shape.form chain.holder chain.now) record {
-        thread = fits.thread;
-        number = fits.number;
-        holder = named_fits shape.form chain.holder (omega arith);
-      }
+  pub now_header : header_of shape.form (m (field.Header row)) ≡ current_header shape.form chain.holder chain.now
+  now_header =
+      header_says shape.form shape.workers (width_at shape.tables row) (record_image m row) chain
+      facts.limits.most_workers facts.record_is
 
   -- its stamp, as words and as snapshots see it
   pub now_stamp : stamp_in shape.form (m (field.Header row)) ≡ chain.now.stamp
-  now_stamp = ap (λ (h : Header). h.stamp) header_says
+  now_stamp = ap (λ (h : Header). h.stamp) now_header
 
   pub now_sees : sees shape.form seen (m (field.Header row)) ≡ is_visible chain.now.stamp seen
   now_sees = ap (λ (s : Stamp). is_visible s seen) now_stamp

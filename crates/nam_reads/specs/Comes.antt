@@ -1,5 +1,6 @@
 -- What a word of a read leads to: on, to a point where the reader may rely on what is claimed there, or to an end that
 -- tells the truth.
+use Rattle.std.specs.Prelude.{List, Option, slice_index, ℕ, ◌-◌, ◌<◌, ◌≡◌}
 use Rattle.nam_calls.specs.Horizon.{old_begin}
 use Rattle.nam_calls.specs.declared.horizon.OldEnd.{OldEnd}
 use Rattle.nam_calls.specs.declared.horizon.OldEnd.TheVariants.{NotPassed, TooOld}
@@ -19,7 +20,6 @@ use Rattle.nam_layout.specs.declared.field.Field.{Field}
 use Rattle.nam_layout.specs.declared.field.Field.TheVariants.{Horizon}
 use Rattle.nam_verbs.specs.declared.now.Now.{Now}
 use Rattle.nam_verbs.specs.declared.now.Now.TheVariants.{At, Over}
-use Rattle.std.specs.Prelude.{List, Option, slice_index, ℕ, ◌-◌, ◌<◌, ◌≡◌}
 
 -- where a read at a row looks
 abbrev pub row_sight : Shape → ℕ → Sight

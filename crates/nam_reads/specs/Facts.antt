@@ -1,4 +1,5 @@
 -- What is known of a row to one that reads it with a snapshot that was taken.
+use Rattle.std.specs.Prelude.{List, Some, false, length, true, ℕ, ◌<◌, ◌≡◌}
 use Rattle.nam_calls.specs.Fits.{HasWidth}
 use Rattle.nam_catalog.specs.Fits.{FitsLimits}
 use Rattle.nam_catalog.specs.declared.shape.Shape.{Shape}
@@ -11,7 +12,6 @@ use Rattle.nam_layout.specs.Address.{IsRow}
 use Rattle.nam_layout.specs.Place.{place_at}
 use Rattle.nam_layout.specs.Rows.{ring_at, width_at}
 use Rattle.nam_layout.specs.declared.field.Field.{Field}
-use Rattle.std.specs.Prelude.{List, Some, false, length, true, ℕ, ◌<◌, ◌≡◌}
 
 -- Its words are those that the groups of locks, slots and cells say. The snapshot sees a front of its versions, the
 -- loader's at least; no stamp comes twice; each value has the row's width. A copy of the current version ends unseen,

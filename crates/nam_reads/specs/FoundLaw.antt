@@ -1,4 +1,5 @@
 -- What the end of a read tells.
+use Rattle.std.specs.Prelude.{List, Option, Some, slice_index, ℕ, ◌-◌, ◌<◌, ◌≡◌}
 use Rattle.nam_calls.specs.Fits.{HasWidth}
 use Rattle.nam_calls.specs.Memory.{memory}
 use Rattle.nam_calls.specs.Reading.{read_after}
@@ -18,7 +19,6 @@ use Rattle.nam_reads.specs.ReadsLaw.{Stands}
 use Rattle.nam_store.specs.Store.{Store, client_at, found_word}
 use Rattle.nam_verbs.specs.declared.now.Now.{Now}
 use Rattle.nam_verbs.specs.declared.now.Now.TheVariants.{Over}
-use Rattle.std.specs.Prelude.{List, Option, Some, slice_index, ℕ, ◌-◌, ◌<◌, ◌≡◌}
 
 module _ (shape : Shape) (store : Store) where
   -- a client of the store that reads

@@ -1,16 +1,17 @@
 -- What readers rely on holds at the opening, and each step keeps it.
+use Rattle.std.specs.Prelude.{List, map, ℕ}
 use Rattle.nam_calls.specs.Memory.{memory}
 use Rattle.nam_catalog.specs.Fits.{FitsLimits}
 use Rattle.nam_catalog.specs.declared.shape.Shape.{Shape}
-use Rattle.nam_cells.specs.CellsLaw.{stepping}
 use Rattle.nam_ghost.specs.Cells.{IsElsewhere}
 use Rattle.nam_ghost.specs.Chains.{ChainsOk, IsNew}
 use Rattle.nam_ghost.specs.Copiers.{SlotsOk}
 use Rattle.nam_ghost.specs.Ghost.{Ghost, ghost_step, opening_ghost}
 use Rattle.nam_ghost.specs.Locks.{LocksOk}
-use Rattle.nam_ghost.specs.Moments.{MomentsOk, observer_of}
+use Rattle.nam_ghost.specs.Moments.{EntriesRise, MomentsOk, observer_of}
 use Rattle.nam_ghost.specs.Reads.{ReadsOk}
 use Rattle.nam_ghost.specs.Slots.{RowNext}
+use Rattle.nam_ghost.specs.Stepping.{stepping}
 use Rattle.nam_ghost.specs.Upkeep.{CellsNext, CellsOk}
 use Rattle.nam_layout.specs.Address.{IsRow}
 use Rattle.nam_layout.specs.Place.{place_at}
@@ -19,7 +20,6 @@ use Rattle.nam_store.specs.Base.{BaseOk}
 use Rattle.nam_store.specs.Opening.{AreLoaded, opening_store}
 use Rattle.nam_store.specs.Store.{StepsTo, Store}
 use Rattle.si_model.specs.declared.row.Row.{Row}
-use Rattle.std.specs.Prelude.{List, map, ℕ}
 
 module _ (shape : Shape) where
   -- what the law of words says of a store, as far as a read needs it
@@ -34,7 +34,7 @@ module _ (shape : Shape) where
 
   -- So it is before a step; and of the step other groups show that each row goes on as it may, where the moved flag is
   -- set only at a version that stands elsewhere, and a version that is installed is in no snapshot that was taken; and
-  -- that cells and the horizon go on as they may.
+  -- that cells and the horizon go on as they may; and that no entry of the vector falls.
   pub record Ready (before after : Store) (goes : StepsTo shape before after) (ghost : Ghost) : Type 0 where
     pub stands : Stands before ghost
     pub rows : (row : ℕ) → IsRow shape row → let later = ghost_step shape before after goes ghost in
@@ -45,6 +45,7 @@ module _ (shape : Shape) where
     pub next : let later = ghost_step shape before after goes ghost in
         CellsNext shape (memory shape before.words) (memory shape after.words) later.chains later.rings ghost.cells
         later.cells (stepping shape before after goes)
+    pub vector : EntriesRise shape before after
 
 abbrev pub OpensLaw : Type 0
 OpensLaw = (shape : Shape) → FitsLimits shape → (rows : List Row) → AreLoaded shape rows

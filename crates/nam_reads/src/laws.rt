@@ -7,7 +7,7 @@ ghost use Rattle.nam_reads.specs.ReadsLaw.{KeepsLaw, OpensLaw};
 ///
 /// The opening has it, with any rows that may be loaded (`opening`). Each verb, each call that is asked, each
 /// transaction that is given up and each stop keeps it (`step`): of a store that meets what the law of words says of it
-/// before the step, where rows, cells and the horizon go on as they may (`Ready`).
+/// before the step, where rows, cells, the horizon and the vector go on as they may (`Ready`).
 pub fn reads_law()
     ensures opening { OpensLaw }
     ensures step { KeepsLaw }

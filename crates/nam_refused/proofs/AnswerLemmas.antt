@@ -1,8 +1,9 @@
 -- What the answers Newer and Locked come to at the word that ends a commit, and whose a lock is that a commit meets.
 use Rattle.std.proofs.Common.{Some, length, subst, ℕ, ◌≡◌}
-use Rattle.nam_verbs.specs.declared.now.Now.TheVariants.{Over}
-use Rattle.nam_catalog.specs.declared.shape.Shape.{Shape}
 use Rattle.nam_calls.specs.Memory.{memory}
+use Rattle.nam_catalog.specs.declared.shape.Shape.{Shape}
+use Rattle.nam_ghost.specs.Locks.{LocksOk}
+use Rattle.nam_ghost.specs.Versions.{Chain}
 use Rattle.nam_protocol.specs.Client.{client_after}
 use Rattle.nam_protocol.specs.Commit.{commit_after}
 use Rattle.nam_protocol.specs.Sorts.{committing_at}
@@ -11,16 +12,15 @@ use Rattle.nam_protocol.specs.declared.client.Open.{Open}
 use Rattle.nam_protocol.specs.declared.txn.CommitPoint.{CommitPoint}
 use Rattle.nam_protocol.specs.declared.txn.TxnAnswer.{TxnAnswer}
 use Rattle.nam_protocol.specs.declared.txn.TxnState.{TxnState}
-use Rattle.nam_store.specs.Base.{BaseOk}
-use Rattle.nam_store.specs.Store.{Store, found_word}
-use Rattle.nam_ghost.specs.Locks.{LocksOk}
-use Rattle.nam_ghost.specs.Versions.{Chain}
+use Rattle.nam_refused.proofs.CommitLemmas.{commit_word}
+use Rattle.nam_refused.proofs.StayLemmas.{goes_nowhere}
+use Rattle.nam_refused.proofs.WordLemmas.{step_ends}
 use Rattle.nam_refused.specs.Refused.{AnswerOk, PointOk, RefusedOk}
 use Rattle.nam_refused.specs.RefusedLaw.{EndsWith, FoundLaw, NewerLaw}
-use Rattle.nam_refused.proofs.StayLemmas.{goes_nowhere}
 use Rattle.nam_refused.specs.Views.{InNow}
-use Rattle.nam_refused.proofs.CommitLemmas.{commit_word}
-use Rattle.nam_refused.proofs.WordLemmas.{step_ends}
+use Rattle.nam_store.specs.Base.{BaseOk}
+use Rattle.nam_store.specs.Store.{Store, found_word}
+use Rattle.nam_verbs.specs.declared.now.Now.TheVariants.{Over}
 use Rattle.nam_protocol.specs.declared.client.Answer.TheVariants as client_answer
 use Rattle.nam_protocol.specs.declared.txn.TxnAnswer.TheVariants as txn_answer
 

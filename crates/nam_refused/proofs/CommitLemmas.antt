@@ -1,47 +1,46 @@
 -- What becomes of the claims on a commit with each word that it takes.
-use Rattle.std.proofs.Common.{[], ap, false, inl, length, refl, subst, sym}
-use Rattle.std.proofs.Common.{true, ℕ, ⊎_elim, ◌+◌, ◌<◌, ◌∙◌, ◌∷◌, ◌≡◌}
+use Rattle.std.proofs.Common.{[], ap, false, inl, length, refl, subst, sym, true, ℕ, ⊎_elim, ◌+◌, ◌<◌, ◌∙◌, ◌∷◌, ◌≡◌}
 use Rattle.std.proofs.lemmas.Bool.{true≢false}
-use Rattle.si_model.proofs.ListLemmas.{listed_append_right}
-use Rattle.nam_verbs.specs.VerbAt.{found_at}
+use Rattle.nam_calls.proofs.GoesTests.{give_back_goes, peek_goes, seize_goes}
+use Rattle.nam_calls.specs.Lock.{give_back}
+use Rattle.nam_calls.specs.declared.lock.LockPoint.TheVariants.{GiveBack, Peek, Seize}
 use Rattle.nam_catalog.specs.Fits.{FitsLimits}
 use Rattle.nam_catalog.specs.declared.form.Form.{Form}
 use Rattle.nam_catalog.specs.declared.shape.Shape.{Shape}
-use Rattle.nam_header.specs.declared.header.Header.{Header}
+use Rattle.nam_ghost.proofs.RecordLemmas.{free_says, header_says}
+use Rattle.nam_ghost.specs.Holders.{record_row}
+use Rattle.nam_ghost.specs.Locks.{RowOk}
+use Rattle.nam_ghost.specs.Versions.{Chain, Version, current_word, record_image}
 use Rattle.nam_header.specs.Stamp.{is_locked, sees, stamp_in}
+use Rattle.nam_header.specs.declared.header.Header.{Header}
+use Rattle.nam_layout.specs.Address.{IsRow}
 use Rattle.nam_layout.specs.Rows.{width_at}
 use Rattle.nam_layout.specs.declared.field.Field.{Field}
-use Rattle.nam_layout.specs.declared.field.Field.TheVariants as field
-use Rattle.nam_calls.specs.declared.lock.LockPoint.TheVariants.{GiveBack, Peek, Seize}
-use Rattle.nam_calls.specs.Lock.{give_back}
-use Rattle.nam_calls.proofs.GoesTests.{give_back_goes, peek_goes, seize_goes}
+use Rattle.nam_protocol.proofs.GoesCommit.{next_count_goes, next_free_goes, on_copy_goes, on_install_goes, on_list_goes}
+use Rattle.nam_protocol.proofs.GoesCommit.{on_return_goes, on_slot_goes, on_words_goes, refused_goes}
+use Rattle.nam_protocol.specs.Commit.{commit_after, commit_verb, lock_at, on_lock, places, record_at, record_place}
+use Rattle.nam_protocol.specs.Commit.{refusal_answer, refused}
+use Rattle.nam_protocol.specs.Sorts.{committing_at}
+use Rattle.nam_protocol.specs.Txn.{Stepped}
+use Rattle.nam_protocol.specs.TxnFits.{CommitFits, StateFits}
+use Rattle.nam_protocol.specs.declared.client.ClientState.{ClientState}
+use Rattle.nam_protocol.specs.declared.client.Open.{Open}
 use Rattle.nam_protocol.specs.declared.txn.CommitPoint.{CommitPoint}
 use Rattle.nam_protocol.specs.declared.txn.CommitPoint.TheVariants.{Checking, Clearing, Copying, Counting, Deciding}
 use Rattle.nam_protocol.specs.declared.txn.CommitPoint.TheVariants.{Ending, Freeing, Installing, Listing, Locking}
 use Rattle.nam_protocol.specs.declared.txn.CommitPoint.TheVariants.{Publishing, Returning, Saving}
 use Rattle.nam_protocol.specs.declared.txn.Refusal.{Refusal}
 use Rattle.nam_protocol.specs.declared.txn.TxnState.{TxnState}
-use Rattle.nam_protocol.specs.Commit.{commit_after, commit_verb, lock_at, on_lock, places, record_at}
-use Rattle.nam_protocol.specs.Commit.{record_place, refusal_answer, refused}
-use Rattle.nam_protocol.specs.Txn.{Stepped}
-use Rattle.nam_protocol.specs.TxnFits.{CommitFits, StateFits}
-use Rattle.nam_protocol.proofs.GoesCommit.{next_count_goes, next_free_goes, on_copy_goes, on_install_goes}
-use Rattle.nam_protocol.proofs.GoesCommit.{on_list_goes, on_return_goes, on_slot_goes, on_words_goes, refused_goes}
-use Rattle.nam_ghost.specs.Versions.{Chain, Version, current_word, record_image}
-use Rattle.nam_ghost.specs.Holders.{record_row}
-use Rattle.nam_ghost.specs.Locks.{RowOk}
-use Rattle.nam_locks.proofs.RecordLemmas.{free_says, header_says}
+use Rattle.nam_refused.proofs.StayLemmas.{GoesFor, found_form, lost_stays, record_form, record_rows, refusal_stays}
+use Rattle.nam_refused.proofs.StayLemmas.{seize_stays}
 use Rattle.nam_refused.specs.Refused.{AnswerOk, ChainsGo, HasStamp, IsFound, IsNewer, IsUnseen, LostOk, PointOk}
 use Rattle.nam_refused.specs.Refused.{RefusalOk, SeizeOk}
-use Rattle.nam_protocol.specs.Sorts.{committing_at}
-use Rattle.nam_protocol.specs.declared.client.ClientState.{ClientState}
-use Rattle.nam_protocol.specs.declared.client.Open.{Open}
+use Rattle.nam_refused.specs.Views.{InCall, InNow}
 use Rattle.nam_store.specs.Base.{ClientOk}
 use Rattle.nam_store.specs.Store.{next_verb}
-use Rattle.nam_refused.specs.Views.{InCall, InNow}
-use Rattle.nam_refused.proofs.StayLemmas.{GoesFor, found_form, lost_stays, record_form, record_rows}
-use Rattle.nam_refused.proofs.StayLemmas.{refusal_stays, seize_stays}
-use Rattle.nam_layout.specs.Address.{IsRow}
+use Rattle.nam_verbs.specs.VerbAt.{found_at}
+use Rattle.si_model.proofs.ListLemmas.{listed_append_right}
+use Rattle.nam_layout.specs.declared.field.Field.TheVariants as field
 use Rattle.nam_protocol.specs.declared.txn.Refusal.TheVariants as refusal
 
 -- the answer says what the refusal does

@@ -1,34 +1,33 @@
 -- A lock that stands in a commit's way is another client's: the commit's own locks are of its other records.
 use Rattle.std.proofs.Common.{Some, ap, length, option_map, refl, subst, sym, ℕ, ◌+◌, ◌<◌, ◌∙◌, ◌≡◌, ◌≢◌}
 use Rattle.std.proofs.lemmas.Option.{same_Some, slice_get-map}
-use Rattle.nam_verbs.specs.VerbAt.{found_at}
+use Rattle.nam_calls.specs.Fits.{LockFits}
+use Rattle.nam_calls.specs.Memory.{memory}
+use Rattle.nam_calls.specs.declared.lock.LockPoint.{LockPoint}
+use Rattle.nam_calls.specs.declared.lock.LockPoint.TheVariants.{GiveBack, Peek, Seize}
 use Rattle.nam_catalog.specs.declared.shape.Shape.{Shape}
+use Rattle.nam_ghost.proofs.ListedLemmas.{someone_lists}
+use Rattle.nam_ghost.specs.Holders.{holder_at, holder_of, record_row}
+use Rattle.nam_ghost.specs.Keys.{ClaimsOk, KeysOk}
+use Rattle.nam_ghost.specs.Locks.{HolderOk, Lists, LocksOk, header_at}
+use Rattle.nam_ghost.specs.Versions.{Chain}
 use Rattle.nam_header.specs.Header.{header_of}
 use Rattle.nam_header.specs.Stamp.{is_locked}
 use Rattle.nam_layout.specs.Address.{IsRow}
 use Rattle.nam_layout.specs.declared.field.Field.{Field}
-use Rattle.nam_layout.specs.declared.field.Field.TheVariants as field
-use Rattle.nam_calls.specs.Memory.{memory}
-use Rattle.nam_calls.specs.declared.lock.LockPoint.{LockPoint}
-use Rattle.nam_calls.specs.declared.lock.LockPoint.TheVariants.{GiveBack, Peek, Seize}
-use Rattle.nam_calls.specs.Fits.{LockFits}
 use Rattle.nam_protocol.specs.Commit.{commit_verb}
 use Rattle.nam_protocol.specs.Sorts.{committing_at}
 use Rattle.nam_protocol.specs.declared.client.ClientState.{ClientState}
 use Rattle.nam_protocol.specs.declared.client.Open.{Open}
 use Rattle.nam_protocol.specs.declared.txn.CommitPoint.TheVariants.{Locking}
 use Rattle.nam_protocol.specs.declared.txn.TxnState.{TxnState}
-use Rattle.nam_store.specs.Base.{BaseOk, ClientOk}
-use Rattle.nam_store.specs.Store.{Store, client_at, found_word}
-use Rattle.nam_ghost.specs.Holders.{holder_at, holder_of, record_row}
-use Rattle.nam_ghost.specs.Keys.{ClaimsOk, KeysOk}
-use Rattle.nam_ghost.specs.Locks.{HolderOk, LocksOk}
-use Rattle.nam_ghost.specs.Versions.{Chain}
-use Rattle.nam_locks.specs.LocksLaw.{Lists, header_at}
-use Rattle.nam_locks.proofs.ListedLemmas.{someone_lists}
-use Rattle.nam_refused.specs.RefusedLaw.{LockedLaw, LooksAt, MeetsLock}
 use Rattle.nam_refused.proofs.RecordLemmas.{records_apart}
 use Rattle.nam_refused.proofs.StayLemmas.{record_rows}
+use Rattle.nam_refused.specs.RefusedLaw.{LockedLaw, LooksAt, MeetsLock}
+use Rattle.nam_store.specs.Base.{BaseOk, ClientOk}
+use Rattle.nam_store.specs.Store.{Store, client_at, found_word}
+use Rattle.nam_verbs.specs.VerbAt.{found_at}
+use Rattle.nam_layout.specs.declared.field.Field.TheVariants as field
 
 -- the record at hand is one more than those that are locked
 pub less_there : (records : ℕ) (state : TxnState) (at : LockPoint) → LooksAt at → LockFits records state.held at

@@ -1,18 +1,14 @@
 -- Each word of a commit keeps that a lock which stood in its way is listed by another client; and so does each log that
 -- grows.
-use Rattle.std.proofs.Common.{List, None, Option, Some, ap, inl, inr, length, refl, subst, sym, ℕ, ◌+◌, ◌∙◌, ◌≡◌}
+use Rattle.std.proofs.Common.{List, None, Option, Some, length, refl, ℕ, ◌+◌, ◌≡◌, ◌≢◌}
 use Rattle.std.specs.Prelude.{slice_get, slice_set}
-use Rattle.std.proofs.lemmas.Bool.{cases_eq}
-use Rattle.std.proofs.lemmas.Option.{same_Some}
-use Rattle.si_model.specs.Lists.{IsFront, Listed}
-use Rattle.si_model.specs.declared.log.Lock.{Lock}
-use Rattle.si_model.proofs.ListLemmas.{listed_append_left}
-use Rattle.nam_verbs.specs.declared.now.Now.{Now}
-use Rattle.nam_verbs.specs.declared.now.Now.TheVariants.{At, Over}
+use Rattle.nam_calls.proofs.GoesTests.{give_back_goes, peek_goes, seize_goes}
+use Rattle.nam_calls.specs.Lock.{give_back}
 use Rattle.nam_calls.specs.declared.lock.LockPoint.{LockPoint}
 use Rattle.nam_calls.specs.declared.lock.LockPoint.TheVariants.{GiveBack, Peek, Seize}
-use Rattle.nam_calls.specs.Lock.{give_back}
-use Rattle.nam_calls.proofs.GoesTests.{give_back_goes, peek_goes, seize_goes}
+use Rattle.nam_ghost.proofs.ListLemmas.{front_listed, someone_stays}
+use Rattle.nam_protocol.proofs.GoesCommit.{next_count_goes, next_free_goes, on_copy_goes, on_install_goes, on_list_goes}
+use Rattle.nam_protocol.proofs.GoesCommit.{on_return_goes, on_slot_goes, on_words_goes, refused_goes}
 use Rattle.nam_protocol.specs.Commit.{commit_after, lock_at, on_lock, places, refusal_answer, refused}
 use Rattle.nam_protocol.specs.Grows.{Grows}
 use Rattle.nam_protocol.specs.Txn.{Stepped}
@@ -28,13 +24,14 @@ use Rattle.nam_protocol.specs.declared.txn.CommitPoint.TheVariants.{Publishing, 
 use Rattle.nam_protocol.specs.declared.txn.Refusal.{Refusal}
 use Rattle.nam_protocol.specs.declared.txn.TxnPoint.TheVariants.{Committing}
 use Rattle.nam_protocol.specs.declared.txn.TxnState.{TxnState}
-use Rattle.nam_protocol.proofs.GoesCommit.{next_count_goes, next_free_goes, on_copy_goes, on_install_goes}
-use Rattle.nam_protocol.proofs.GoesCommit.{on_list_goes, on_return_goes, on_slot_goes, on_words_goes, refused_goes}
-use Rattle.nam_store.specs.Store.{step}
-use Rattle.nam_store.proofs.Lists.{get_beside, get_set}
 use Rattle.nam_refused.specs.Lockers.{AnswerListed, IsListed, PointListed, RefusalListed, WayListed}
 use Rattle.nam_refused.specs.RefusedLaw.{LooksAt}
 use Rattle.nam_refused.specs.Views.{InCall, InNow}
+use Rattle.nam_store.specs.Store.{step}
+use Rattle.nam_verbs.specs.declared.now.Now.{Now}
+use Rattle.nam_verbs.specs.declared.now.Now.TheVariants.{At, Over}
+use Rattle.si_model.specs.Lists.{Listed}
+use Rattle.si_model.specs.declared.log.Lock.{Lock}
 use Rattle.nam_protocol.specs.declared.txn.Refusal.TheVariants as refusal
 
 -- 1. Each word of a commit
@@ -91,35 +88,15 @@ module _ (clients : List ClientState) (nth : ℕ) (state : TxnState) where
 
 -- 2. Logs grow
 
-front_listed : (lock : Lock) (old new : List Lock) → IsFront old new → Listed lock old → Listed lock new
-front_listed lock old new front is =
-    subst (Listed lock) front.1 (listed_append_left old front.0 lock is)
-
 module _ (clients : List ClientState) (k : ℕ) (client after : ClientState) (here : slice_get clients k ≡ Some client)
     (grows : Grows client.log after.log) (nth : ℕ) where
   abbrev later : List ClientState
   later = slice_set clients k after
 
   listed_stays : (lock : Lock) → IsListed clients nth lock → IsListed later nth lock
-  listed_stays lock (other, (one, (there, (apart, is)))) = elim (cases_eq other k) [
-    | inl same ↦
-        let ones : one ≡ client = same_Some one client (sym there ∙ ap (slice_get clients) same ∙ here) in (
-          other,
-          (
-            after,
-            (
-              ap (slice_get later) same ∙ get_set clients k client after here,
-              (
-                apart,
-                front_listed lock client.log.locks after.log.locks grows.locks
-                    (subst (λ (c : ClientState). Listed lock c.log.locks) ones is),
-              ),
-            ),
-          ),
-        )
-    | inr beside ↦
-        (other, (one, (get_beside clients k other after beside ∙ there, (apart, is))))
-  ]
+  listed_stays lock =
+      someone_stays (λ other (one : ClientState). (other ≢ nth) × Listed lock one.log.locks) clients k client after here
+      (λ is. (is.0, front_listed client.log.locks after.log.locks grows.locks lock is.1))
 
   refusal_stays : (why : Refusal) → RefusalListed clients nth why → RefusalListed later nth why
   refusal_stays (refusal.Locked lock) is = listed_stays lock is

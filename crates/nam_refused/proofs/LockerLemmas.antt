@@ -1,24 +1,27 @@
 -- Where a commit finds a header locked, the client whose lock it is has listed it, under the same key and stamp.
-use Rattle.std.proofs.Common.{List, Some, [], ap, arith, inl, inr, length, option_map, refl, subst, suc, sym, zero}
-use Rattle.std.proofs.Common.{ℕ, ◌+◌, ◌<◌, ◌∙◌, ◌∷◌, ◌≡◌, ◌≤◌}
-use Rattle.std.specs.Prelude.{slice_index}
+use Rattle.std.proofs.Common.{List, Some, [], ap, arith, inl, inr, length, option_map, refl, subst, suc, sym, zero, ℕ}
+use Rattle.std.proofs.Common.{◌+◌, ◌<◌, ◌∙◌, ◌∷◌, ◌≡◌, ◌≤◌}
 use Rattle.std.proofs.lemmas.Option.{slice_get-map}
-use Rattle.si_model.specs.Lists.{Listed}
-use Rattle.si_model.specs.declared.log.Lock.{Lock}
-use Rattle.si_model.proofs.ListLemmas.{listed_append_right}
+use Rattle.std.specs.Prelude.{slice_index}
+use Rattle.nam_calls.specs.Memory.{memory}
 use Rattle.nam_catalog.specs.declared.form.Form.{Form}
 use Rattle.nam_catalog.specs.declared.shape.Shape.{Shape}
+use Rattle.nam_ghost.proofs.RecordLemmas.{header_fits, header_says}
+use Rattle.nam_ghost.specs.Holders.{Holds, holder_at, holder_of, record_row}
+use Rattle.nam_ghost.specs.Keys.{ClaimsOk, KeysOk}
+use Rattle.nam_ghost.specs.Locks.{HolderOk, Lists, LocksOk}
+use Rattle.nam_ghost.specs.Versions.{Chain, current_header, record_image}
+use Rattle.nam_header.proofs.StampLemmas.{stamp_in-word_of}
 use Rattle.nam_header.specs.Stamp.{stamp_in}
 use Rattle.nam_header.specs.declared.header.Header.{Header}
-use Rattle.nam_header.proofs.StampLemmas.{stamp_in-word_of}
 use Rattle.nam_layout.specs.Rows.{table_of, width_at}
 use Rattle.nam_layout.specs.declared.field.Field.{Field}
-use Rattle.nam_layout.specs.declared.field.Field.TheVariants as field
-use Rattle.nam_calls.specs.Memory.{memory}
+use Rattle.nam_protocol.proofs.FallsCommit.{held_within}
 use Rattle.nam_protocol.specs.Carries.{AttemptCarries}
 use Rattle.nam_protocol.specs.Commit.{lock_at}
 use Rattle.nam_protocol.specs.Sorts.{committing_at}
 use Rattle.nam_protocol.specs.Telling.{locks_from}
+use Rattle.nam_protocol.specs.TxnFits.{CommitFits, CommitPointFits, StateFits}
 use Rattle.nam_protocol.specs.declared.client.ClientState.{ClientState}
 use Rattle.nam_protocol.specs.declared.client.Open.{Open}
 use Rattle.nam_protocol.specs.declared.txn.CommitPoint.{CommitPoint}
@@ -26,21 +29,17 @@ use Rattle.nam_protocol.specs.declared.txn.CommitPoint.TheVariants.{Checking, Cl
 use Rattle.nam_protocol.specs.declared.txn.CommitPoint.TheVariants.{Ending, Freeing, Installing, Listing, Locking}
 use Rattle.nam_protocol.specs.declared.txn.CommitPoint.TheVariants.{Publishing, Returning, Saving}
 use Rattle.nam_protocol.specs.declared.txn.TxnState.{TxnState}
-use Rattle.nam_protocol.specs.TxnFits.{CommitFits, CommitPointFits, StateFits}
-use Rattle.nam_protocol.proofs.FallsCommit.{held_within}
-use Rattle.nam_store.specs.Base.{BaseOk, ClientOk}
-use Rattle.nam_store.specs.Store.{Store, client_at, found_word}
-use Rattle.nam_ghost.specs.Holders.{Holds, holder_at, holder_of, record_row}
-use Rattle.nam_ghost.specs.Keys.{ClaimsOk, KeysOk}
-use Rattle.nam_ghost.specs.Locks.{HolderOk, LocksOk}
-use Rattle.nam_ghost.specs.Versions.{Chain, current_header, record_image}
-use Rattle.nam_locks.specs.LocksLaw.{Lists}
-use Rattle.nam_locks.proofs.RecordLemmas.{header_fits, header_says}
-use Rattle.nam_refused.specs.Lockers.{IsListed}
-use Rattle.nam_refused.specs.RefusedLaw.{MeetsLock}
 use Rattle.nam_refused.proofs.LockedLemmas.{claims, is_row, less, locked_holds, own, word_is}
 use Rattle.nam_refused.proofs.RecordLemmas.{row_bears, row_table}
 use Rattle.nam_refused.proofs.StayLemmas.{found_form}
+use Rattle.nam_refused.specs.Lockers.{IsListed}
+use Rattle.nam_refused.specs.RefusedLaw.{MeetsLock}
+use Rattle.nam_store.specs.Base.{BaseOk, ClientOk}
+use Rattle.nam_store.specs.Store.{Store, client_at, found_word}
+use Rattle.si_model.proofs.ListLemmas.{listed_append_right}
+use Rattle.si_model.specs.Lists.{Listed}
+use Rattle.si_model.specs.declared.log.Lock.{Lock}
+use Rattle.nam_layout.specs.declared.field.Field.TheVariants as field
 
 -- 1. What a list of locks has
 

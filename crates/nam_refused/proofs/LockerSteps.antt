@@ -1,13 +1,16 @@
 -- Each step of a store keeps that a lock which stood in a commit's way is listed by another client.
 use Rattle.std.proofs.Common.{List, Some, ap, length, subst, true, ℕ, ◌∙◌, ◌≡◌}
 use Rattle.std.specs.Prelude.{slice_set}
-use Rattle.nam_verbs.specs.declared.now.Now.TheVariants.{At}
-use Rattle.si_model.specs.declared.row.Row.{Row}
-use Rattle.nam_catalog.specs.Fits.{FitsLimits}
+use Rattle.nam_calls.specs.declared.lock.LockPoint.{LockPoint}
 use Rattle.nam_catalog.specs.declared.form.Form.{Form}
 use Rattle.nam_catalog.specs.declared.shape.Shape.{Shape}
+use Rattle.nam_ghost.proofs.IdleLemmas.{aside_idle, rests_aside}
+use Rattle.nam_ghost.specs.Keys.{KeysOk}
+use Rattle.nam_ghost.specs.Locks.{LocksOk}
+use Rattle.nam_ghost.specs.Versions.{Chain}
 use Rattle.nam_header.specs.Stamp.{is_locked}
-use Rattle.nam_calls.specs.declared.lock.LockPoint.{LockPoint}
+use Rattle.nam_protocol.proofs.Grows.{abandon_grows, ask_grows, grows_same, word_grows}
+use Rattle.nam_protocol.proofs.PlainLemmas.{abandon_plain}
 use Rattle.nam_protocol.specs.Client.{client_abandon, client_after, client_ask}
 use Rattle.nam_protocol.specs.Commit.{commit_after}
 use Rattle.nam_protocol.specs.CutClient.{client_cut}
@@ -21,30 +24,6 @@ use Rattle.nam_protocol.specs.declared.client.Open.{Open}
 use Rattle.nam_protocol.specs.declared.txn.CommitPoint.{CommitPoint}
 use Rattle.nam_protocol.specs.declared.txn.CommitPoint.TheVariants.{Locking}
 use Rattle.nam_protocol.specs.declared.txn.TxnState.{TxnState}
-use Rattle.nam_protocol.proofs.Grows.{abandon_grows, ask_grows, grows_same, word_grows}
-use Rattle.nam_protocol.proofs.PlainLemmas.{abandon_plain}
-use Rattle.nam_store.specs.Base.{BaseOk, ClientOk}
-use Rattle.nam_store.specs.Opening.{AreLoaded, opening_store}
-use Rattle.nam_store.specs.Reached.{IsReached}
-use Rattle.nam_store.specs.Store.{Abandons, Asks, Cuts, StepsTo, Store, Takes, abandon, ask, client_at, cut, found_word}
-use Rattle.nam_store.specs.Store.{step}
-use Rattle.nam_store.proofs.BaseLemmas.{asked_sort, base_keeps, step_sort}
-use Rattle.nam_store.proofs.Lists.{everyone_set}
-use Rattle.nam_store.proofs.OpeningLemmas.{opening_ok}
-use Rattle.nam_store.proofs.ReachedLemmas.{ghost_rides, reached_keeps}
-use Rattle.nam_ghost.specs.Ghost.{Ghost, ghost_step, opening_ghost}
-use Rattle.nam_ghost.specs.Keys.{KeysOk}
-use Rattle.nam_ghost.specs.Locks.{LocksOk}
-use Rattle.nam_ghost.specs.Versions.{Chain}
-use Rattle.nam_keys.proofs.OpeningLemmas.{keys_open}
-use Rattle.nam_keys.proofs.StoreLemmas.{keys_keep}
-use Rattle.nam_locks.proofs.IdleLemmas.{aside_idle, rests_aside}
-use Rattle.nam_locks.proofs.OpeningLemmas.{locks_open}
-use Rattle.nam_locks.proofs.StoreLemmas.{locks_keep}
-use Rattle.nam_refused.specs.Lockers.{AnswerListed, LockersOk, PointListed, WayListed}
-use Rattle.nam_refused.specs.LockersLaw.{KeepsLaw, ListedLaw, OpensLaw, ReachedLaw}
-use Rattle.nam_refused.specs.RefusedLaw.{LooksAt}
-use Rattle.nam_refused.specs.Views.{InCall}
 use Rattle.nam_refused.proofs.AnswerLemmas.{ends_as}
 use Rattle.nam_refused.proofs.LockedLemmas.{less_there}
 use Rattle.nam_refused.proofs.LockerCommits.{After, call_stays, commit_listed}
@@ -52,6 +31,16 @@ use Rattle.nam_refused.proofs.LockerLemmas.{meets_listed}
 use Rattle.nam_refused.proofs.StayLemmas.{record_form}
 use Rattle.nam_refused.proofs.StoreLemmas.{new_ok}
 use Rattle.nam_refused.proofs.WordLemmas.{ask_ok, idle_ok, word_ok}
+use Rattle.nam_refused.specs.Lockers.{AnswerListed, LockersOk, PointListed, WayListed}
+use Rattle.nam_refused.specs.LockersLaw.{KeepsLaw, ListedLaw, OpensLaw}
+use Rattle.nam_refused.specs.RefusedLaw.{LooksAt}
+use Rattle.nam_refused.specs.Views.{InCall}
+use Rattle.nam_store.proofs.BaseLemmas.{asked_sort, step_sort}
+use Rattle.nam_store.proofs.Lists.{everyone_set}
+use Rattle.nam_store.specs.Base.{BaseOk, ClientOk}
+use Rattle.nam_store.specs.Opening.{opening_store}
+use Rattle.nam_store.specs.Store.{Abandons, Asks, Cuts, Store, Takes, abandon, ask, client_at, cut, found_word, step}
+use Rattle.nam_verbs.specs.declared.now.Now.TheVariants.{At}
 use Rattle.nam_protocol.specs.declared.txn.TxnAnswer.TheVariants as txn_answer
 
 -- 1. A step
@@ -123,7 +112,7 @@ module _ (shape : Shape) (store : Store) (chains : ℕ → Chain) (base : BaseOk
   pub lockers_cut : LockersOk (cut store nth client)
   lockers_cut = gone store.words (client_cut client) (grows_same client.log) (ok nth client here)
 
--- 2. One step, every store, and the answer
+-- 2. One step, and the answer
 
 pub lockers_open : OpensLaw
 lockers_open shape limits rows loaded nth client here =
@@ -139,46 +128,9 @@ lockers_keep shape before _ (Abandons nth client here rests) chains base locks k
 lockers_keep shape before _ (Cuts nth client here) chains base locks keys ok =
     lockers_cut shape before chains base locks keys ok nth client here
 
--- a store with chains that meet what is claimed of locks and keys
-pub record Known (shape : Shape) (store : Store) (chains : ℕ → Chain) : Type 0 where
-  pub base : BaseOk shape store
-  pub locks : LocksOk shape store chains
-  pub keys : KeysOk shape store chains
-  pub lockers : LockersOk store
-
-known_next : (shape : Shape) (before after : Store) (ghost : Ghost) (goes : StepsTo shape before after)
-    → Known shape before ghost.chains → Known shape after (ghost_step shape before after goes ghost).chains
-known_next shape before after ghost goes known = record {
-  base = base_keeps shape before after goes known.base;
-  locks = locks_keep shape before after goes ghost known.base known.locks;
-  keys = keys_keep shape before after goes ghost known.base known.keys;
-  lockers = lockers_keep shape before after goes ghost.chains known.base known.locks known.keys known.lockers;
-}
-
-pub known_reached : (shape : Shape) → FitsLimits shape → (rows : List Row) → AreLoaded shape rows → (store : Store)
-    → IsReached shape rows store → (chains : ℕ → Chain) × Known shape store chains
-known_reached shape limits rows loaded store reached =
-    let with_ghost = ghost_rides shape rows (opening_ghost shape rows) (ghost_step shape) store tt reached in (
-      with_ghost.0.chains,
-      reached_keeps shape rows (opening_ghost shape rows) (ghost_step shape)
-          (λ s g. Known shape s g.chains)
-          record {
-            base = opening_ok shape limits rows loaded;
-            locks = locks_open shape limits rows loaded;
-            keys = keys_open shape limits rows loaded;
-            lockers = lockers_open shape limits rows loaded;
-          }
-          (known_next shape) store with_ghost.0 with_ghost.1,
-    )
-
-pub lockers_reached : ReachedLaw
-lockers_reached shape limits rows loaded store reached =
-    (known_reached shape limits rows loaded store reached).1.lockers
-
 pub listed_holds : ListedLaw
-listed_holds shape limits rows loaded store reached nth client attempt lock ends =
-    let (chains, known) = known_reached shape limits rows loaded store reached in
+listed_holds shape store chains base locks keys ok nth client attempt lock ends =
     ends_as shape store (PointListed store.clients nth) (λ was. AnswerListed store.clients nth) nth client attempt
     (txn_answer.Locked lock) ends
-    (commit_word shape store chains known.base known.locks known.keys known.lockers nth client ends.here client attempt
-    ends.at (λ k. record client { call = ends.runs k; txn = ends.opened k }))
+    (commit_word shape store chains base locks keys ok nth client ends.here client attempt ends.at
+    (λ k. record client { call = ends.runs k; txn = ends.opened k }))

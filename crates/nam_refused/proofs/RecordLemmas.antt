@@ -1,29 +1,29 @@
 -- The records of a commit are different rows: each row bears its record's key, and no key comes twice.
-use Rattle.std.proofs.Common.{List, [], ap, arith, inl, inr, length, map, refl, subst, suc, sym, true, zero}
-use Rattle.std.proofs.Common.{ℕ, ◌<◌, ◌∙◌, ◌∷◌, ◌≡◌}
-use Rattle.std.specs.Prelude.{slice_index_or}
+use Rattle.std.proofs.Common.{List, [], ap, arith, inl, inr, length, map, refl, subst, suc, sym, true, zero, ℕ, ◌<◌}
+use Rattle.std.proofs.Common.{◌∙◌, ◌∷◌, ◌≡◌}
 use Rattle.std.proofs.lemmas.Bool.{false≢true, true≢false}
 use Rattle.std.proofs.lemmas.List.{length-map}
 use Rattle.std.proofs.lemmas.Map.Keys.{apart_from_distinct}
-use Rattle.si_model.specs.Lists.{Listed}
-use Rattle.si_model.specs.Rows.{key_at, same_key}
-use Rattle.si_model.specs.declared.row.Key as row_key
-use Rattle.si_model.proofs.EvaluationLemmas.{same_key-refl, same_key_says}
-use Rattle.nam_verbs.proofs.TestLemmas.{by_test}
+use Rattle.std.specs.Prelude.{slice_index_or}
+use Rattle.nam_calls.specs.Words.{key_word}
 use Rattle.nam_catalog.specs.declared.shape.Shape.{Shape}
+use Rattle.nam_ghost.specs.Holders.{record_row}
+use Rattle.nam_layout.proofs.PositionLemmas.{position_is_row}
 use Rattle.nam_layout.specs.Rows.{table_of}
 use Rattle.nam_layout.specs.declared.field.Field.{Field}
 use Rattle.nam_layout.specs.declared.field.Field.TheVariants.{Key}
 use Rattle.nam_layout.specs.declared.field.Place.{Place}
-use Rattle.nam_layout.proofs.PositionLemmas.{position_is_row}
-use Rattle.nam_calls.specs.Words.{key_word}
-use Rattle.nam_protocol.specs.declared.txn.Record.{Record}
-use Rattle.nam_protocol.specs.declared.txn.TxnState.{TxnState}
-use Rattle.nam_protocol.specs.Commit.{commit_keys, no_record, record_at, record_in, records_of}
-use Rattle.nam_protocol.specs.TxnFits.{StateFits, is_claimed}
 use Rattle.nam_protocol.proofs.FallsKeys.{all_at, keys_claimed, place_of_nth, record_is_placed}
 use Rattle.nam_protocol.proofs.KeyLemmas.{used_once}
-use Rattle.nam_ghost.specs.Holders.{record_row}
+use Rattle.nam_protocol.specs.Commit.{commit_keys, no_record, record_at, record_in, records_of}
+use Rattle.nam_protocol.specs.TxnFits.{StateFits, is_claimed}
+use Rattle.nam_protocol.specs.declared.txn.Record.{Record}
+use Rattle.nam_protocol.specs.declared.txn.TxnState.{TxnState}
+use Rattle.nam_verbs.proofs.TestLemmas.{by_test}
+use Rattle.si_model.proofs.EvaluationLemmas.{same_key-refl, same_key_says}
+use Rattle.si_model.specs.Lists.{Listed}
+use Rattle.si_model.specs.Rows.{key_at, same_key}
+use Rattle.si_model.specs.declared.row.Key as row_key
 
 -- 1. The record of a key
 

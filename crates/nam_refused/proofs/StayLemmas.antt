@@ -1,18 +1,23 @@
 -- What is claimed of a refused commit stays, since versions do and no snapshot that was taken sees a new one.
-use Rattle.std.proofs.Common.{List, None, Option, Some, ap, inl, inr, length, map, option_map, refl, subst, sym}
-use Rattle.std.proofs.Common.{[], ℕ, ⊎_elim, ◌++◌, ◌<◌, ◌∙◌, ◌∷◌, ◌≡◌, ◌⊎◌}
+use Rattle.std.proofs.Common.{List, None, Option, Some, [], ap, inl, inr, length, map, option_map, refl, subst, sym, ℕ}
+use Rattle.std.proofs.Common.{⊎_elim, ◌++◌, ◌<◌, ◌∙◌, ◌∷◌, ◌≡◌, ◌⊎◌}
 use Rattle.std.proofs.lemmas.Option.{slice_get-map}
-use Rattle.si_model.proofs.ListLemmas.{listed_append_left}
-use Rattle.si_model.specs.Lists.{Listed}
-use Rattle.si_model.specs.declared.log.Lock.{Lock}
-use Rattle.si_model.specs.declared.log.Stamp.{Stamp}
-use Rattle.nam_verbs.specs.declared.now.Now.{Now}
-use Rattle.nam_verbs.specs.declared.now.Now.TheVariants.{At, Over}
+use Rattle.nam_calls.specs.declared.lock.LockPoint.TheVariants.{GiveBack, Peek, Seize}
 use Rattle.nam_catalog.specs.Fits.{FitsLimits}
 use Rattle.nam_catalog.specs.declared.shape.Shape.{Shape}
+use Rattle.nam_ghost.specs.Chains.{IsNew}
+use Rattle.nam_ghost.specs.Holders.{record_row}
+use Rattle.nam_ghost.specs.Moments.{Observer, observer_of}
+use Rattle.nam_ghost.specs.Slots.{Copies, Flags, Idles, Marks, Renews, Ring, RowNext}
+use Rattle.nam_ghost.specs.Versions.{Chain, Version, current_word, versions}
 use Rattle.nam_layout.specs.Address.{IsRow}
 use Rattle.nam_layout.specs.declared.field.Place.{Place}
-use Rattle.nam_calls.specs.declared.lock.LockPoint.TheVariants.{GiveBack, Peek, Seize}
+use Rattle.nam_protocol.proofs.FallsKeys.{place_of_nth}
+use Rattle.nam_protocol.proofs.FieldLemmas.{placed}
+use Rattle.nam_protocol.specs.ClientFits.{NowFits, OpenFits}
+use Rattle.nam_protocol.specs.Commit.{record_at, record_place}
+use Rattle.nam_protocol.specs.Own.{OwnOpen}
+use Rattle.nam_protocol.specs.TxnFits.{CommitFits, StateFits}
 use Rattle.nam_protocol.specs.declared.client.Answer.{Answer}
 use Rattle.nam_protocol.specs.declared.client.CallPoint.{CallPoint}
 use Rattle.nam_protocol.specs.declared.client.CallPoint.TheVariants.{InTxn}
@@ -23,23 +28,18 @@ use Rattle.nam_protocol.specs.declared.txn.CommitPoint.TheVariants.{Clearing, Lo
 use Rattle.nam_protocol.specs.declared.txn.Refusal.{Refusal}
 use Rattle.nam_protocol.specs.declared.txn.TxnPoint.TheVariants.{Committing}
 use Rattle.nam_protocol.specs.declared.txn.TxnState.{TxnState}
-use Rattle.nam_protocol.specs.ClientFits.{NowFits, OpenFits}
-use Rattle.nam_protocol.specs.Own.{OwnOpen}
-use Rattle.nam_protocol.specs.TxnFits.{CommitFits, StateFits}
-use Rattle.nam_protocol.specs.Commit.{record_at, record_place}
-use Rattle.nam_protocol.proofs.FallsKeys.{place_of_nth}
-use Rattle.nam_protocol.proofs.FieldLemmas.{placed}
-use Rattle.nam_store.specs.Base.{ClientOk}
-use Rattle.nam_store.specs.Store.{Store, client_at}
-use Rattle.nam_ghost.specs.Chains.{IsNew}
-use Rattle.nam_ghost.specs.Holders.{record_row}
-use Rattle.nam_ghost.specs.Moments.{Observer, observer_of}
-use Rattle.nam_ghost.specs.Slots.{Copies, Flags, Idles, Marks, Renews, Ring, RowNext}
-use Rattle.nam_ghost.specs.Versions.{Chain, Version, current_word, versions}
-use Rattle.nam_refused.specs.Refused.{ChainGoes, ChainsGo, HasStamp, IsFound, IsNewer, IsUnseen, LostOk}
-use Rattle.nam_refused.specs.Refused.{PointOk, RefusalOk, SeizeOk}
+use Rattle.nam_refused.specs.Refused.{ChainGoes, ChainsGo, HasStamp, IsFound, IsNewer, IsUnseen, LostOk, PointOk}
+use Rattle.nam_refused.specs.Refused.{RefusalOk, SeizeOk}
 use Rattle.nam_refused.specs.Views.{InCall}
+use Rattle.nam_store.specs.Base.{ClientOk}
 use Rattle.nam_store.specs.Everyone.{Someone}
+use Rattle.nam_store.specs.Store.{Store, client_at}
+use Rattle.nam_verbs.specs.declared.now.Now.{Now}
+use Rattle.nam_verbs.specs.declared.now.Now.TheVariants.{At, Over}
+use Rattle.si_model.proofs.ListLemmas.{listed_append_left}
+use Rattle.si_model.specs.Lists.{Listed}
+use Rattle.si_model.specs.declared.log.Lock.{Lock}
+use Rattle.si_model.specs.declared.log.Stamp.{Stamp}
 use Rattle.nam_protocol.specs.declared.txn.Refusal.TheVariants as refusal
 
 -- 1. Chains

@@ -1,37 +1,37 @@
 -- Each step of a store keeps what is claimed of refused commits, and the opening has it.
 use Rattle.std.proofs.Common.{Some, map, subst, suc, zero, ℕ, ◌+◌, ◌≡◌}
-use Rattle.std.specs.Prelude.{slice_get}
 use Rattle.std.proofs.lemmas.Option.{none-some, same_Some}
-use Rattle.nam_verbs.specs.declared.now.Now.TheVariants.{At}
-use Rattle.nam_catalog.specs.declared.shape.Shape.{Shape}
+use Rattle.std.specs.Prelude.{slice_get}
 use Rattle.nam_calls.specs.Memory.{memory}
-use Rattle.nam_protocol.specs.Client.{client_abandon, client_after, client_ask}
-use Rattle.nam_protocol.specs.CutClient.{client_cut}
-use Rattle.nam_protocol.specs.declared.client.CallPoint.{CallPoint}
-use Rattle.nam_protocol.specs.declared.client.ClientState.{ClientState}
-use Rattle.nam_protocol.proofs.PlainLemmas.{abandon_plain}
-use Rattle.nam_protocol.specs.declared.txn.CommitPoint.{CommitPoint}
-use Rattle.nam_protocol.specs.declared.txn.TxnState.{TxnState}
-use Rattle.nam_store.specs.Base.{BaseOk}
-use Rattle.nam_store.specs.Opening.{new_clients}
-use Rattle.nam_store.specs.Store.{Abandons, Asks, Cuts, Store, StepsTo, Takes, client_at, found_word, step, with_client}
-use Rattle.nam_store.proofs.BaseLemmas.{asked_sort, step_sort}
-use Rattle.nam_store.proofs.Lists.{everyone_put, everyone_set}
-use Rattle.nam_layout.specs.Place.{place_at}
-use Rattle.nam_layout.specs.Rows.{width_at}
+use Rattle.nam_catalog.specs.declared.shape.Shape.{Shape}
+use Rattle.nam_ghost.proofs.IdleLemmas.{aside_idle, rests_aside}
 use Rattle.nam_ghost.specs.Cells.{IsElsewhere}
 use Rattle.nam_ghost.specs.Ghost.{Ghost, ghost_step, opening_ghost}
 use Rattle.nam_ghost.specs.Locks.{LocksOk}
 use Rattle.nam_ghost.specs.Moments.{observer_of}
 use Rattle.nam_ghost.specs.Steps.{chains_after}
 use Rattle.nam_ghost.specs.Versions.{Chain}
-use Rattle.nam_locks.proofs.IdleLemmas.{aside_idle, rests_aside}
-use Rattle.nam_refused.specs.Refused.{AnswerOk, PointOk, RefusedOk}
-use Rattle.nam_refused.specs.RefusedLaw.{KeepsLaw, OpensLaw, RestsOn}
-use Rattle.nam_refused.specs.Views.{InCall}
+use Rattle.nam_layout.specs.Place.{place_at}
+use Rattle.nam_layout.specs.Rows.{width_at}
+use Rattle.nam_protocol.proofs.PlainLemmas.{abandon_plain}
+use Rattle.nam_protocol.specs.Client.{client_abandon, client_after, client_ask}
+use Rattle.nam_protocol.specs.CutClient.{client_cut}
+use Rattle.nam_protocol.specs.declared.client.CallPoint.{CallPoint}
+use Rattle.nam_protocol.specs.declared.client.ClientState.{ClientState}
+use Rattle.nam_protocol.specs.declared.txn.CommitPoint.{CommitPoint}
+use Rattle.nam_protocol.specs.declared.txn.TxnState.{TxnState}
 use Rattle.nam_refused.proofs.CommitLemmas.{commit_word}
 use Rattle.nam_refused.proofs.StayLemmas.{GoesFor, call_stays, row_goes, taken_by}
 use Rattle.nam_refused.proofs.WordLemmas.{ask_ok, idle_ok, word_ok}
+use Rattle.nam_refused.specs.Refused.{AnswerOk, PointOk, RefusedOk}
+use Rattle.nam_refused.specs.RefusedLaw.{KeepsLaw, OpensLaw, RestsOn}
+use Rattle.nam_refused.specs.Views.{InCall}
+use Rattle.nam_store.proofs.BaseLemmas.{asked_sort, step_sort}
+use Rattle.nam_store.proofs.Lists.{everyone_put, everyone_set}
+use Rattle.nam_store.specs.Base.{BaseOk}
+use Rattle.nam_store.specs.Opening.{new_clients}
+use Rattle.nam_store.specs.Store.{Abandons, Asks, Cuts, StepsTo, Store, Takes, client_at, found_word, step, with_client}
+use Rattle.nam_verbs.specs.declared.now.Now.TheVariants.{At}
 
 -- 1. The opening: no call runs
 

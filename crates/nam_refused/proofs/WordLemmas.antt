@@ -1,32 +1,31 @@
 -- What is said of a client's commit by its point, after a word that it takes and a call that it is asked: by the sorts
 -- of steps, whatever is said.
 use Rattle.std.proofs.Common.{None, Option, Some, ap, length, refl, subst, ℕ, ◌≡◌}
-use Rattle.nam_verbs.specs.declared.now.Now.{Now}
-use Rattle.nam_verbs.specs.declared.now.Now.TheVariants.{At, Over}
+use Rattle.nam_calls.specs.declared.lock.LockPoint.TheVariants.{Peek}
 use Rattle.nam_catalog.specs.declared.shape.Shape.{Shape}
-use Rattle.nam_vector.specs.Snap.{snap_after}
+use Rattle.nam_ghost.proofs.IdleLemmas.{aside_idle, begins_idle, snaps_idle}
+use Rattle.nam_ghost.specs.Idle.{IsIdle}
+use Rattle.nam_protocol.proofs.GoesCommit.{ask_commit_goes}
+use Rattle.nam_protocol.specs.Commit.{ask_commit, commit_after, committing, list_begin}
+use Rattle.nam_protocol.specs.Sorts.{AskOf, AsksBegin, AsksCollect, AsksCommit, AsksPlain, Begins, Collects, Commits}
+use Rattle.nam_protocol.specs.Sorts.{Finds, Moves, Reads, Snaps, StepOf, committing_at}
+use Rattle.nam_protocol.specs.Telling.{go, stepped}
+use Rattle.nam_protocol.specs.Txn.{Stepped}
 use Rattle.nam_protocol.specs.declared.client.Answer.{Answer}
 use Rattle.nam_protocol.specs.declared.client.CallPoint.{CallPoint}
 use Rattle.nam_protocol.specs.declared.client.CallPoint.TheVariants.{Beginning, InTxn, Snapping}
 use Rattle.nam_protocol.specs.declared.client.ClientState.{ClientState}
 use Rattle.nam_protocol.specs.declared.client.Open.{Open}
 use Rattle.nam_protocol.specs.declared.txn.CommitPoint.{CommitPoint}
+use Rattle.nam_protocol.specs.declared.txn.CommitPoint.TheVariants.{Listing, Locking}
 use Rattle.nam_protocol.specs.declared.txn.TxnAnswer.{TxnAnswer}
 use Rattle.nam_protocol.specs.declared.txn.TxnPoint.{TxnPoint}
 use Rattle.nam_protocol.specs.declared.txn.TxnPoint.TheVariants.{Committing}
 use Rattle.nam_protocol.specs.declared.txn.TxnState.{TxnState}
-use Rattle.nam_calls.specs.declared.lock.LockPoint.TheVariants.{Peek}
-use Rattle.nam_protocol.specs.declared.txn.CommitPoint.TheVariants.{Listing, Locking}
-use Rattle.nam_protocol.specs.Commit.{ask_commit, commit_after, committing, list_begin}
-use Rattle.nam_protocol.specs.Sorts.{AskOf, AsksBegin, AsksCollect, AsksCommit, AsksPlain, Begins, Collects, Commits}
-use Rattle.nam_protocol.specs.Sorts.{Finds, Moves, Reads, Snaps, StepOf, committing_at}
-use Rattle.nam_protocol.specs.Telling.{go, stepped}
-use Rattle.nam_protocol.specs.Txn.{Stepped}
-use Rattle.nam_protocol.proofs.GoesCommit.{ask_commit_goes}
-use Rattle.nam_locks.specs.Idle.{IsIdle}
-use Rattle.nam_locks.proofs.IdleLemmas.{aside_idle}
-use Rattle.nam_locks.proofs.WordLemmas.{begins_idle, snaps_idle}
 use Rattle.nam_refused.specs.Views.{InCall, InNow}
+use Rattle.nam_vector.specs.Snap.{snap_after}
+use Rattle.nam_verbs.specs.declared.now.Now.{Now}
+use Rattle.nam_verbs.specs.declared.now.Now.TheVariants.{At, Over}
 use Rattle.nam_protocol.specs.declared.client.Answer.TheVariants as client_answer
 
 module _ (Point : TxnState → CommitPoint → Type 0) where

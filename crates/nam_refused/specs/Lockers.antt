@@ -1,4 +1,5 @@
 -- What is claimed of a lock that stood in a commit's way: another client's log lists it. Logs only grow, so it stays.
+use Rattle.std.specs.Prelude.{List, length, true, ℕ, ◌≡◌, ◌≢◌}
 use Rattle.nam_calls.specs.declared.lock.LockPoint.TheVariants.{GiveBack}
 use Rattle.nam_header.specs.Stamp.{is_locked}
 use Rattle.nam_protocol.specs.Commit.{lock_at, record_place}
@@ -13,7 +14,6 @@ use Rattle.nam_store.specs.Everyone.{Everyone, Someone}
 use Rattle.nam_store.specs.Store.{Store}
 use Rattle.si_model.specs.Lists.{Listed}
 use Rattle.si_model.specs.declared.log.Lock.{Lock}
-use Rattle.std.specs.Prelude.{List, length, true, ℕ, ◌≡◌, ◌≢◌}
 use Rattle.nam_protocol.specs.declared.txn.Refusal.TheVariants as refusal
 use Rattle.nam_protocol.specs.declared.txn.TxnAnswer.TheVariants as txn_answer
 

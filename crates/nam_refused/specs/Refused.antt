@@ -1,5 +1,6 @@
 -- What is claimed of a commit that is refused: the row of the record that it couldn't lock has the version that was
 -- found there, and where the header was unlocked the commit's snapshot doesn't see it. Versions stay, so this does.
+use Rattle.std.specs.Prelude.{List, false, length, ℕ, ◌<◌, ◌≡◌, ◌⊎◌}
 use Rattle.nam_calls.specs.declared.lock.LockPoint.TheVariants.{GiveBack, Seize}
 use Rattle.nam_catalog.specs.declared.shape.Shape.{Shape}
 use Rattle.nam_ghost.specs.Holders.{record_row}
@@ -19,7 +20,6 @@ use Rattle.nam_store.specs.Everyone.{Everyone}
 use Rattle.nam_store.specs.Store.{Store}
 use Rattle.si_model.specs.declared.log.Lock.{Lock}
 use Rattle.si_model.specs.declared.log.Stamp.{Stamp}
-use Rattle.std.specs.Prelude.{List, false, length, ℕ, ◌<◌, ◌≡◌, ◌⊎◌}
 use Rattle.nam_protocol.specs.declared.txn.Refusal.TheVariants as refusal
 use Rattle.nam_protocol.specs.declared.txn.TxnAnswer.TheVariants as txn_answer
 

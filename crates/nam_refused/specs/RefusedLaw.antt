@@ -1,5 +1,6 @@
 -- What a refused commit tells is true: what is claimed of it holds at the opening, each step keeps it, and what its
 -- answers come to.
+use Rattle.std.specs.Prelude.{List, Some, length, map, true, ℕ, ◌+◌, ◌≡◌, ◌≢◌}
 use Rattle.nam_calls.specs.Memory.{memory}
 use Rattle.nam_calls.specs.declared.lock.LockPoint.{LockPoint}
 use Rattle.nam_calls.specs.declared.lock.LockPoint.TheVariants.{GiveBack, Peek, Seize}
@@ -10,7 +11,7 @@ use Rattle.nam_ghost.specs.Chains.{IsNew}
 use Rattle.nam_ghost.specs.Ghost.{Ghost, ghost_step, opening_ghost}
 use Rattle.nam_ghost.specs.Holders.{record_row}
 use Rattle.nam_ghost.specs.Keys.{KeysOk}
-use Rattle.nam_ghost.specs.Locks.{LocksOk}
+use Rattle.nam_ghost.specs.Locks.{Lists, LocksOk}
 use Rattle.nam_ghost.specs.Moments.{observer_of}
 use Rattle.nam_ghost.specs.Slots.{RowNext}
 use Rattle.nam_ghost.specs.Versions.{Chain}
@@ -20,7 +21,6 @@ use Rattle.nam_header.specs.Stamp.{is_locked}
 use Rattle.nam_layout.specs.Address.{IsRow}
 use Rattle.nam_layout.specs.Place.{place_at}
 use Rattle.nam_layout.specs.Rows.{width_at}
-use Rattle.nam_locks.specs.LocksLaw.{Lists}
 use Rattle.nam_protocol.specs.Client.{client_after}
 use Rattle.nam_protocol.specs.declared.client.CallPoint.TheVariants.{InTxn}
 use Rattle.nam_protocol.specs.declared.client.ClientState.{ClientState}
@@ -37,7 +37,6 @@ use Rattle.nam_store.specs.Store.{StepsTo, Store, client_at, found_word}
 use Rattle.nam_verbs.specs.declared.now.Now.TheVariants.{At, Over}
 use Rattle.si_model.specs.declared.log.Lock.{Lock}
 use Rattle.si_model.specs.declared.row.Row.{Row}
-use Rattle.std.specs.Prelude.{List, Some, length, map, true, ℕ, ◌+◌, ◌≡◌, ◌≢◌}
 use Rattle.nam_protocol.specs.declared.client.Answer.TheVariants as client_answer
 use Rattle.nam_protocol.specs.declared.txn.TxnAnswer.TheVariants as txn_answer
 

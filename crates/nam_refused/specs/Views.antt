@@ -1,4 +1,5 @@
 -- What is said of a client's commit by its point, and of a commit that has stepped by its point or its answer.
+use Rattle.std.specs.Prelude.{Option, Some}
 use Rattle.nam_protocol.specs.declared.client.Answer.{Answer}
 use Rattle.nam_protocol.specs.declared.client.CallPoint.{CallPoint}
 use Rattle.nam_protocol.specs.declared.client.CallPoint.TheVariants.{InTxn}
@@ -10,7 +11,6 @@ use Rattle.nam_protocol.specs.declared.txn.TxnPoint.TheVariants.{Committing}
 use Rattle.nam_protocol.specs.declared.txn.TxnState.{TxnState}
 use Rattle.nam_verbs.specs.declared.now.Now.{Now}
 use Rattle.nam_verbs.specs.declared.now.Now.TheVariants.{At, Over}
-use Rattle.std.specs.Prelude.{Option, Some}
 
 -- of a client: nothing where it runs no commit
 abbrev pub InCall : (TxnState → CommitPoint → Type 0) → Option (Now CallPoint Answer) → Option Open → Type 0

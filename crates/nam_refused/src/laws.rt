@@ -36,11 +36,11 @@ pub fn locked_law()
 /// lists, under the same stamp.
 ///
 /// So it is of a locked header that stood in the way of a lock, while the commit gives its locks back, and of the
-/// refusal that it carries while its intent is cleared. The opening has it, each step keeps it, and each store that
-/// comes about has it: by the claims of locks and keys, which hold of every store.
+/// refusal that it carries while its intent is cleared. The opening has it (`opening`), and each step keeps it
+/// (`step`), of a store whose locks and keys are as they are claimed to be; and of such a store it holds of the answer
+/// (`listed`).
 pub fn lockers_law()
     ensures opening { lockers.OpensLaw }
     ensures step { lockers.KeepsLaw }
-    ensures reached { lockers.ReachedLaw }
     ensures listed { lockers.ListedLaw }
 {}

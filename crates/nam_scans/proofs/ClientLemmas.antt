@@ -1,19 +1,21 @@
 -- What a client's scan has gathered after each word that the client takes and each call that it is asked.
 use Rattle.std.proofs.Common.{List, None, Option, Some, arith, refl, subst, sym, ℕ, ◌∙◌, ◌≡◌}
-use Rattle.nam_verbs.specs.VerbAt.{VerbAt, found_at, left_at, target}
-use Rattle.nam_verbs.specs.declared.now.Now.TheVariants.{At, Over}
-use Rattle.nam_catalog.specs.declared.shape.Shape.{Shape}
-use Rattle.nam_layout.specs.Place.{bucket_of, cells_by, cells_of, place_of}
-use Rattle.nam_layout.specs.declared.field.Field.{Field}
-use Rattle.nam_vector.specs.Snap.{snap_after}
 use Rattle.nam_calls.specs.Horizon.{collect_after}
 use Rattle.nam_calls.specs.Index.{find_after}
 use Rattle.nam_calls.specs.Mover.{move_after}
 use Rattle.nam_calls.specs.Reading.{read_after}
 use Rattle.nam_calls.specs.Words.{path_of}
 use Rattle.nam_calls.specs.declared.reading.ReadingEnd.TheVariants.{Got}
-use Rattle.nam_protocol.specs.Client.{ask_scan, ask_txn, call_after, call_verb, client_after, client_ask}
-use Rattle.nam_protocol.specs.Client.{take_scan, take_txn, with_call}
+use Rattle.nam_catalog.specs.declared.shape.Shape.{Shape}
+use Rattle.nam_ghost.proofs.IdleLemmas.{place_is}
+use Rattle.nam_ghost.specs.Keys.{ViewOk, key_view}
+use Rattle.nam_ghost.specs.Versions.{Chain}
+use Rattle.nam_ghost.specs.Wanted.{IsNewest}
+use Rattle.nam_layout.specs.Place.{bucket_of, cells_by, cells_of, place_of}
+use Rattle.nam_layout.specs.declared.field.Field.{Field}
+use Rattle.nam_protocol.proofs.GoesClient.{begin_goes, collect_goes, move_goes, seek_goes, snap_goes, stepped_goes}
+use Rattle.nam_protocol.specs.Client.{ask_scan, ask_txn, call_after, call_verb, client_after, client_ask, take_scan}
+use Rattle.nam_protocol.specs.Client.{take_txn, with_call}
 use Rattle.nam_protocol.specs.Reader.{Reader, reader_at, reader_of}
 use Rattle.nam_protocol.specs.Scan.{scan_verb}
 use Rattle.nam_protocol.specs.Telling.{go, stepped}
@@ -29,15 +31,13 @@ use Rattle.nam_protocol.specs.declared.scan.ScanPoint.{ScanPoint}
 use Rattle.nam_protocol.specs.declared.scan.ScanPoint.TheVariants.{ScanKey, ScanRead}
 use Rattle.nam_protocol.specs.declared.txn.TxnCall.{TxnCall}
 use Rattle.nam_protocol.specs.declared.txn.TxnPoint.{TxnPoint}
-use Rattle.nam_protocol.proofs.GoesClient.{begin_goes, collect_goes, move_goes, seek_goes, snap_goes, stepped_goes}
+use Rattle.nam_scans.proofs.WordLemmas.{key_goes, read_goes}
+use Rattle.nam_scans.specs.Gathered.{ScanClientOk}
 use Rattle.nam_store.specs.Changed.{Changed}
 use Rattle.nam_store.specs.Store.{next_verb}
-use Rattle.nam_ghost.specs.Keys.{ViewOk, key_view}
-use Rattle.nam_ghost.specs.Versions.{Chain}
-use Rattle.nam_ghost.specs.Wanted.{IsNewest}
-use Rattle.nam_keys.proofs.ClientLemmas.{at_place}
-use Rattle.nam_scans.specs.Gathered.{ScanClientOk}
-use Rattle.nam_scans.proofs.WordLemmas.{key_goes, read_goes}
+use Rattle.nam_vector.specs.Snap.{snap_after}
+use Rattle.nam_verbs.specs.VerbAt.{VerbAt, found_at, left_at, target}
+use Rattle.nam_verbs.specs.declared.now.Now.TheVariants.{At, Over}
 use Rattle.nam_protocol.specs.declared.client.Call.TheVariants as call
 
 module _ (shape : Shape) (now : Field → ℕ) (chains : ℕ → Chain) where
@@ -116,7 +116,7 @@ module _ (shape : Shape) (now : Field → ℕ) (chains : ℕ → Chain) where
         → ReadsNewest (reader_of shape client) → Keeps (client_after shape client found)
     client_keeps client place e =
         subst (λ c. ViewOk shape now (key_view c.call) → Keeps c → Did (next_verb shape c)
-        → ReadsNewest (reader_of shape c) → Keeps (client_after shape c found)) (at_place client place e)
+        → ReadsNewest (reader_of shape c) → Keeps (client_after shape c found)) (place_is client place e)
         (word_keeps client place)
 
   -- 2. A call is asked

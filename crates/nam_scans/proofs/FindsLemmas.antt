@@ -1,30 +1,29 @@
 -- At each key of a table a transaction finds one value, and one alone.
 use Rattle.std.proofs.Common.{Bool, List, None, Option, Some, arith, false, inl, inr, length, refl, slice_get, subst}
-use Rattle.std.proofs.Common.{suc, sym}
-use Rattle.std.proofs.Common.{true, zero, ℕ, ◌<◌, ◌∙◌, ◌≡◌, ◌≤◌, ◌⊎◌}
+use Rattle.std.proofs.Common.{suc, sym, true, zero, ℕ, ◌<◌, ◌∙◌, ◌≡◌, ◌≤◌, ◌⊎◌}
 use Rattle.std.proofs.lemmas.Bool.{cases_Bool, cases_eq, cases_lt, true≢false}
 use Rattle.std.proofs.lemmas.List.{length_push}
 use Rattle.std.proofs.lemmas.Option.{same_Some, slice_get_within}
-use Rattle.nam_catalog.specs.declared.shape.Shape.{Shape}
-use Rattle.nam_header.specs.Visible.{IsLoaders, is_visible}
-use Rattle.nam_layout.specs.Rows.{row_of}
-use Rattle.nam_layout.specs.declared.field.Field.{Field}
-use Rattle.nam_layout.specs.declared.field.Field.TheVariants.{Key}
+use Rattle.nam_calls.proofs.FieldLemmas.{row_within}
 use Rattle.nam_calls.specs.Fits.{IsTableOf}
 use Rattle.nam_calls.specs.Memory.{memory}
 use Rattle.nam_calls.specs.Words.{capacity_of, key_word}
-use Rattle.nam_calls.proofs.FieldLemmas.{row_within}
-use Rattle.nam_protocol.specs.Operations.{own_value}
-use Rattle.nam_protocol.specs.declared.txn.TxnState.{TxnState}
-use Rattle.nam_store.specs.Store.{Store}
-use Rattle.nam_store.proofs.Lists.{some_within}
+use Rattle.nam_catalog.specs.declared.shape.Shape.{Shape}
 use Rattle.nam_ghost.specs.Chains.{ChainsOk, IsLoaded}
 use Rattle.nam_ghost.specs.Keys.{Bears, KeysOk}
 use Rattle.nam_ghost.specs.Versions.{Chain, IsNth, Version, versions}
 use Rattle.nam_ghost.specs.Wanted.{IsNewest, Wanted}
+use Rattle.nam_header.specs.Visible.{IsLoaders, is_visible}
+use Rattle.nam_layout.specs.Rows.{row_of}
+use Rattle.nam_layout.specs.declared.field.Field.{Field}
+use Rattle.nam_layout.specs.declared.field.Field.TheVariants.{Key}
+use Rattle.nam_protocol.specs.Operations.{own_value}
+use Rattle.nam_protocol.specs.declared.txn.TxnState.{TxnState}
+use Rattle.nam_scans.proofs.ListedLemmas.{at_once}
 use Rattle.nam_scans.specs.Gathered.{FindsBy}
 use Rattle.nam_scans.specs.ScannedLaw.{FindsKey, FindsLaw}
-use Rattle.nam_scans.proofs.ListedLemmas.{at_once}
+use Rattle.nam_store.proofs.Lists.{some_within}
+use Rattle.nam_store.specs.Store.{Store}
 use Rattle.si_model.specs.Rows.{key_at, writes_key}
 use Rattle.si_model.specs.declared.log.Stamp.{Stamp}
 

@@ -1,11 +1,11 @@
 -- The items of a range: which they are, and that they rise.
-use Rattle.std.proofs.Common.{List, None, Option, Some, arith, inl, inr, refl, subst, suc, sym, zero, ℕ, ◌++◌, ◌+◌}
-use Rattle.std.proofs.Common.{◌<◌, ◌≡◌, ◌≤◌}
+use Rattle.std.proofs.Common.{List, None, Option, Some, arith, inl, inr, refl, subst, suc, sym, zero, ℕ, ◌++◌, ◌+◌, ◌<◌}
+use Rattle.std.proofs.Common.{◌≡◌, ◌≤◌}
 use Rattle.std.proofs.lemmas.Bool.{cases_eq}
+use Rattle.si_model.proofs.ListLemmas.{All-from_listed, listed_append_cases, listed_append_left, listed_append_right}
 use Rattle.si_model.specs.Lists.{Listed, Pairwise}
 use Rattle.si_model.specs.Rows.{Rows, item_at, items_from, key_at, present}
 use Rattle.si_model.specs.declared.row.Item.{Item}
-use Rattle.si_model.proofs.ListLemmas.{All-from_listed, listed_append_cases, listed_append_left, listed_append_right}
 
 module _ (rows : Rows) (table : ℕ) where
   abbrev here : ℕ → Option (List ℕ)

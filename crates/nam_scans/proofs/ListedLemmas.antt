@@ -1,30 +1,30 @@
 -- The rows that were gathered up to a table's end, sorted by key, are the items of the range.
-use Rattle.std.proofs.Common.{List, Option, Some, [], ap, arith, inl, inr, refl, subst, sym, ℕ}
-use Rattle.std.proofs.Common.{◌+◌, ◌-◌, ◌<◌, ◌∙◌, ◌≡◌, ◌≢◌}
+use Rattle.std.proofs.Common.{List, Option, Some, [], ap, arith, inl, inr, refl, subst, sym, ℕ, ◌+◌, ◌-◌, ◌<◌, ◌∙◌, ◌≡◌}
+use Rattle.std.proofs.Common.{◌≢◌}
 use Rattle.std.proofs.lemmas.Option.{none-some}
-use Rattle.nam_catalog.specs.declared.shape.Shape.{Shape}
-use Rattle.nam_layout.specs.Rows.{row_of}
-use Rattle.nam_layout.specs.declared.field.Field.{Field}
 use Rattle.nam_calls.specs.Fits.{IsTableOf}
 use Rattle.nam_calls.specs.Memory.{memory}
 use Rattle.nam_calls.specs.Words.{capacity_of}
+use Rattle.nam_catalog.specs.declared.shape.Shape.{Shape}
+use Rattle.nam_ghost.specs.Versions.{Chain}
+use Rattle.nam_layout.specs.Rows.{row_of}
+use Rattle.nam_layout.specs.declared.field.Field.{Field}
 use Rattle.nam_protocol.specs.Carries.{IsBetween}
 use Rattle.nam_protocol.specs.ScanCall.{item_of, scanned_items, sorted_onto}
 use Rattle.nam_protocol.specs.declared.client.Scanned.{Scanned}
 use Rattle.nam_protocol.specs.declared.txn.TxnState.{TxnState}
-use Rattle.nam_store.specs.LoadedLaw.{KeysStand}
-use Rattle.nam_store.specs.Store.{Store}
-use Rattle.nam_store.proofs.RowsStand.{key_once}
-use Rattle.nam_ghost.specs.Versions.{Chain}
-use Rattle.nam_scans.specs.Gathered.{Finds, HasGathered, IsOfRange}
-use Rattle.nam_scans.specs.ScannedLaw.{FindsAt, FindsKey, ListsRange}
 use Rattle.nam_scans.proofs.ItemsLemmas.{range_from, range_has, range_rises}
 use Rattle.nam_scans.proofs.RangeLemmas.{finds_once}
 use Rattle.nam_scans.proofs.SortLemmas.{rising_same, sort_from, sort_has, sort_rises}
+use Rattle.nam_scans.specs.Gathered.{Finds, HasGathered, IsOfRange}
+use Rattle.nam_scans.specs.ScannedLaw.{FindsAt, FindsKey, ListsRange}
+use Rattle.nam_store.proofs.RowsStand.{key_once}
+use Rattle.nam_store.specs.LoadedLaw.{KeysStand}
+use Rattle.nam_store.specs.Store.{Store}
+use Rattle.si_model.proofs.ListLemmas.{Pairwise-map, Pairwise-weaker, listed_map, map_listed}
 use Rattle.si_model.specs.Lists.{Listed, Pairwise}
 use Rattle.si_model.specs.Rows.{Rows, item_at, items_between, key_at}
 use Rattle.si_model.specs.declared.row.Item.{Item}
-use Rattle.si_model.proofs.ListLemmas.{Pairwise-map, Pairwise-weaker, listed_map, map_listed}
 
 module _ (shape : Shape) (store : Store) (chains : ℕ → Chain) (state : TxnState) (table : ℕ)
     (is : IsTableOf shape table) (stand : KeysStand shape store.words) where

@@ -1,31 +1,17 @@
 -- The newest version that a snapshot sees: it is one alone, and stays it as a chain goes on.
-use Rattle.std.proofs.Common.{List, Option, Some, [], ap, false, inl, inr, slice_get, subst}
-use Rattle.std.proofs.Common.{suc, sym, zero, ℕ, ◌++◌, ◌<◌, ◌∙◌, ◌∷◌, ◌≡◌, ◌⊎◌}
+use Rattle.std.proofs.Common.{List, Option, Some, [], ap, false, inl, inr, slice_get, subst, suc, sym, zero, ℕ, ◌++◌}
+use Rattle.std.proofs.Common.{◌<◌, ◌∙◌, ◌∷◌, ◌≡◌}
 use Rattle.std.proofs.lemmas.Bool.{cases_order, true≢false}
 use Rattle.std.proofs.lemmas.Option.{none-some, same_Some}
-use Rattle.nam_header.specs.Visible.{is_visible}
-use Rattle.nam_layout.specs.declared.field.Place.{Place}
+use Rattle.nam_ghost.proofs.ListLemmas.{got_front, got_push}
 use Rattle.nam_ghost.specs.Keys.{IsUnused}
 use Rattle.nam_ghost.specs.Slots.{Copies, Flags, Idles, Marks, Renews, Ring, RowNext}
 use Rattle.nam_ghost.specs.Versions.{Chain, Version, versions}
 use Rattle.nam_ghost.specs.Wanted.{IsNewest, Wanted}
+use Rattle.nam_header.specs.Visible.{is_visible}
+use Rattle.nam_layout.specs.declared.field.Place.{Place}
 
--- 1. A list with one element more
-
-get_front : {X : Type 0} (xs : List X) (y z : X) (n : ℕ) → slice_get xs n ≡ Some z
-    → slice_get (xs ++ y ∷ []) n ≡ Some z
-get_front [] y z n e = absurd (none-some z e)
-get_front (x ∷ xs) y z zero e = e
-get_front (x ∷ xs) y z (suc n) e = get_front xs y z n e
-
-get_push : {X : Type 0} (xs : List X) (y z : X) (n : ℕ) → slice_get (xs ++ y ∷ []) n ≡ Some z
-    → (slice_get xs n ≡ Some z) ⊎ (y ≡ z)
-get_push [] y z zero e = inr (same_Some y z e)
-get_push [] y z (suc n) e = absurd (none-some z e)
-get_push (x ∷ xs) y z zero e = inl e
-get_push (x ∷ xs) y z (suc n) e = get_push xs y z n e
-
--- 2. One alone
+-- 1. One alone
 
 wanted_once : (seen : List ℕ) (chain : Chain) (a b : ℕ) (u v : Version) → Wanted seen chain a u
     → Wanted seen chain b v → a < b → ⊥
@@ -59,7 +45,7 @@ unused_absent seen chain unused value newest =
         ∙ sym newest.value_is)
     by_number (suc n) is = none-some newest.version is
 
--- 3. It stays: the chain stands, or has one version more, which the snapshot doesn't see
+-- 2. It stays: the chain stands, or has one version more, which the snapshot doesn't see
 
 module _ (seen : List ℕ) (chain later : Chain) where
   module _ (same : versions later ≡ versions chain) where
@@ -84,19 +70,19 @@ module _ (seen : List ℕ) (chain later : Chain) where
       version = newest.version;
       wanted = record {
         is = subst (λ vs. slice_get vs newest.number ≡ Some newest.version) (sym grown)
-            (get_front (versions chain) version newest.version newest.number newest.wanted.is);
+            (got_front (versions chain) (version ∷ []) newest.number newest.version newest.wanted.is);
         sees = newest.wanted.sees;
         newer = λ n v less is.
-            elim (get_push (versions chain) version v n (subst (λ vs. slice_get vs n ≡ Some v) grown is)) [
+            elim (got_push (versions chain) version v n (subst (λ vs. slice_get vs n ≡ Some v) grown is)) [
               | inl old ↦ newest.wanted.newer n v less old
-              | inr last ↦ subst (λ (u : Version). is_visible u.stamp seen ≡ false) last hidden
+              | inr last ↦ subst (λ (u : Version). is_visible u.stamp seen ≡ false) last.1 hidden
             ];
       };
       value_is = newest.value_is;
     }
 
     pub grew_from : (value : Option (List ℕ)) → IsNewest seen later value → IsNewest seen chain value
-    grew_from value newest = elim (get_push (versions chain) version newest.version newest.number
+    grew_from value newest = elim (got_push (versions chain) version newest.version newest.number
         (subst (λ vs. slice_get vs newest.number ≡ Some newest.version) grown newest.wanted.is)) [
           | inl old ↦ record {
             number = newest.number;
@@ -106,13 +92,14 @@ module _ (seen : List ℕ) (chain later : Chain) where
               sees = newest.wanted.sees;
               newer = λ n v less is.
                   newest.wanted.newer n v less
-                  (subst (λ vs. slice_get vs n ≡ Some v) (sym grown) (get_front (versions chain) version v n is));
+                  (subst (λ vs. slice_get vs n ≡ Some v) (sym grown)
+                  (got_front (versions chain) (version ∷ []) n v is));
             };
             value_is = newest.value_is;
           }
           | inr last ↦
               absurd (true≢false (sym newest.wanted.sees
-              ∙ subst (λ (u : Version). is_visible u.stamp seen ≡ false) last hidden))
+              ∙ subst (λ (u : Version). is_visible u.stamp seen ≡ false) last.1 hidden))
         ]
 
 -- a row that goes on as it may has the newest version that it had, and no other

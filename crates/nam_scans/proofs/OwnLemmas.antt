@@ -1,28 +1,26 @@
 -- A key that a transaction writes has been claimed, so no other position comes to bear it.
-use Rattle.std.proofs.Common.{List, ap, arith, inl, inr, refl, subst, sym, true, ℕ, ◌<◌, ◌∙◌, ◌≡◌}
-use Rattle.std.proofs.Common.{[], ◌∷◌, ◌≢◌}
+use Rattle.std.proofs.Common.{List, [], ap, arith, inl, inr, refl, subst, sym, true, ℕ, ◌<◌, ◌∙◌, ◌∷◌, ◌≡◌, ◌≢◌}
 use Rattle.std.proofs.lemmas.Bool.{cases_Bool, false≢true}
+use Rattle.nam_calls.specs.Fits.{IsTableOf}
+use Rattle.nam_calls.specs.Memory.{memory}
+use Rattle.nam_calls.specs.Words.{capacity_of, key_word}
 use Rattle.nam_catalog.specs.declared.shape.Shape.{Shape}
+use Rattle.nam_ghost.proofs.KeyLemmas.{bears_stays}
+use Rattle.nam_ghost.specs.Keys.{AreAtKeys, Bears, KeysNext}
 use Rattle.nam_layout.specs.Rows.{row_of}
 use Rattle.nam_layout.specs.declared.field.Field.{Field}
 use Rattle.nam_layout.specs.declared.field.Field.TheVariants.{Key}
 use Rattle.nam_layout.specs.declared.field.Place.{Place}
-use Rattle.nam_calls.specs.Fits.{IsTableOf}
-use Rattle.nam_calls.specs.Memory.{memory}
-use Rattle.nam_calls.specs.Words.{capacity_of, key_word}
 use Rattle.nam_protocol.specs.TxnFits.{IsPlaced, StateFits, is_claimed}
 use Rattle.nam_protocol.specs.declared.txn.Record.{Record}
 use Rattle.nam_protocol.specs.declared.txn.TxnState.{TxnState}
-use Rattle.nam_store.specs.LoadedLaw.{KeysStand}
 use Rattle.nam_store.proofs.RowsStand.{key_once}
-use Rattle.nam_ghost.specs.Keys.{Bears, KeysNext}
-use Rattle.nam_keys.specs.Tells.{AreAtKeys}
-use Rattle.nam_keys.proofs.WordLemmas.{bears_stays}
+use Rattle.nam_store.specs.LoadedLaw.{KeysStand}
+use Rattle.si_model.proofs.EvaluationLemmas.{same_key_says}
+use Rattle.si_model.proofs.ListLemmas.{All-listed}
 use Rattle.si_model.specs.Lists.{Listed}
 use Rattle.si_model.specs.Rows.{item_key, key_at, same_key, writes_key}
 use Rattle.si_model.specs.declared.row.Item.{Item}
-use Rattle.si_model.proofs.EvaluationLemmas.{same_key_says}
-use Rattle.si_model.proofs.ListLemmas.{All-listed}
 use Rattle.si_model.specs.declared.row.Key as row_key
 
 -- a written key is one of the write set's items

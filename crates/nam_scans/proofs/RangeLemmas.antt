@@ -1,24 +1,22 @@
 -- The rows of a scan's range: at most one at a position, and what has been gathered once a position is left.
 use Rattle.std.proofs.Common.{Bool, List, None, Option, Some, [], arith, false, inl, inr, refl, subst, sym, true, ℕ}
 use Rattle.std.proofs.Common.{◌++◌, ◌+◌, ◌<◌, ◌∙◌, ◌∷◌, ◌≡◌}
-use Rattle.std.specs.List.{AllByRecursion}
 use Rattle.std.proofs.lemmas.Bool.{cases_lt}
 use Rattle.std.proofs.lemmas.Option.{none-some, same_Some}
 use Rattle.nam_catalog.specs.declared.shape.Shape.{Shape}
+use Rattle.nam_ghost.proofs.ListLemmas.{got_listed, pairs_push}
+use Rattle.nam_ghost.specs.Keys.{Bears}
+use Rattle.nam_ghost.specs.Versions.{Chain}
 use Rattle.nam_layout.specs.Rows.{row_of}
 use Rattle.nam_layout.specs.declared.field.Field.{Field}
 use Rattle.nam_protocol.specs.Carries.{IsBetween}
 use Rattle.nam_protocol.specs.declared.client.Scanned.{Scanned}
 use Rattle.nam_protocol.specs.declared.txn.TxnState.{TxnState}
-use Rattle.nam_ghost.specs.Keys.{Bears}
-use Rattle.nam_ghost.specs.Versions.{Chain}
-use Rattle.nam_scans.specs.Gathered.{Finds, FindsBy, HasGathered, IsOfRange}
 use Rattle.nam_scans.proofs.NewestLemmas.{newest_once}
-use Rattle.si_model.specs.Lists.{Pairwise}
+use Rattle.nam_scans.specs.Gathered.{Finds, FindsBy, HasGathered, IsOfRange}
+use Rattle.si_model.proofs.ListLemmas.{listed_append_cases, listed_append_left, listed_append_right}
 use Rattle.si_model.specs.Rows.{key_at, writes_key}
 use Rattle.si_model.specs.declared.row.Key.{Key}
-use Rattle.si_model.proofs.ListLemmas.{All-append, All-from_listed, listed_append_cases, listed_append_left}
-use Rattle.si_model.proofs.ListLemmas.{listed_append_right}
 
 -- what a transaction finds at a key is one value
 by_once : (test : Bool) (state : TxnState) (chain : Chain) (key : Key) (one other : Option (List ℕ))
@@ -29,13 +27,6 @@ by_once false state chain key one other a b = newest_once state.seen chain one o
 pub finds_once : (state : TxnState) (chain : Chain) (key : Key) (one other : Option (List ℕ))
     → Finds state chain key one → Finds state chain key other → one ≡ other
 finds_once state chain key = by_once (writes_key state.writes key) state chain key
-
--- rows that rise stay so with one more behind them
-push_pairs : {A : Type 0} (R : A → A → Type 0) (xs : List A) (y : A) → Pairwise R xs
-    → AllByRecursion (λ x. R x y) xs → Pairwise R (xs ++ y ∷ [])
-push_pairs R [] y pairs all = (tt, tt)
-push_pairs R (x ∷ xs) y pairs all =
-    (All-append (R x) xs (y ∷ []) pairs.0 (all.0, tt), push_pairs R xs y pairs.1 all.1)
 
 module _ (shape : Shape) (m : Field → ℕ) (chains : ℕ → Chain) (state : TxnState) (table low high : ℕ) where
   abbrev Row : Scanned → Type 0
@@ -101,9 +92,8 @@ module _ (shape : Shape) (m : Field → ℕ) (chains : ℕ → Chain) (state : T
         | inr most ↦
             listed_append_right rows (row ∷ []) other (inl (range_once row other (omega arith) is there))
       ];
-      order = push_pairs (λ (a b : Scanned). a.position < b.position) rows row before.order
-          (All-from_listed (λ (a : Scanned). a.position < row.position) rows
-          (λ other listed. let less = (before.only other listed).0 in omega arith));
+      order = pairs_push (λ (a b : Scanned). a.position < b.position) rows row before.order
+          (λ n other got. let less = (before.only other (got_listed rows n other got)).0 in omega arith);
     }
 
     -- the rows with what a position's key holds, where it is present

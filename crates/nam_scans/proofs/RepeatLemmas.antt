@@ -1,30 +1,29 @@
 -- While a transaction is open no step changes what it finds at a key.
-use Rattle.std.proofs.Common.{Bool, List, None, Option, Some, false, inl, inr, refl, subst, sym, true, ℕ}
-use Rattle.std.proofs.Common.{◌<◌, ◌∙◌, ◌≡◌}
+use Rattle.std.proofs.Common.{Bool, List, None, Option, Some, false, inl, inr, refl, subst, sym, true, ℕ, ◌<◌, ◌∙◌, ◌≡◌}
 use Rattle.std.proofs.lemmas.Bool.{cases_eq}
-use Rattle.nam_catalog.specs.declared.shape.Shape.{Shape}
-use Rattle.nam_layout.specs.Rows.{row_of}
-use Rattle.nam_layout.specs.declared.field.Field.{Field}
-use Rattle.nam_layout.specs.declared.field.Field.TheVariants.{Key}
+use Rattle.nam_calls.proofs.FieldLemmas.{row_within}
 use Rattle.nam_calls.specs.Fits.{IsTableOf}
 use Rattle.nam_calls.specs.Memory.{memory}
 use Rattle.nam_calls.specs.Words.{capacity_of}
-use Rattle.nam_calls.proofs.FieldLemmas.{row_within}
-use Rattle.nam_protocol.specs.ClientFits.{OpenFits}
-use Rattle.nam_protocol.specs.Own.{OwnOpen}
-use Rattle.nam_protocol.specs.declared.txn.TxnState.{TxnState}
-use Rattle.nam_store.specs.Store.{Store}
+use Rattle.nam_catalog.specs.declared.shape.Shape.{Shape}
+use Rattle.nam_ghost.proofs.KeyLemmas.{bears_stays}
 use Rattle.nam_ghost.specs.Chains.{ChainsOk}
 use Rattle.nam_ghost.specs.Keys.{Bears, ClaimsOk, IsUnused}
 use Rattle.nam_ghost.specs.Versions.{Chain}
 use Rattle.nam_ghost.specs.Wanted.{IsNewest}
-use Rattle.nam_keys.proofs.WordLemmas.{bears_stays}
-use Rattle.nam_scans.specs.Gathered.{FindsBy}
-use Rattle.nam_scans.specs.ScannedLaw.{FindsAt, FindsKey, IsNowhere, StaysLaw}
+use Rattle.nam_layout.specs.Rows.{row_of}
+use Rattle.nam_layout.specs.declared.field.Field.{Field}
+use Rattle.nam_layout.specs.declared.field.Field.TheVariants.{Key}
+use Rattle.nam_protocol.specs.ClientFits.{OpenFits}
+use Rattle.nam_protocol.specs.Own.{OwnOpen}
+use Rattle.nam_protocol.specs.declared.txn.TxnState.{TxnState}
 use Rattle.nam_scans.proofs.FindsLemmas.{look, newest_there}
 use Rattle.nam_scans.proofs.NewestLemmas.{unused_absent}
 use Rattle.nam_scans.proofs.StayLemmas.{TableNext, finds_on}
 use Rattle.nam_scans.proofs.StoreLemmas.{table_next}
+use Rattle.nam_scans.specs.Gathered.{FindsBy}
+use Rattle.nam_scans.specs.ScannedLaw.{FindsAt, FindsKey, IsNowhere, StaysLaw}
+use Rattle.nam_store.specs.Store.{Store}
 use Rattle.si_model.specs.Rows.{key_at, writes_key}
 
 -- the newest value of a position that was never used is none

@@ -1,13 +1,13 @@
 -- A scan that its next word ends lists exactly the rows of its range.
-use Rattle.std.proofs.Common.{List, Option, Some, ap, length, refl, subst, sym, ℕ}
-use Rattle.std.proofs.Common.{◌∙◌, ◌≡◌}
-use Rattle.nam_verbs.specs.declared.now.Now.{Now}
-use Rattle.nam_verbs.specs.declared.now.Now.TheVariants.{At, Over}
-use Rattle.nam_catalog.specs.declared.shape.Shape.{Shape}
-use Rattle.nam_layout.specs.declared.field.Field.{Field}
+use Rattle.std.proofs.Common.{List, Option, Some, ap, length, refl, subst, sym, ℕ, ◌∙◌, ◌≡◌}
 use Rattle.nam_calls.specs.Fits.{IsTableOf}
 use Rattle.nam_calls.specs.Memory.{memory}
 use Rattle.nam_calls.specs.Words.{capacity_of}
+use Rattle.nam_catalog.specs.declared.shape.Shape.{Shape}
+use Rattle.nam_ghost.specs.Ghost.{Ghost}
+use Rattle.nam_ghost.specs.Keys.{ViewOk, key_view}
+use Rattle.nam_ghost.specs.Versions.{Chain}
+use Rattle.nam_layout.specs.declared.field.Field.{Field}
 use Rattle.nam_protocol.specs.Carries.{IsBetween}
 use Rattle.nam_protocol.specs.ClientFits.{NowFits}
 use Rattle.nam_protocol.specs.Log.{with_reads}
@@ -21,16 +21,15 @@ use Rattle.nam_protocol.specs.declared.client.Open.{Open}
 use Rattle.nam_protocol.specs.declared.client.Scanned.{Scanned}
 use Rattle.nam_protocol.specs.declared.scan.ScanPoint.{ScanPoint}
 use Rattle.nam_protocol.specs.declared.scan.ScanPoint.TheVariants.{ScanKey, ScanRead}
-use Rattle.nam_store.specs.Store.{Store, client_at, found_word}
-use Rattle.nam_ghost.specs.Ghost.{Ghost}
-use Rattle.nam_ghost.specs.Keys.{ViewOk, key_view}
-use Rattle.nam_ghost.specs.Versions.{Chain}
-use Rattle.nam_scans.specs.Gathered.{HasGathered, ScanClientOk, ScanOk, ScansOk}
-use Rattle.nam_scans.specs.ScannedLaw.{CompleteLaw, EndsScan, FindsKey, ItemsLaw, ListsRange, client_then}
-use Rattle.nam_scans.specs.ScansLaw.{Stands}
 use Rattle.nam_scans.proofs.ClientLemmas.{ReadsNewest}
 use Rattle.nam_scans.proofs.ListedLemmas.{range_items, range_listed}
 use Rattle.nam_scans.proofs.WordLemmas.{key_goes, read_goes}
+use Rattle.nam_scans.specs.Gathered.{HasGathered, ScanClientOk, ScanOk, ScansOk}
+use Rattle.nam_scans.specs.ScannedLaw.{CompleteLaw, EndsScan, FindsKey, ItemsLaw, ListsRange, client_then}
+use Rattle.nam_scans.specs.ScansLaw.{Stands}
+use Rattle.nam_store.specs.Store.{Store, client_at, found_word}
+use Rattle.nam_verbs.specs.declared.now.Now.{Now}
+use Rattle.nam_verbs.specs.declared.now.Now.TheVariants.{At, Over}
 use Rattle.si_model.specs.Rows.{Rows, items_between, key_at}
 use Rattle.si_model.specs.declared.log.Log.{Log}
 use Rattle.si_model.specs.declared.row.Item.{Item}

@@ -1,14 +1,13 @@
 -- Rows sorted by key are the same rows, and rise where no two have one key; and lists that rise are one where they have
 -- the same elements.
-use Rattle.std.proofs.Common.{List, [], arith, inl, inr, sym, ℕ, ◌<◌, ◌∙◌, ◌∷◌, ◌≡◌, ◌≢◌, ◌⊎◌}
-use Rattle.std.proofs.Common.{ap, refl, subst}
-use Rattle.std.specs.Prelude.{nat_lt}
+use Rattle.std.proofs.Common.{List, [], ap, arith, inl, inr, refl, subst, sym, ℕ, ◌<◌, ◌∙◌, ◌∷◌, ◌≡◌, ◌≢◌, ◌⊎◌}
 use Rattle.std.proofs.lemmas.Bool.{ltb-false, ltb-true}
-use Rattle.nam_verbs.proofs.TestLemmas.{by_test}
+use Rattle.std.specs.Prelude.{nat_lt}
 use Rattle.nam_protocol.specs.ScanCall.{inserted, sorted_onto}
 use Rattle.nam_protocol.specs.declared.client.Scanned.{Scanned}
-use Rattle.si_model.specs.Lists.{Listed, Pairwise}
+use Rattle.nam_verbs.proofs.TestLemmas.{by_test}
 use Rattle.si_model.proofs.ListLemmas.{All-from_listed, All-listed}
+use Rattle.si_model.specs.Lists.{Listed, Pairwise}
 
 -- 1. One row is inserted
 

@@ -1,11 +1,14 @@
 -- What a running scan has gathered stays, whatever a step does to key words and chains as it may.
-use Rattle.std.proofs.Common.{Bool, List, Option, Some, arith, false, inl, inr, refl, sym, true, ℕ}
-use Rattle.std.proofs.Common.{◌<◌, ◌∙◌, ◌≡◌, ◌≢◌, ◌≤◌}
+use Rattle.std.proofs.Common.{Bool, List, Option, Some, arith, false, inl, inr, refl, sym, true, ℕ, ◌<◌, ◌∙◌, ◌≡◌, ◌≢◌}
+use Rattle.std.proofs.Common.{◌≤◌}
 use Rattle.std.proofs.lemmas.Bool.{cases_eq}
-use Rattle.nam_catalog.specs.declared.shape.Shape.{Shape}
+use Rattle.nam_calls.proofs.FieldLemmas.{row_within}
 use Rattle.nam_calls.specs.Fits.{IsTableOf}
 use Rattle.nam_calls.specs.Words.{capacity_of}
-use Rattle.nam_calls.proofs.FieldLemmas.{row_within}
+use Rattle.nam_catalog.specs.declared.shape.Shape.{Shape}
+use Rattle.nam_ghost.proofs.KeyLemmas.{bears_stays, position_within}
+use Rattle.nam_ghost.specs.Keys.{AreUnused, Bears, KeysNext}
+use Rattle.nam_ghost.specs.Versions.{Chain}
 use Rattle.nam_layout.specs.Address.{IsRow}
 use Rattle.nam_layout.specs.Rows.{row_of}
 use Rattle.nam_layout.specs.declared.field.Field.{Field}
@@ -15,12 +18,8 @@ use Rattle.nam_protocol.specs.TxnFits.{ScanFits}
 use Rattle.nam_protocol.specs.declared.client.Scanned.{Scanned}
 use Rattle.nam_protocol.specs.declared.scan.ScanPoint.{ScanPoint}
 use Rattle.nam_protocol.specs.declared.txn.TxnState.{TxnState}
-use Rattle.nam_ghost.specs.Keys.{AreUnused, Bears, KeysNext}
-use Rattle.nam_ghost.specs.Versions.{Chain}
-use Rattle.nam_keys.proofs.StayLemmas.{position_within}
-use Rattle.nam_keys.proofs.WordLemmas.{bears_stays}
-use Rattle.nam_scans.specs.Gathered.{FindsBy, HasGathered, IsOfRange, ScanOk}
 use Rattle.nam_scans.proofs.NewestLemmas.{SameNewest, unused_absent}
+use Rattle.nam_scans.specs.Gathered.{FindsBy, HasGathered, IsOfRange, ScanOk}
 use Rattle.si_model.specs.Rows.{key_at, writes_key}
 use Rattle.si_model.specs.declared.row.Key as row_key
 

@@ -1,22 +1,29 @@
 -- At the opening no scan runs, and each step of a store keeps what is said of scans.
 use Rattle.std.proofs.Common.{List, None, Option, Some, ap, false, map, refl, subst, sym, ℕ, ◌∙◌, ◌≡◌}
-use Rattle.std.specs.Prelude.{option_map}
 use Rattle.std.proofs.lemmas.Option.{none-some, slice_get-map}
-use Rattle.nam_verbs.specs.declared.now.Now.{Now}
-use Rattle.nam_verbs.specs.declared.now.Now.TheVariants.{At, Over}
+use Rattle.std.specs.Prelude.{option_map}
+use Rattle.nam_calls.specs.Fits.{IsTableOf}
+use Rattle.nam_calls.specs.Memory.{memory}
 use Rattle.nam_catalog.specs.declared.shape.Shape.{Shape}
+use Rattle.nam_ghost.proofs.KeyLemmas.{view_fits, view_stays}
+use Rattle.nam_ghost.specs.Cells.{IsElsewhere}
+use Rattle.nam_ghost.specs.Chains.{IsNew}
+use Rattle.nam_ghost.specs.Ghost.{Ghost, ghost_step, opening_ghost}
+use Rattle.nam_ghost.specs.Keys.{AreAtKeys, ClaimsOk, key_view}
+use Rattle.nam_ghost.specs.Moments.{observer_of}
+use Rattle.nam_ghost.specs.Steps.{chains_after}
+use Rattle.nam_ghost.specs.Versions.{Chain}
+use Rattle.nam_ghost.specs.Wanted.{IsNewest}
 use Rattle.nam_layout.specs.Address.{IsRow}
 use Rattle.nam_layout.specs.Place.{place_at}
 use Rattle.nam_layout.specs.Rows.{width_at}
 use Rattle.nam_layout.specs.declared.field.Field.{Field}
-use Rattle.nam_calls.specs.Fits.{IsTableOf}
-use Rattle.nam_calls.specs.Memory.{memory}
 use Rattle.nam_protocol.specs.Client.{client_abandon, client_after, client_ask}
 use Rattle.nam_protocol.specs.ClientFits.{NowFits, OpenFits}
 use Rattle.nam_protocol.specs.CutClient.{client_cut}
 use Rattle.nam_protocol.specs.Own.{OwnOpen, OwnsOpen, Rests}
-use Rattle.nam_protocol.specs.TxnFits.{StateFits}
 use Rattle.nam_protocol.specs.Reader.{Reader, reader_at, reader_in, reader_of}
+use Rattle.nam_protocol.specs.TxnFits.{StateFits}
 use Rattle.nam_protocol.specs.declared.client.Answer.{Answer}
 use Rattle.nam_protocol.specs.declared.client.CallPoint.{CallPoint}
 use Rattle.nam_protocol.specs.declared.client.CallPoint.TheVariants.{InTxn, Scanning}
@@ -24,30 +31,21 @@ use Rattle.nam_protocol.specs.declared.client.ClientState.{ClientState}
 use Rattle.nam_protocol.specs.declared.client.Open.{Open}
 use Rattle.nam_protocol.specs.declared.client.Scanned.{Scanned}
 use Rattle.nam_protocol.specs.declared.txn.TxnPoint.TheVariants.{Committing}
-use Rattle.nam_store.specs.Base.{ClientOk}
-use Rattle.nam_store.specs.Opening.{opening_store}
-use Rattle.nam_store.specs.Store.{Abandons, Asks, Cuts, StepsTo, Store, Takes, client_at, found_word, step}
-use Rattle.nam_store.proofs.BaseLemmas.{does_law}
-use Rattle.nam_store.proofs.Lists.{everyone_put, everyone_set}
-use Rattle.nam_store.proofs.OpeningLemmas.{opening_client}
-use Rattle.nam_ghost.specs.Cells.{IsElsewhere}
-use Rattle.nam_ghost.specs.Chains.{IsNew}
-use Rattle.nam_ghost.specs.Ghost.{Ghost, ghost_step, opening_ghost}
-use Rattle.nam_ghost.specs.Keys.{ClaimsOk, KeysNext, KeysOk}
-use Rattle.nam_ghost.specs.Moments.{observer_of}
-use Rattle.nam_ghost.specs.Steps.{chains_after}
-use Rattle.nam_ghost.specs.Versions.{Chain}
-use Rattle.nam_ghost.specs.Wanted.{IsNewest}
-use Rattle.nam_keys.specs.Tells.{AreAtKeys}
-use Rattle.nam_keys.proofs.StoreLemmas.{keys_keep, next_law}
-use Rattle.nam_scans.specs.Gathered.{ScanClientOk, ScansOk}
-use Rattle.nam_scans.specs.ScansLaw.{KeepsLaw, OpensLaw, RestsOn}
 use Rattle.nam_scans.proofs.ClientLemmas.{ReadsNewest, ask_keeps, client_keeps}
 use Rattle.nam_scans.proofs.NewestLemmas.{SameNewest, newest_stays}
 use Rattle.nam_scans.proofs.OwnLemmas.{own_stands}
 use Rattle.nam_scans.proofs.StayLemmas.{TableNext, scan_stays}
+use Rattle.nam_scans.specs.Gathered.{ScanClientOk, ScansOk}
+use Rattle.nam_scans.specs.ScansLaw.{KeepsLaw, OpensLaw, RestsOn}
+use Rattle.nam_store.proofs.BaseLemmas.{does_law}
+use Rattle.nam_store.proofs.Lists.{everyone_put, everyone_set}
+use Rattle.nam_store.proofs.OpeningLemmas.{opening_client}
+use Rattle.nam_store.specs.Base.{ClientOk}
+use Rattle.nam_store.specs.Opening.{opening_store}
+use Rattle.nam_store.specs.Store.{Abandons, Asks, Cuts, StepsTo, Store, Takes, client_at, found_word, step}
+use Rattle.nam_verbs.specs.declared.now.Now.{Now}
+use Rattle.nam_verbs.specs.declared.now.Now.TheVariants.{At, Over}
 use Rattle.si_model.specs.Lists.{Listed}
-use Rattle.nam_keys.proofs.StayLemmas.{client_stays as key_stays}
 
 -- 1. The opening
 
@@ -68,12 +66,6 @@ module _ (shape : Shape) (before after : Store) (goes : StepsTo shape before aft
 
   abbrev later : Ghost
   later = ghost_step shape before after goes ghost
-
-  keys_next : KeysNext shape m now
-  keys_next = next_law shape before after goes rests.stands.base
-
-  keys_later : KeysOk shape after later.chains
-  keys_later = keys_keep shape before after goes ghost rests.stands.base rests.stands.keys
 
   module _ (nth : ℕ) (client : ClientState) (here : client_at before nth ≡ Some client) where
     own : ClientOk shape nth client
@@ -99,11 +91,11 @@ module _ (shape : Shape) (before after : Store) (goes : StepsTo shape before aft
         → OwnsOpen client.worker client.last client.log.snaps attempt → (table : ℕ) → IsTableOf shape table
         → TableNext shape m now ghost.chains later.chains attempt.state table
     table_next attempt fits claims owns table is = record {
-      next = keys_next;
+      next = rests.next;
       unused = rests.stands.keys.unused;
       newest = rows_same attempt.state.seen owns.listed;
       own = λ position key less writes.
-          own_stands shape m attempt.state fits claims table key writes after.words keys_later.paths keys_next is
+          own_stands shape m attempt.state fits claims table key writes after.words rests.keys.paths rests.next is
           position less;
     }
 
@@ -160,13 +152,15 @@ module _ (shape : Shape) (before : Store) (nth : ℕ) (client : ClientState) (pl
         let m : Field → ℕ = memory shape before.words in
         let now : Field → ℕ = memory shape after.words in
         let chains = (later shape before after taken ghost rests).chains in
-        let knows = key_stays shape m now (next_law shape before after taken base) base.limits client
-        (base.clients nth client here).fits (rests.stands.keys.clients nth client here) in
+        let own = base.clients nth client here in
+        let knows = view_stays shape m now rests.next (key_view client.call)
+        (view_fits shape base.limits client.txn client.call own.fits.2)
+        (rests.stands.keys.clients nth client here).at in
         everyone_set (λ k (c : ClientState). ScanClientOk shape m ghost.chains c.call c.txn c.scanned)
         (λ k (c : ClientState). ScanClientOk shape now chains c.call c.txn c.scanned) before.clients nth
         (client_after shape client found) ok
         (λ other c apart e o. client_stays shape before after taken ghost rests other c e o)
-        (client_keeps shape now chains m found client place at knows.at
+        (client_keeps shape now chains m found client place at knows
         (client_stays shape before after taken ghost rests nth client here (ok nth client here))
         (refl, (does_law shape before base nth client place here at).changes) reads_newest)
 

@@ -1,20 +1,22 @@
 -- Where a running scan goes on after each word that it takes, with what it has gathered. For any property of clients:
 -- if it holds at each point that may follow, and of each client that lists its rows or is refused, it holds after the
 -- word.
-use Rattle.std.proofs.Common.{List, None, Option, Some, [], ap, arith, false, subst, sym, true, ℕ, ◌++◌, ◌+◌}
-use Rattle.std.proofs.Common.{◌-◌, ◌∙◌, ◌∷◌, ◌≡◌}
-use Rattle.std.specs.Prelude.{Bool, nat_le}
+use Rattle.std.proofs.Common.{List, None, Option, Some, [], ap, arith, false, subst, sym, true, ℕ, ◌++◌, ◌+◌, ◌-◌, ◌∙◌}
+use Rattle.std.proofs.Common.{◌∷◌, ◌≡◌}
 use Rattle.std.proofs.lemmas.Bool.{and_from, and_parts, le-leb, leb-true, true≢false}
-use Rattle.nam_verbs.specs.declared.now.Now.TheVariants.{Over}
-use Rattle.nam_verbs.proofs.TestLemmas.{by_equal, by_test}
-use Rattle.nam_catalog.specs.declared.shape.Shape.{Shape}
-use Rattle.nam_layout.specs.Rows.{row_of}
-use Rattle.nam_layout.specs.declared.field.Field.{Field}
-use Rattle.nam_layout.specs.declared.field.Field.TheVariants.{Key}
+use Rattle.std.specs.Prelude.{Bool, nat_le}
 use Rattle.nam_calls.specs.Reading.{read_after, read_begin, sight_of}
 use Rattle.nam_calls.specs.Words.{capacity_of, key_word}
 use Rattle.nam_calls.specs.declared.reading.ReadPoint.{ReadPoint}
 use Rattle.nam_calls.specs.declared.reading.ReadingEnd.TheVariants.{Got}
+use Rattle.nam_catalog.specs.declared.shape.Shape.{Shape}
+use Rattle.nam_ghost.specs.Keys.{Bears}
+use Rattle.nam_ghost.specs.Versions.{Chain}
+use Rattle.nam_ghost.specs.Wanted.{IsNewest}
+use Rattle.nam_layout.specs.Rows.{row_of}
+use Rattle.nam_layout.specs.declared.field.Field.{Field}
+use Rattle.nam_layout.specs.declared.field.Field.TheVariants.{Key}
+use Rattle.nam_protocol.proofs.GoesParts.{scan_read_goes}
 use Rattle.nam_protocol.specs.Carries.{IsBetween}
 use Rattle.nam_protocol.specs.Operations.{own_value}
 use Rattle.nam_protocol.specs.Scan.{in_range, scan_after, scan_skip}
@@ -28,12 +30,10 @@ use Rattle.nam_protocol.specs.declared.scan.ScanPoint.{ScanPoint}
 use Rattle.nam_protocol.specs.declared.scan.ScanPoint.TheVariants.{ScanKey, ScanRead}
 use Rattle.nam_protocol.specs.declared.txn.TxnAnswer.{TxnAnswer}
 use Rattle.nam_protocol.specs.declared.txn.TxnState.{TxnState}
-use Rattle.nam_protocol.proofs.GoesParts.{scan_read_goes}
-use Rattle.nam_ghost.specs.Keys.{Bears}
-use Rattle.nam_ghost.specs.Versions.{Chain}
-use Rattle.nam_ghost.specs.Wanted.{IsNewest}
-use Rattle.nam_scans.specs.Gathered.{Finds, FindsBy, HasGathered, ScanOk}
 use Rattle.nam_scans.proofs.RangeLemmas.{left_empty, left_found}
+use Rattle.nam_scans.specs.Gathered.{Finds, FindsBy, HasGathered, ScanOk}
+use Rattle.nam_verbs.proofs.TestLemmas.{by_equal, by_test}
+use Rattle.nam_verbs.specs.declared.now.Now.TheVariants.{Over}
 use Rattle.si_model.specs.Rows.{key_at, writes_key}
 use Rattle.si_model.specs.declared.log.Outcome.{Outcome}
 use Rattle.si_model.specs.declared.row.Key as row_key

@@ -1,4 +1,5 @@
 -- What a running scan has gathered: exactly the rows of its range before the position that it is at.
+use Rattle.std.specs.Prelude.{Bool, List, Option, Some, false, true, ℕ, ◌<◌, ◌≡◌}
 use Rattle.nam_calls.specs.Memory.{memory}
 use Rattle.nam_catalog.specs.declared.shape.Shape.{Shape}
 use Rattle.nam_ghost.specs.Keys.{Bears}
@@ -24,7 +25,6 @@ use Rattle.nam_verbs.specs.declared.now.Now.TheVariants.{At}
 use Rattle.si_model.specs.Lists.{Listed, Pairwise}
 use Rattle.si_model.specs.Rows.{key_at, writes_key}
 use Rattle.si_model.specs.declared.row.Key.{Key}
-use Rattle.std.specs.Prelude.{Bool, List, Option, Some, false, true, ℕ, ◌<◌, ◌≡◌}
 
 -- What a transaction finds at a key whose row has this chain: the value of its own write, where it writes the key; and
 -- else that of the newest version that its snapshot sees.

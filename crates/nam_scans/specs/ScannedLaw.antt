@@ -1,4 +1,5 @@
 -- What a scan lists in the end: each row of its range that its transaction finds, and nothing else.
+use Rattle.std.specs.Prelude.{List, None, Option, Some, length, ℕ, ◌<◌, ◌≡◌, ◌⊎◌}
 use Rattle.nam_calls.specs.Fits.{IsTableOf}
 use Rattle.nam_calls.specs.Memory.{memory}
 use Rattle.nam_calls.specs.Words.{capacity_of}
@@ -23,7 +24,6 @@ use Rattle.nam_verbs.specs.declared.now.Now.TheVariants.{At, Over}
 use Rattle.si_model.specs.Lists.{Listed, Pairwise}
 use Rattle.si_model.specs.Rows.{Rows, item_at, items_between, key_at}
 use Rattle.si_model.specs.declared.row.Item.{Item}
-use Rattle.std.specs.Prelude.{List, None, Option, Some, length, ℕ, ◌<◌, ◌≡◌, ◌⊎◌}
 use Rattle.nam_protocol.specs.declared.client.Answer.TheVariants as client_answer
 
 -- 1. What a transaction finds at the keys of a table

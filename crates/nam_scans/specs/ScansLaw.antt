@@ -1,4 +1,5 @@
 -- What is claimed of running scans holds at the opening, and each step keeps it.
+use Rattle.std.specs.Prelude.{List, Option, Some, map, ℕ, ◌≡◌}
 use Rattle.nam_calls.specs.Memory.{memory}
 use Rattle.nam_calls.specs.Reading.{read_after}
 use Rattle.nam_calls.specs.declared.reading.ReadingEnd.TheVariants.{Got}
@@ -7,7 +8,7 @@ use Rattle.nam_catalog.specs.declared.shape.Shape.{Shape}
 use Rattle.nam_ghost.specs.Cells.{IsElsewhere}
 use Rattle.nam_ghost.specs.Chains.{IsNew}
 use Rattle.nam_ghost.specs.Ghost.{Ghost, ghost_step, opening_ghost}
-use Rattle.nam_ghost.specs.Keys.{KeysOk}
+use Rattle.nam_ghost.specs.Keys.{KeysNext, KeysOk}
 use Rattle.nam_ghost.specs.Moments.{observer_of}
 use Rattle.nam_ghost.specs.Slots.{RowNext}
 use Rattle.nam_ghost.specs.Wanted.{IsNewest}
@@ -22,7 +23,6 @@ use Rattle.nam_store.specs.Opening.{AreLoaded, opening_store}
 use Rattle.nam_store.specs.Store.{StepsTo, Store, client_at, found_word}
 use Rattle.nam_verbs.specs.declared.now.Now.TheVariants.{Over}
 use Rattle.si_model.specs.declared.row.Row.{Row}
-use Rattle.std.specs.Prelude.{List, Option, Some, map, ℕ, ◌≡◌}
 
 module _ (shape : Shape) where
   -- What the law of words says of a store, as far as a scan needs it; of reads only that one which its next word ends
@@ -35,7 +35,8 @@ module _ (shape : Shape) where
         → read_after reader.sight reader.seen reader.at (found_word shape store client) ≡ Over (Got value)
         → IsNewest reader.seen (ghost.chains reader.sight.place.row) value
 
-  -- so it is before a step; and of the step, that each row goes on as it may
+  -- So it is before a step; and of the step, that each row goes on as it may, that key words that stand do, and that
+  -- what is claimed of keys holds after it.
   pub record RestsOn (before after : Store) (goes : StepsTo shape before after) (ghost : Ghost) : Type 0 where
     pub stands : Stands before ghost
     pub rows : (row : ℕ) → IsRow shape row → let later = ghost_step shape before after goes ghost in
@@ -43,6 +44,8 @@ module _ (shape : Shape) where
         (IsElsewhere shape ghost.chains ghost.rings (memory shape before.words) ghost.cells row)
         (IsNew (width_at shape.tables row) (map observer_of before.clients)) (ghost.chains row) (ghost.rings row)
         (later.chains row) (later.rings row)
+    pub next : KeysNext shape (memory shape before.words) (memory shape after.words)
+    pub keys : KeysOk shape after (ghost_step shape before after goes ghost).chains
 
 abbrev pub OpensLaw : Type 0
 OpensLaw = (shape : Shape) → FitsLimits shape → (rows : List Row) → AreLoaded shape rows

@@ -7,8 +7,8 @@ ghost use Rattle.nam_scans.specs.ScansLaw.{KeepsLaw, OpensLaw};
 /// that it is at.
 ///
 /// The opening has it, with any rows that may be loaded (`opening`). Each verb, each call that is asked, each
-/// transaction that is given up and each stop keeps it (`step`): of a store where keys are as is claimed of them, where
-/// a read gets what it is to get, and where each row goes on as it may (`RestsOn`).
+/// transaction that is given up and each stop keeps it (`step`): of a store where keys are as is claimed of them, after
+/// the step too, where a read gets what it is to get, and where each row and the keys go on as they may (`RestsOn`).
 pub fn scans_law()
     ensures opening { OpensLaw }
     ensures step { KeepsLaw }

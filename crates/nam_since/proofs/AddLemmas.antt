@@ -1,18 +1,17 @@
 -- A commit is published: it stands last in the order, so whatever it overtakes stands before it.
-use Rattle.std.proofs.Common.{List, [], ap, inl, inr, length, refl, subst, sym, ℕ, ◌++◌, ◌<◌, ◌∙◌, ◌∷◌, ◌≡◌}
-use Rattle.std.proofs.Common.{◌≢◌, ◌⊎◌}
-use Rattle.std.specs.Prelude.{true}
+use Rattle.std.proofs.Common.{List, [], ap, inl, inr, length, refl, subst, sym, ℕ, ◌++◌, ◌<◌, ◌∙◌, ◌∷◌, ◌≡◌, ◌≢◌, ◌⊎◌}
 use Rattle.std.proofs.lemmas.Option.{slice_get_within}
-use Rattle.nam_header.specs.Visible.{is_visible}
-use Rattle.nam_store.specs.Everyone.{put}
-use Rattle.nam_store.proofs.Lists.{put_cases, put_here}
-use Rattle.si_model.specs.Lists.{Listed}
-use Rattle.si_model.proofs.ListLemmas.{listed_append_cases, listed_append_left, listed_append_right}
-use Rattle.si_model.specs.declared.log.Stamp.{Stamp}
+use Rattle.std.specs.Prelude.{true}
+use Rattle.nam_ghost.proofs.ListLemmas.{got_end, got_front, got_listed, listed_got, pairs_push}
 use Rattle.nam_ghost.specs.Moments.{IsCandidate, IsUnpassed, Observer}
 use Rattle.nam_ghost.specs.Publications.{Publication}
 use Rattle.nam_ghost.specs.Since.{IsOvertaken, IsSince, StandsBefore, WasPublished}
-use Rattle.nam_since.proofs.ListLemmas.{apart_more, got_end, got_front, listed_got}
+use Rattle.nam_header.specs.Visible.{is_visible}
+use Rattle.nam_store.proofs.Lists.{put_cases, put_here}
+use Rattle.nam_store.specs.Everyone.{put}
+use Rattle.si_model.proofs.ListLemmas.{listed_append_cases, listed_append_left, listed_append_right}
+use Rattle.si_model.specs.Lists.{Listed}
+use Rattle.si_model.specs.declared.log.Stamp.{Stamp}
 
 module _ (published : ℕ → List Publication) (nth : ℕ) (commit : Publication) where
   abbrev pub one_more : ℕ → List Publication
@@ -121,8 +120,8 @@ module _ (published : ℕ → List Publication) (nth : ℕ) (commit : Publicatio
       inside = inside_now;
       listed = λ other is. listed_now other (was_or_new other is);
       comes = comes_now;
-      once = apart_more order commit.stamp since.once
-          (λ stamp listed. let from = since.comes stamp listed in
+      once = pairs_push (λ (a b : Stamp). a ≢ b) order commit.stamp since.once
+          (λ n stamp at. let from = since.comes stamp (got_listed order n stamp at) in
           subst (λ (x : Stamp). x ≢ commit.stamp) from.2 (fresh from.0 from.1));
       before = overtaken_cases (λ first second. StandsBefore longer first.stamp second.stamp) last
           (λ first second a b over. stood_before first.stamp second.stamp (since.before first second a b over))

@@ -1,21 +1,19 @@
 -- Places rise along overtakings.
-use Rattle.std.proofs.Common.{List, Some, ap, arith, inr, map, option_map, refl, ℕ, ⊎_elim, ◌<◌, ◌∙◌, ◌≡◌}
-use Rattle.std.proofs.Common.{◌≢◌}
-use Rattle.std.specs.Prelude.{slice_get, true}
+use Rattle.std.proofs.Common.{List, Some, arith, refl, ℕ, ⊎_elim, ◌<◌, ◌≡◌, ◌≢◌}
 use Rattle.std.proofs.lemmas.Bool.{cases_order}
-use Rattle.std.proofs.lemmas.Option.{slice_get-map}
+use Rattle.std.specs.Prelude.{slice_get, true}
 use Rattle.nam_catalog.specs.declared.shape.Shape.{Shape}
+use Rattle.nam_ghost.proofs.ChainLemmas.{pairs_got}
+use Rattle.nam_ghost.proofs.ListLemmas.{listed_got}
+use Rattle.nam_ghost.proofs.SnapshotLemmas.{taken_candidate}
+use Rattle.nam_ghost.specs.Moments.{IsTaken}
+use Rattle.nam_ghost.specs.Publications.{Publication}
+use Rattle.nam_ghost.specs.Since.{IsOvertaken, SinceOk, WasPublished}
 use Rattle.nam_header.specs.Visible.{is_visible}
+use Rattle.nam_since.specs.CircleLaw.{CircleLaw, ContainedLaw, Further, IsPlace, Path, PlacesLaw, RisesLaw, Step}
 use Rattle.nam_store.specs.Store.{Store}
 use Rattle.si_model.specs.Lists.{Pairwise}
 use Rattle.si_model.specs.declared.log.Stamp.{Stamp}
-use Rattle.nam_ghost.specs.Moments.{IsCandidate, observer_of}
-use Rattle.nam_ghost.specs.Publications.{Publication}
-use Rattle.nam_ghost.specs.Since.{IsOvertaken, SinceOk, WasPublished}
-use Rattle.nam_ghost.proofs.ChainLemmas.{pairs_got}
-use Rattle.nam_moments.specs.SnapshotsLaw.{IsTaken}
-use Rattle.nam_since.specs.CircleLaw.{CircleLaw, ContainedLaw, Further, IsPlace, Path, PlacesLaw, RisesLaw, Step}
-use Rattle.nam_since.proofs.ListLemmas.{listed_got}
 
 -- where no two elements are the same, none has two places
 one_place : {A : Type 0} (xs : List A) → Pairwise (λ (a b : A). a ≢ b) xs → (i j : ℕ) (x : A)
@@ -55,23 +53,13 @@ module _ (shape : Shape) (store : Store) (published : ℕ → List Publication) 
   starts first _ (Step was is over) = was
   starts first _ (Further was is over rest) = was
 
-  taken_candidate : (s : List ℕ) → IsTaken store s
-      → IsCandidate shape.workers (map observer_of store.clients) s shape.workers
-  taken_candidate s (nth, (client, (here, listed))) = (
-    nth,
-    (
-      observer_of client,
-      (slice_get-map observer_of store.clients nth ∙ ap (option_map observer_of) here, inr (refl, listed)),
-    ),
-  )
-
   contained : (first last : Publication) → Path published first last → (s : List ℕ) → IsTaken store s
       → is_visible last.stamp s ≡ true → is_visible first.stamp s ≡ true
   contained first _ (Step was is over) s taken sees =
-      since.contained first _ was is over s shape.workers (taken_candidate s taken)
+      since.contained first _ was is over s shape.workers (taken_candidate store shape.workers s taken)
       (λ a from less. absurd (omega arith)) sees
   contained first _ (Further {second = second} was is over rest) s taken sees =
-      since.contained first second was is over s shape.workers (taken_candidate s taken)
+      since.contained first second was is over s shape.workers (taken_candidate store shape.workers s taken)
       (λ a from less. absurd (omega arith)) (contained second _ rest s taken sees)
 
 pub path_rises : RisesLaw

@@ -1,17 +1,18 @@
 -- What a commit has seen of the records that it has locked, when it is about to publish: each version but its own.
-use Rattle.std.proofs.Common.{List, Option, ap, arith, inl, inr, subst, suc, sym, true, zero, ℕ}
-use Rattle.std.proofs.Common.{⊎_elim, ◌+◌, ◌<◌, ◌∙◌, ◌≡◌, ◌⊎◌}
-use Rattle.std.specs.Prelude.{slice_get}
+use Rattle.std.proofs.Common.{List, Option, ap, arith, inl, inr, subst, suc, sym, true, zero, ℕ, ⊎_elim, ◌+◌, ◌<◌, ◌∙◌}
+use Rattle.std.proofs.Common.{◌≡◌, ◌⊎◌}
 use Rattle.std.proofs.lemmas.Bool.{cases_order}
 use Rattle.std.proofs.lemmas.List.{length_push}
 use Rattle.std.proofs.lemmas.Option.{same_Some, slice_get_within}
-use Rattle.nam_header.specs.Visible.{is_visible}
-use Rattle.si_model.specs.declared.log.Stamp.{Stamp}
+use Rattle.std.specs.Prelude.{slice_get}
+use Rattle.nam_ghost.proofs.ListLemmas.{got_end, listed_got}
+use Rattle.nam_ghost.proofs.OrderLemmas.{IsSnap, sees_front}
 use Rattle.nam_ghost.specs.Chains.{ChainOk}
 use Rattle.nam_ghost.specs.Moments.{AreObservers, Observer}
 use Rattle.nam_ghost.specs.Versions.{Chain, IsNth, IsVersion, Version, current_number, versions}
-use Rattle.nam_since.proofs.ListLemmas.{got_end, listed_got}
-use Rattle.nam_since.proofs.SightLemmas.{IsSnap, none_after, seen_by, sees_before}
+use Rattle.nam_header.specs.Visible.{is_visible}
+use Rattle.nam_since.proofs.SightLemmas.{none_after, seen_by}
+use Rattle.si_model.specs.declared.log.Stamp.{Stamp}
 
 -- of one chain, and a snapshot that was taken
 module _ (start workers : ℕ) (V : ℕ → ℕ) (observers : List Observer) (ok : AreObservers start workers V observers)
@@ -48,16 +49,7 @@ module _ (start workers : ℕ) (V : ℕ → ℕ) (observers : List Observer) (ok
 
   -- 2. A record that it holds: it sees the current version, and so all before
 
-  before_now : IsSnap start workers V observers ok seen → is_visible chain.now.stamp seen ≡ true
-      → (version : Version) (a b : ℕ) → a < b → IsNth chain a version → IsNth chain b chain.now
-      → is_visible version.stamp seen ≡ true
-  before_now snap sees version a zero less at is = absurd (omega arith)
-  before_now snap sees version a (suc b) less at is =
-      let next : suc b ≡ b + 1 = omega arith in
-      sees_before start workers V observers ok width chain chain_ok a b version chain.now (omega arith) at
-      (subst (λ n. IsNth chain n chain.now) next is) seen snap sees
-
-  pub held_seen : IsSnap start workers V observers ok seen → is_visible chain.now.stamp seen ≡ true
+  pub held_seen : IsSnap observers seen → is_visible chain.now.stamp seen ≡ true
       → (version : Version) → IsVersion chain version → is_visible version.stamp seen ≡ true
   held_seen snap sees version is =
       let a = listed_got (versions chain) version is in
@@ -68,6 +60,7 @@ module _ (start workers : ℕ) (V : ℕ → ℕ) (observers : List Observer) (ok
       subst (λ (v : Version). is_visible v.stamp seen ≡ true)
       (sym (same_version a.0 (current_number chain) version chain.now e a.1 now)) sees)
       (λ apart. ⊎_elim (λ (less : a.0 < current_number chain).
-      before_now snap sees version a.0 (current_number chain) less a.1 now)
+      sees_front start workers V observers ok width chain chain_ok seen snap a.0 (current_number chain) version
+      chain.now less a.1 now sees)
       (λ (less : current_number chain < a.0). absurd (omega arith)) apart)
       (cases_order a.0 (current_number chain))

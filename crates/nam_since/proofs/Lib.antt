@@ -1,4 +1,3 @@
-pub mod ListLemmas
 pub mod SightLemmas
 pub mod AddLemmas
 pub mod StayLemmas

@@ -4,10 +4,18 @@ use Rattle.std.proofs.Common.{List, Option, Some, [], ap, arith, inr, length, ma
 use Rattle.std.proofs.Common.{⊎_elim, ◌++◌, ◌+◌, ◌<◌, ◌∙◌, ◌∷◌, ◌≡◌, ◌≢◌, ◌≤◌, ◌⊎◌}
 use Rattle.std.proofs.lemmas.Bool.{cases_lt, true≢false}
 use Rattle.std.proofs.lemmas.Option.{slice_get-map}
-use Rattle.nam_verbs.specs.declared.now.Now.{Now}
-use Rattle.nam_verbs.specs.declared.now.Now.TheVariants.{At}
 use Rattle.nam_calls.specs.Memory.{memory}
 use Rattle.nam_catalog.specs.declared.shape.Shape.{Shape}
+use Rattle.nam_ghost.proofs.OrderLemmas.{IsSnap}
+use Rattle.nam_ghost.proofs.SnapshotLemmas.{observer_at, observer_ok}
+use Rattle.nam_ghost.specs.Commits.{CommitsOk}
+use Rattle.nam_ghost.specs.Ghost.{Ghost}
+use Rattle.nam_ghost.specs.Holders.{holder_at, holder_in, holder_of, record_row}
+use Rattle.nam_ghost.specs.Locks.{HolderOk}
+use Rattle.nam_ghost.specs.Moments.{IsCandidate, Observer, number_now, observer_of, vector_of}
+use Rattle.nam_ghost.specs.Publications.{Publication, publication_of, published_version}
+use Rattle.nam_ghost.specs.Since.{IsOvertaken, SinceOk, WasPublished}
+use Rattle.nam_ghost.specs.Versions.{IsVersion, Version}
 use Rattle.nam_header.specs.Visible.{is_visible}
 use Rattle.nam_layout.specs.Rows.{width_at}
 use Rattle.nam_protocol.proofs.FieldLemmas.{placed}
@@ -23,28 +31,21 @@ use Rattle.nam_protocol.specs.declared.client.Open.{Open}
 use Rattle.nam_protocol.specs.declared.txn.CommitPoint.TheVariants.{Publishing}
 use Rattle.nam_protocol.specs.declared.txn.TxnPoint.TheVariants.{Committing}
 use Rattle.nam_protocol.specs.declared.txn.TxnState.{TxnState}
+use Rattle.nam_since.proofs.AddLemmas.{one_more, overtaken_cases, since_adds}
+use Rattle.nam_since.proofs.CommitLemmas.{held_seen, written_seen}
+use Rattle.nam_since.proofs.SightLemmas.{candidate_within}
+use Rattle.nam_since.proofs.StayLemmas.{IsEntered, entered}
 use Rattle.nam_store.proofs.BaseLemmas.{client_within}
 use Rattle.nam_store.proofs.Lists.{some_within}
 use Rattle.nam_store.specs.Store.{Store, client_at}
+use Rattle.nam_verbs.specs.declared.now.Now.{Now}
+use Rattle.nam_verbs.specs.declared.now.Now.TheVariants.{At}
 use Rattle.si_model.specs.declared.log.Stamp.{Stamp}
-use Rattle.nam_ghost.specs.Ghost.{Ghost}
-use Rattle.nam_ghost.specs.Holders.{holder_at, holder_in, holder_of, record_row}
-use Rattle.nam_ghost.specs.Locks.{HolderOk}
-use Rattle.nam_ghost.specs.Moments.{IsCandidate, Observer, number_now, observer_of, vector_of}
-use Rattle.nam_ghost.specs.Publications.{Publication, publication_of, published_version}
-use Rattle.nam_ghost.specs.Since.{IsOvertaken, SinceOk, WasPublished}
-use Rattle.nam_ghost.specs.Versions.{IsVersion, Version}
-use Rattle.nam_moments.proofs.SnapshotLemmas.{observer_at, observer_ok}
-use Rattle.nam_since.specs.SinceLaw.{RestsOn}
-use Rattle.nam_since.proofs.AddLemmas.{one_more, overtaken_cases, since_adds}
-use Rattle.nam_since.proofs.CommitLemmas.{held_seen, written_seen}
-use Rattle.nam_since.proofs.SightLemmas.{IsSnap, candidate_within}
-use Rattle.nam_since.proofs.StayLemmas.{IsEntered, entered}
 
 abbrev pub runs_publishing : Option (Now CallPoint Answer)
 runs_publishing = Some (At (InTxn (Committing Publishing)))
 
-module _ (shape : Shape) (store : Store) (ghost : Ghost) (rests : RestsOn shape store ghost)
+module _ (shape : Shape) (store : Store) (ghost : Ghost) (rests : CommitsOk shape store ghost)
     (since : SinceOk shape store ghost.published ghost.order) (nth : ℕ) (client : ClientState) (attempt : Open)
     (here : client_at store nth ≡ Some client) (runs : client.call ≡ runs_publishing)
     (opened : client.txn ≡ Some attempt) where
@@ -91,8 +92,8 @@ module _ (shape : Shape) (store : Store) (ghost : Ghost) (rests : RestsOn shape 
       (rests.locks.each nth (holder_of client)
       (slice_get-map holder_of store.clients nth ∙ ap (option_map holder_of) here))
 
-  took : IsSnap shape.start shape.workers vector observers rests.moments state.seen
-  took = (nth, (observer_of client, (observer_at shape store rests.moments nth client here, own.listed)))
+  took : IsSnap observers state.seen
+  took = (nth, (observer_of client, (observer_at store nth client here, own.listed)))
 
   -- 2. It has seen each version of its records but its own
 

@@ -1,19 +1,19 @@
 -- One client's step keeps what is said of publications, where each that is overtaken is in the vector afterwards.
 use Rattle.std.proofs.Common.{List, Some, ap, arith, inl, inr, length, ℕ, ◌+◌, ◌<◌, ◌≡◌, ◌≤◌}
-use Rattle.std.specs.Prelude.{slice_get, slice_set, true}
 use Rattle.std.proofs.lemmas.Option.{slice_get_within}
+use Rattle.std.specs.Prelude.{slice_get, slice_set, true}
+use Rattle.nam_ghost.proofs.ListLemmas.{listed_got}
+use Rattle.nam_ghost.proofs.ObserverLemmas.{entries_rise, grown_wide, was_or_is}
+use Rattle.nam_ghost.proofs.VisibleLemmas.{sees_by}
+use Rattle.nam_ghost.specs.Moments.{AreObservers, IsCandidate, IsUnpassed, Observer, ObserverNext}
+use Rattle.nam_ghost.specs.Publications.{Publication, PublicationsOk}
+use Rattle.nam_ghost.specs.Since.{IsOvertaken, IsSince, WasPublished}
+use Rattle.nam_ghost.specs.Versions.{Chain}
 use Rattle.nam_header.specs.Visible.{is_visible}
 use Rattle.nam_store.proofs.Lists.{some_within}
 use Rattle.nam_store.specs.Everyone.{Everyone}
 use Rattle.si_model.specs.Lists.{Listed}
 use Rattle.si_model.specs.declared.log.Stamp.{Stamp}
-use Rattle.nam_ghost.specs.Moments.{AreObservers, Observer, ObserverNext, IsCandidate, IsUnpassed}
-use Rattle.nam_ghost.specs.Publications.{Publication, PublicationsOk}
-use Rattle.nam_ghost.specs.Since.{IsOvertaken, IsSince, WasPublished}
-use Rattle.nam_ghost.specs.Versions.{Chain}
-use Rattle.nam_moments.proofs.NextLemmas.{candidate_wide, entries_rise, observers_keep, was_or_is}
-use Rattle.nam_since.proofs.ListLemmas.{listed_got}
-use Rattle.nam_since.proofs.SightLemmas.{sees_by}
 
 -- the vector has reached the stamp, which is a worker's; workers count from 0
 pub record IsEntered (workers : ℕ) (V : ℕ → ℕ) (stamp : Stamp) : Type 0 where
@@ -74,8 +74,7 @@ module _ (start workers : ℕ) (V : ℕ → ℕ) (observers : List Observer) (ok
       where
         wide : (s : List ℕ) (confirmed : ℕ) → IsCandidate workers later s confirmed → length s ≡ workers
         wide s confirmed is =
-            candidate_wide start workers now later
-            (observers_keep start workers V observers ok nth before here now after next) s confirmed is
+            grown_wide start workers V observers ok nth before here now after next s confirmed is
 
         contained : (first second : Publication) → WasPublished published first → WasPublished published second
             → IsOvertaken first second → (s : List ℕ) (confirmed : ℕ) → IsCandidate workers later s confirmed

@@ -1,28 +1,30 @@
 -- Each step of a store keeps what is said of guards and of the order of publication.
 use Rattle.std.proofs.Common.{List, None, Option, Some, [], map, refl, subst, sym, ℕ, ◌++◌, ◌∙◌, ◌∷◌, ◌≡◌}
 use Rattle.std.proofs.lemmas.List.{map-set}
-use Rattle.nam_verbs.specs.declared.now.Now.TheVariants.{At}
 use Rattle.nam_calls.specs.Memory.{memory}
 use Rattle.nam_catalog.specs.declared.shape.Shape.{Shape}
+use Rattle.nam_ghost.proofs.SnapshotLemmas.{observer_at}
+use Rattle.nam_ghost.proofs.SteppingLemmas.{others_same, stepper_here}
+use Rattle.nam_ghost.specs.Commits.{CommitsOk}
+use Rattle.nam_ghost.specs.Ghost.{Ghost, ghost_step}
+use Rattle.nam_ghost.specs.Moments.{observer_of, vector_of}
+use Rattle.nam_ghost.specs.Publications.{Publication, publication_of}
+use Rattle.nam_ghost.specs.Since.{IsOvertaken, IsSince, SinceOk, WasPublished}
+use Rattle.nam_ghost.specs.Stepping.{stepper_after, stepper_before, stepping}
+use Rattle.nam_ghost.specs.Steps.{order_after, published_after}
 use Rattle.nam_protocol.specs.Commit.{own_stamp}
 use Rattle.nam_protocol.specs.declared.client.CallPoint.{CallPoint}
 use Rattle.nam_protocol.specs.declared.client.CallPoint.TheVariants.{InTxn}
 use Rattle.nam_protocol.specs.declared.client.Open.{Open}
 use Rattle.nam_protocol.specs.declared.txn.CommitPoint.TheVariants.{Publishing}
 use Rattle.nam_protocol.specs.declared.txn.TxnPoint.TheVariants.{Committing}
-use Rattle.nam_store.specs.Store.{Abandons, Asks, Cuts, StepsTo, Store, Takes}
-use Rattle.si_model.specs.declared.log.Stamp.{Stamp}
-use Rattle.nam_ghost.specs.Ghost.{Ghost, ghost_step}
-use Rattle.nam_ghost.specs.Moments.{observer_of, vector_of}
-use Rattle.nam_ghost.specs.Publications.{Publication, publication_of}
-use Rattle.nam_ghost.specs.Since.{IsOvertaken, IsSince, SinceOk, WasPublished}
-use Rattle.nam_ghost.specs.Steps.{order_after, published_after}
-use Rattle.nam_moments.proofs.SnapshotLemmas.{observer_at}
-use Rattle.nam_moments.proofs.StepLemmas.{step_next}
-use Rattle.nam_since.specs.SinceLaw.{KeepsLaw, RestsOn}
 use Rattle.nam_since.proofs.AddLemmas.{one_more}
 use Rattle.nam_since.proofs.PublishLemmas.{publishes, publishes_entered, runs_publishing}
 use Rattle.nam_since.proofs.StayLemmas.{IsEntered, entered, since_stays, stays_entered}
+use Rattle.nam_since.specs.SinceLaw.{KeepsLaw}
+use Rattle.nam_store.specs.Store.{Abandons, Asks, Cuts, StepsTo, Store, Takes}
+use Rattle.nam_verbs.specs.declared.now.Now.TheVariants.{At}
+use Rattle.si_model.specs.declared.log.Stamp.{Stamp}
 
 -- what the verb of a point makes of publications and their order: nothing, or one more where a commit publishes
 published_cases : (P : (ℕ → List Publication) → List Stamp → Type 0) (nth : ℕ) (published : ℕ → List Publication)
@@ -43,7 +45,7 @@ pub record Holds (shape : Shape) (store : Store) (published : ℕ → List Publi
   pub reaches : (first second : Publication) → WasPublished published first → WasPublished published second
       → IsOvertaken first second → IsEntered shape.workers (vector_of (memory shape store.words)) first.stamp
 
-module _ (shape : Shape) (store : Store) (ghost : Ghost) (rests : RestsOn shape store ghost)
+module _ (shape : Shape) (store : Store) (ghost : Ghost) (rests : CommitsOk shape store ghost)
     (since : SinceOk shape store ghost.published ghost.order) where
   held : Holds shape store ghost.published ghost.order
   held = record {
@@ -68,20 +70,22 @@ module _ (shape : Shape) (store : Store) (ghost : Ghost) (rests : RestsOn shape 
   goes_holds _ (Cuts nth client here) = held
 
 pub since_keep : KeepsLaw
-since_keep shape before after goes ghost rests since =
+since_keep shape before after goes ghost ok next since =
     let later = ghost_step shape before after goes ghost in
-    let holds = goes_holds shape before ghost rests since after goes in
-    let step = step_next shape before after goes rests.base rests.moments in
+    let holds = goes_holds shape before ghost ok since after goes in
+    let nth = stepping shape before after goes in
+    let client = stepper_before shape before after goes in
     let V = vector_of (memory shape before.words) in
     let now = vector_of (memory shape after.words) in
     let observers = map observer_of before.clients in
-    let here = observer_at shape before rests.moments step.nth step.before step.here in
+    let is = observer_of (stepper_after shape before after goes) in
+    let here = observer_at before nth client (stepper_here shape before after goes) in
     subst (λ clients. IsSince shape.workers now (map observer_of clients) later.published later.order)
-    (sym step.clients)
+    (sym (others_same shape before after goes))
     (subst (λ observers. IsSince shape.workers now observers later.published later.order)
-    (sym (map-set observer_of before.clients step.nth step.after))
-    (since_stays shape.start shape.workers V observers rests.moments step.nth (observer_of step.before) here now
-    (observer_of step.after) step.next later.published later.order holds.since
-    (λ first second was is over.
-    stays_entered shape.start shape.workers V observers rests.moments step.nth (observer_of step.before) here now
-    (observer_of step.after) step.next first.stamp (holds.reaches first second was is over))))
+    (sym (map-set observer_of before.clients nth (stepper_after shape before after goes)))
+    (since_stays shape.start shape.workers V observers ok.moments nth (observer_of client) here now is next
+    later.published later.order holds.since
+    (λ first second was over_was over.
+    stays_entered shape.start shape.workers V observers ok.moments nth (observer_of client) here now is next
+    first.stamp (holds.reaches first second was over_was over))))

@@ -1,13 +1,13 @@
 -- What is claimed of guards comes to this: along overtakings places in the order of publication rise, so they go in no
 -- circle, and snapshots that were taken contain the first where they contain the last.
+use Rattle.std.specs.Prelude.{List, Some, slice_get, true, ℕ, ◌<◌, ◌≡◌}
 use Rattle.nam_catalog.specs.declared.shape.Shape.{Shape}
+use Rattle.nam_ghost.specs.Moments.{IsTaken}
 use Rattle.nam_ghost.specs.Publications.{Publication}
 use Rattle.nam_ghost.specs.Since.{IsOvertaken, SinceOk, WasPublished}
 use Rattle.nam_header.specs.Visible.{is_visible}
-use Rattle.nam_moments.specs.SnapshotsLaw.{IsTaken}
 use Rattle.nam_store.specs.Store.{Store}
 use Rattle.si_model.specs.declared.log.Stamp.{Stamp}
-use Rattle.std.specs.Prelude.{List, Some, slice_get, true, ℕ, ◌<◌, ◌≡◌}
 
 -- published commits, each of which the next one overtakes
 pub data Path (published : ℕ → List Publication) : Publication → Publication → Type 0 where

@@ -1,25 +1,14 @@
 -- What is claimed of guards and of the order of publication holds at the opening, and each step keeps it.
+use Rattle.std.specs.Prelude.{List}
 use Rattle.nam_catalog.specs.Fits.{FitsLimits}
 use Rattle.nam_catalog.specs.declared.shape.Shape.{Shape}
-use Rattle.nam_ghost.specs.Chains.{ChainsOk}
+use Rattle.nam_ghost.specs.Commits.{CommitsOk}
 use Rattle.nam_ghost.specs.Ghost.{Ghost, ghost_step, opening_ghost}
-use Rattle.nam_ghost.specs.Locks.{LocksOk}
-use Rattle.nam_ghost.specs.Moments.{MomentsOk}
-use Rattle.nam_ghost.specs.Publications.{PublishedOk}
+use Rattle.nam_ghost.specs.Moments.{MomentsNext}
 use Rattle.nam_ghost.specs.Since.{SinceOk}
-use Rattle.nam_store.specs.Base.{BaseOk}
 use Rattle.nam_store.specs.Opening.{AreLoaded, opening_store}
 use Rattle.nam_store.specs.Store.{StepsTo, Store}
 use Rattle.si_model.specs.declared.row.Row.{Row}
-use Rattle.std.specs.Prelude.{List}
-
--- what the law of words says before a step
-pub record RestsOn (shape : Shape) (store : Store) (ghost : Ghost) : Type 0 where
-  pub base : BaseOk shape store
-  pub moments : MomentsOk shape store
-  pub locks : LocksOk shape store ghost.chains
-  pub chains : ChainsOk shape store ghost.chains
-  pub published : PublishedOk shape store ghost.chains ghost.published
 
 abbrev pub OpensLaw : Type 0
 OpensLaw = (shape : Shape) → FitsLimits shape → (rows : List Row) → AreLoaded shape rows
@@ -28,5 +17,6 @@ OpensLaw = (shape : Shape) → FitsLimits shape → (rows : List Row) → AreLoa
 
 abbrev pub KeepsLaw : Type 0
 KeepsLaw = (shape : Shape) (before after : Store) (goes : StepsTo shape before after) (ghost : Ghost)
-    → RestsOn shape before ghost → SinceOk shape before ghost.published ghost.order
+    → CommitsOk shape before ghost → MomentsNext shape before after goes
+    → SinceOk shape before ghost.published ghost.order
     → let later = ghost_step shape before after goes ghost in SinceOk shape after later.published later.order

@@ -11,7 +11,8 @@ ghost use Rattle.nam_since.specs.SinceLaw.{KeepsLaw, OpensLaw};
 ///
 /// The opening has it, with any rows that may be loaded (`opening`). Each verb, each call that is asked, each
 /// transaction that is given up and each stop keeps it (`step`), of a store that meets what the law of words says of
-/// calls, snapshots, locks, versions and publications before the step (`RestsOn`).
+/// calls, snapshots, locks, versions and publications before the step (`CommitsOk`), where the step's client goes on as
+/// an observer of the vector may.
 pub fn since_law()
     ensures opening { OpensLaw }
     ensures step { KeepsLaw }

@@ -7,6 +7,7 @@ use Rattle.nam_calls.specs.declared.lock.LockPoint.TheVariants.{GiveBack, Peek, 
 use Rattle.nam_calls.specs.declared.ring.SlotPoint.TheVariants.{CheckCount}
 use Rattle.nam_catalog.specs.declared.form.Form.{Form}
 use Rattle.nam_catalog.specs.declared.shape.Shape.{Shape}
+use Rattle.nam_ghost.proofs.RecordLemmas.{free_says}
 use Rattle.nam_ghost.specs.Copiers.{Aside, Copier, copier_at, copier_now, copying_at, has_copied}
 use Rattle.nam_ghost.specs.Holders.{Holds, holder_at, record_row}
 use Rattle.nam_ghost.specs.Slots.{Ring}
@@ -17,7 +18,6 @@ use Rattle.nam_layout.specs.Rows.{width_at}
 use Rattle.nam_layout.specs.declared.field.Field.{Field}
 use Rattle.nam_layout.specs.declared.field.Field.TheVariants.{Header}
 use Rattle.nam_layout.specs.declared.field.Place.{Place}
-use Rattle.nam_locks.proofs.RecordLemmas.{free_says}
 use Rattle.nam_protocol.proofs.FieldLemmas.{placed}
 use Rattle.nam_protocol.proofs.GoesCommit.{GoesTo, commit_goes, holding_locks}
 use Rattle.nam_protocol.specs.CallWrites.{commit_writes}

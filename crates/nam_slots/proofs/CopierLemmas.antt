@@ -5,9 +5,10 @@ use Rattle.std.proofs.lemmas.Option.{slice_get-map}
 use Rattle.nam_calls.specs.Memory.{memory}
 use Rattle.nam_catalog.specs.Fits.{FitsLimits}
 use Rattle.nam_catalog.specs.declared.shape.Shape.{Shape}
+use Rattle.nam_ghost.proofs.IdleLemmas.{copier_holds}
 use Rattle.nam_ghost.specs.Copiers.{Aside, Copied, Copier, CopierOk, CopyOk, CopyState, EndNext, Fills, IsCopy}
-use Rattle.nam_ghost.specs.Copiers.{MarkNext, Saves, SlotsOk, copier_in, copier_of, current_slot}
-use Rattle.nam_ghost.specs.Holders.{Holds, holder_in, holder_of}
+use Rattle.nam_ghost.specs.Copiers.{MarkNext, Saves, SlotsOk, copier_of, current_slot}
+use Rattle.nam_ghost.specs.Holders.{Holds, holder_of}
 use Rattle.nam_ghost.specs.Locks.{HolderOk, LocksOk}
 use Rattle.nam_ghost.specs.Slots.{IsFreeSlot, Kept, Ring, home, moved_of}
 use Rattle.nam_ghost.specs.Versions.{Chain, SlotImage, Version, current_number, slot_image}
@@ -16,18 +17,11 @@ use Rattle.nam_layout.specs.Address.{IsRow}
 use Rattle.nam_layout.specs.Place.{place_at}
 use Rattle.nam_layout.specs.declared.field.Field.{Field}
 use Rattle.nam_layout.specs.declared.field.Place.{Place}
-use Rattle.nam_protocol.specs.declared.client.Answer.{Answer}
-use Rattle.nam_protocol.specs.declared.client.CallPoint.{CallPoint}
-use Rattle.nam_protocol.specs.declared.client.CallPoint.TheVariants.{InTxn}
 use Rattle.nam_protocol.specs.declared.client.ClientState.{ClientState}
-use Rattle.nam_protocol.specs.declared.client.Open.{Open}
-use Rattle.nam_protocol.specs.declared.txn.TxnPoint.TheVariants.{Committing}
 use Rattle.nam_slots.proofs.RingLemmas.{ring_goes, row_spared}
 use Rattle.nam_slots.specs.Change.{RowSpared, RowsChange}
 use Rattle.nam_store.proofs.Lists.{everyone_set}
 use Rattle.nam_store.specs.Store.{Store, client_at, with_client}
-use Rattle.nam_verbs.specs.declared.now.Now.{Now}
-use Rattle.nam_verbs.specs.declared.now.Now.TheVariants.{At, Over}
 use Rattle.si_model.specs.declared.log.Stamp.{Stamp}
 
 -- 1. What a copier knows stays under a moved flag
@@ -73,18 +67,6 @@ module _ (was is : Option Kept) (goes : (is ≡ was) ⊎ (is ≡ moved_of was)) 
   )
   copying_stays place chain next image later ending body Copied ok =
       copy_stays (current_number chain) chain.now next ok
-
-pub copier_holds : (client : ClientState) → (copier_of client).holder ≡ holder_of client
-copier_holds client = by_call client.worker client.call client.txn
-  where
-    by_call : (worker : ℕ) (call : Option (Now CallPoint Answer)) (opened : Option Open)
-        → (copier_in worker call opened).holder ≡ holder_in worker call opened
-    by_call worker None opened = refl
-    by_call worker (Some (Over answer)) opened = refl
-    by_call worker (Some (At (InTxn (Committing at)))) None = refl
-    by_call worker (Some (At (InTxn (Committing at)))) (Some attempt) = refl
-    by_call worker (Some (At (InTxn _))) opened = refl
-    by_call worker (Some (At _)) opened = refl
 
 -- 2. What another client knows as a copier stays, where the rows that it holds are spared
 

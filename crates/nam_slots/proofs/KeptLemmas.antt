@@ -4,6 +4,7 @@ use Rattle.std.proofs.lemmas.Option.{none-some, same_Some}
 use Rattle.std.specs.Prelude.{slice_get}
 use Rattle.nam_calls.specs.Memory.{memory}
 use Rattle.nam_catalog.specs.declared.shape.Shape.{Shape}
+use Rattle.nam_ghost.proofs.ListLemmas.{got_end}
 use Rattle.nam_ghost.proofs.RowLemmas.{slots_go}
 use Rattle.nam_ghost.specs.Copiers.{CopierOk, IsCopy, copier_of, current_slot}
 use Rattle.nam_ghost.specs.Ghost.{Ghost, ghost_step}
@@ -25,7 +26,7 @@ use Rattle.nam_protocol.specs.declared.txn.CommitPoint.TheVariants.{Installing}
 use Rattle.nam_slots.proofs.CopierLemmas.{owned}
 use Rattle.nam_slots.proofs.HandLemmas.{Works, inside, knows}
 use Rattle.nam_slots.proofs.OwnLemmas.{CommitKnown}
-use Rattle.nam_slots.proofs.SlotLemmas.{free_moved, get_at_end, mark_none}
+use Rattle.nam_slots.proofs.SlotLemmas.{free_moved, mark_none}
 use Rattle.nam_slots.proofs.StoreLemmas.{rows_next, slots_keep}
 use Rattle.nam_slots.specs.SlotsLaw.{CopiedLaw, DirtyLaw, HoldsCurrent, HoldsWhole, MarkedLaw, RestsOn, WholeLaw}
 use Rattle.nam_store.specs.Base.{ClientOk}
@@ -79,7 +80,7 @@ module _ (shape : Shape) (store : Store) (ghost : Ghost) (rests : RestsOn shape 
       let ok = there kept at in
       let chain = ghost.chains row in
       let version = same_Some kept.version chain.now
-      (sym ok.version_is ∙ ap (slice_get (versions chain)) number ∙ get_at_end chain.old chain.now) in
+      (sym ok.version_is ∙ ap (slice_get (versions chain)) number ∙ got_end chain.old chain.now) in
       subst (HoldsWhole shape store ghost.chains row slot (current_number chain)) version
       (subst (λ n. HoldsWhole shape store ghost.chains row slot n kept.version) number
       (keeps_whole shape store ghost row slot kept ok))
@@ -140,16 +141,16 @@ goes_free copied _ _ (GetsCopy {kept} number) e = absurd (none-some kept (sym e)
 goes_free copied _ _ (GetsFlag {kept}) e = absurd (none-some (record kept { moved = true }) (sym e))
 
 pub marked_law : MarkedLaw
-marked_law shape before after goes ghost rests row slot is marks =
+marked_law shape before after goes ghost rests locks row slot is marks =
     let later = ghost_step shape before after goes ghost in
     let place = place_at shape row in
     let m : Field → ℕ = memory shape before.words in
     let now : Field → ℕ = memory shape after.words in
     let was = rests.slots.rows row is.0 in
-    let ok = slots_keep shape before after goes ghost rests in
+    let ok = slots_keep shape before after goes ghost rests locks in
     let gone = mark_none place slot (slot_image now row slot) (later.chains row) ((later.rings row).kept slot) marks
     ((ok.rows row is.0).slots slot is.1) in
-    let next = rows_next shape before after goes ghost rests (λ row number. Unit {0})
+    let next = rows_next shape before after goes ghost rests locks (λ row number. Unit {0})
     (λ nth client here table key position slot header at stands kept there. tt) row is.0 (λ version. Unit {0})
     (λ grown. tt) in
     free_moved place slot (slot_image m row slot) (ghost.chains row) ((ghost.rings row).kept slot)

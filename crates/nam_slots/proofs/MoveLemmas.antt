@@ -7,9 +7,8 @@ use Rattle.nam_calls.specs.Fits.{MoveFits}
 use Rattle.nam_calls.specs.Mover.{move_verb}
 use Rattle.nam_calls.specs.Writes.{claim_writes, fill_writes, move_writes}
 use Rattle.nam_calls.specs.declared.mover.MovePoint.{MovePoint}
-use Rattle.nam_calls.specs.declared.mover.MovePoint.TheVariants.{MoveAgain, MoveBack, MoveClaim, MoveCount}
-use Rattle.nam_calls.specs.declared.mover.MovePoint.TheVariants.{MoveEnding, MoveFill, MoveFlag, MoveFull, MoveHead}
-use Rattle.nam_calls.specs.declared.mover.MovePoint.TheVariants.{MoveWords}
+use Rattle.nam_calls.specs.declared.mover.MovePoint.TheVariants.{MoveAgain, MoveBack, MoveClaim, MoveCount, MoveEnding}
+use Rattle.nam_calls.specs.declared.mover.MovePoint.TheVariants.{MoveFill, MoveFlag, MoveFull, MoveHead, MoveWords}
 use Rattle.nam_calls.specs.declared.overflow.ClaimPoint.{ClaimPoint}
 use Rattle.nam_calls.specs.declared.overflow.ClaimPoint.TheVariants.{ClaimLook, ClaimTake}
 use Rattle.nam_calls.specs.declared.overflow.FillPoint.{FillPoint}

@@ -1,13 +1,14 @@
 -- A slot's words and what it keeps, under each kind of write.
-use Rattle.std.proofs.Common.{List, None, Option, Some, [], ap, arith, false, inl, inr, length, refl, suc, sym, true}
-use Rattle.std.proofs.Common.{zero, ℕ, ⊎_elim, ◌++◌, ◌+◌, ◌<◌, ◌∙◌, ◌∷◌, ◌≡◌, ◌⊎◌}
+use Rattle.std.proofs.Common.{None, Option, Some, ap, arith, false, length, refl, sym, true, ℕ, ⊎_elim, ◌++◌, ◌+◌, ◌<◌}
+use Rattle.std.proofs.Common.{◌∙◌, ◌∷◌, ◌≡◌}
 use Rattle.std.proofs.lemmas.Bool.{true≢false}
 use Rattle.std.proofs.lemmas.List.{length_push}
-use Rattle.std.proofs.lemmas.Option.{none-some, same_Some, slice_get_within}
-use Rattle.std.specs.Prelude.{slice_get}
+use Rattle.std.proofs.lemmas.Option.{same_Some, slice_get_within}
+use Rattle.std.specs.Prelude.{[], slice_get}
 use Rattle.nam_catalog.specs.declared.form.Form.{Form}
 use Rattle.nam_catalog.specs.declared.form.Form.TheVariants.{Held, Narrow, Wide}
-use Rattle.nam_ghost.proofs.ValueLemmas.{data_same, old_says}
+use Rattle.nam_ghost.proofs.ListLemmas.{got_end, got_front, got_push}
+use Rattle.nam_ghost.proofs.ValueLemmas.{data_same, mark_moved, old_says}
 use Rattle.nam_ghost.specs.Copiers.{IsCopy}
 use Rattle.nam_ghost.specs.Slots.{IsFreeSlot, Kept, KeptOk, SlotIs, copy_of, home, moved_of}
 use Rattle.nam_ghost.specs.Versions.{Chain, HasData, SlotImage, Version, current_number, current_word, old_header}
@@ -19,30 +20,7 @@ use Rattle.nam_layout.specs.declared.field.Place.{Place}
 use Rattle.nam_slots.specs.Change.{SameSlot}
 use Rattle.si_model.specs.declared.log.Stamp.{Stamp}
 
--- 1. Lists by number
-
-pub get_front : {X : Type 0} (xs : List X) (y z : X) (n : ℕ) → slice_get xs n ≡ Some z
-    → slice_get (xs ++ y ∷ []) n ≡ Some z
-get_front [] y z n e = absurd (none-some z e)
-get_front (x ∷ xs) y z zero e = e
-get_front (x ∷ xs) y z (suc n) e = get_front xs y z n e
-
-pub get_at_end : {X : Type 0} (xs : List X) (y : X) → slice_get (xs ++ y ∷ []) (length xs) ≡ Some y
-get_at_end [] y = refl
-get_at_end (x ∷ xs) y = get_at_end xs y
-
-pub get_more : {X : Type 0} (xs : List X) (y z : X) (n : ℕ) → slice_get (xs ++ y ∷ []) n ≡ Some z
-    → (slice_get xs n ≡ Some z) ⊎ ((n ≡ length xs) × (y ≡ z))
-get_more [] y z zero e = inr (refl, same_Some y z e)
-get_more [] y z (suc n) e = absurd (none-some z e)
-get_more (x ∷ xs) y z zero e = inl e
-get_more (x ∷ xs) y z (suc n) e =
-    ⊎_elim (λ there. inl there) (λ last. let a = last.0 in inr (omega arith, last.1)) (get_more xs y z n e)
-
 -- 2. A slot
-
-pub mark_moved : (form : Form) → is_moved form mark ≡ true
-mark_moved form = refl
 
 mark_stays : (form : Form) → with_moved form mark ≡ mark
 mark_stays Narrow = refl
@@ -78,7 +56,7 @@ module _ (place : Place) (slot : ℕ) where
         home_is = is.home_is;
         version_is =
             ap (λ vs. slice_get vs kept.number) later
-            ∙ get_front (versions chain) next.now kept.version kept.number is.version_is;
+            ∙ got_front (versions chain) (next.now ∷ []) kept.number kept.version is.version_is;
         next_is = λ version at. ⊎_elim (λ there. is.next_is version there)
             (λ (last : (kept.number + 1 ≡ length (versions chain)) × (next.now ≡ version)).
             let end = last.0 in
@@ -86,7 +64,7 @@ module _ (place : Place) (slot : ℕ) where
             let c = copy (sym is.home_is ∙ ap (home place) number) in
             ap (λ (v : Version). v.stamp) (sym last.1) ∙ sym c.next_is
             ∙ ap (λ (k : Kept). k.next) (same_Some c.kept kept (sym c.is)))
-            (get_more (versions chain) next.now version (kept.number + 1)
+            (got_push (versions chain) next.now version (kept.number + 1)
             (ap (λ vs. slice_get vs (kept.number + 1)) (sym later) ∙ at));
         fits = is.fits;
         next_fits = is.next_fits;
@@ -129,7 +107,7 @@ module _ (place : Place) (slot : ℕ) where
       → KeptOk place slot later chain (copy_of chain next)
   slot_copied later chain next got home_is header fits next_fits ending has body = record {
     home_is = home_is;
-    version_is = get_at_end chain.old chain.now;
+    version_is = got_end chain.old chain.now;
     next_is = λ version at.
         let short = slice_get_within (versions chain) (current_number chain + 1) version at in
         let long = length_push chain.old chain.now in absurd (omega arith);

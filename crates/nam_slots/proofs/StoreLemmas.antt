@@ -6,12 +6,12 @@ use Rattle.nam_calls.specs.declared.lock.LockPoint.TheVariants.{Peek}
 use Rattle.nam_calls.specs.declared.mover.MovePoint.{MovePoint}
 use Rattle.nam_calls.specs.declared.mover.MovePoint.TheVariants.{MoveFlag}
 use Rattle.nam_catalog.specs.declared.shape.Shape.{Shape}
-use Rattle.nam_cells.proofs.PlaceLemmas.{flags_law}
+use Rattle.nam_ghost.proofs.IdleLemmas.{aside_idle, rests_aside}
 use Rattle.nam_ghost.specs.Cells.{IsElsewhere}
 use Rattle.nam_ghost.specs.Chains.{ChainNext, Grows, IsNew, Stands}
-use Rattle.nam_ghost.specs.Locks.{LocksOk}
 use Rattle.nam_ghost.specs.Copiers.{Aside, Copier, CopierOk, SlotsOk, copier_at, copier_now, copier_of}
-use Rattle.nam_ghost.specs.Ghost.{Ghost, ghost_after, ghost_step, opening_ghost}
+use Rattle.nam_ghost.specs.Ghost.{Ghost, ghost_after, ghost_step}
+use Rattle.nam_ghost.specs.Idle.{IsIdle}
 use Rattle.nam_ghost.specs.Moments.{Observer, observer_of}
 use Rattle.nam_ghost.specs.Slots.{Kept, Ring, RowNext}
 use Rattle.nam_ghost.specs.Versions.{Chain, Version, slot_image, versions}
@@ -21,10 +21,6 @@ use Rattle.nam_layout.specs.Place.{place_at}
 use Rattle.nam_layout.specs.Rows.{row_of, width_at}
 use Rattle.nam_layout.specs.declared.field.Field.{Field}
 use Rattle.nam_layout.specs.declared.field.Field.TheVariants.{SlotHeader}
-use Rattle.nam_locks.proofs.IdleLemmas.{aside_idle, rests_aside}
-use Rattle.nam_locks.proofs.OpeningLemmas.{locks_open}
-use Rattle.nam_locks.proofs.StoreLemmas.{locks_keep}
-use Rattle.nam_locks.specs.Idle.{IsIdle}
 use Rattle.nam_protocol.proofs.GoesCommit.{ask_commit_goes}
 use Rattle.nam_protocol.proofs.PlainLemmas.{abandon_plain}
 use Rattle.nam_protocol.specs.Client.{client_abandon, client_after, client_ask}
@@ -38,20 +34,17 @@ use Rattle.nam_protocol.specs.declared.client.ClientState.{ClientState}
 use Rattle.nam_protocol.specs.declared.txn.CommitPoint.TheVariants.{Listing, Locking}
 use Rattle.nam_slots.proofs.CopierLemmas.{owned, slots_act}
 use Rattle.nam_slots.proofs.MoveLemmas.{FlagsAt}
-use Rattle.nam_slots.proofs.OpeningLemmas.{slots_open}
 use Rattle.nam_slots.proofs.OwnLemmas.{none_ok}
 use Rattle.nam_slots.proofs.RingLemmas.{row_goes}
 use Rattle.nam_slots.proofs.SpotLemmas.{none_changes}
 use Rattle.nam_slots.proofs.WordLemmas.{Client, idle_copier, stepped_copier, takes_slots}
 use Rattle.nam_slots.specs.Change.{RowsChange}
-use Rattle.nam_slots.specs.SlotsLaw.{KeepsLaw, NextLaw, ReachedLaw, RestsOn}
+use Rattle.nam_slots.specs.SlotsLaw.{KeepsLaw, LocksAfter, NextLaw, RestsOn}
 use Rattle.nam_slots.specs.Spots.{AllSame}
 use Rattle.nam_store.proofs.BaseLemmas.{asked_sort, does_law, step_sort}
-use Rattle.nam_store.proofs.ReachedLemmas.{reached_holds}
 use Rattle.nam_store.proofs.Lists.{get_set}
 use Rattle.nam_store.specs.Kinds.{MayWriteAt}
-use Rattle.nam_store.specs.Store.{Abandons, Asks, Cuts, StepsTo, Store, Takes, client_at, found_word, step}
-use Rattle.nam_store.specs.Store.{with_client}
+use Rattle.nam_store.specs.Store.{Abandons, Asks, Cuts, StepsTo, Store, Takes, client_at, found_word, step, with_client}
 use Rattle.nam_verbs.specs.declared.now.Now.{Now}
 use Rattle.nam_verbs.specs.declared.now.Now.TheVariants.{At}
 
@@ -130,6 +123,7 @@ module _ (shape : Shape) (store : Store) (ghost : Ghost) (rests : RestsOn shape 
 
     -- a word is taken
     module _ (place : CallPoint) (runs : client.cut ≡ false) (at : client.call ≡ Some (At place))
+        (locks : LocksAfter shape store (step shape store nth client) (Takes nth client place here runs at) ghost)
         (flags : AreFlagged) where
       abbrev after : ClientState
       after = client_after shape client (found_word shape store client)
@@ -148,8 +142,6 @@ module _ (shape : Shape) (store : Store) (ghost : Ghost) (rests : RestsOn shape 
       takes =
           let words = (step shape store nth client).words in
           let does = does_law shape store rests.base nth client place here at in
-          let goes = Takes nth client place here runs at in
-          let locks = locks_keep shape store (step shape store nth client) goes ghost rests.base rests.locks in
           let known : Client shape rests.base.limits m (memory shape words) ghost.chains ghost.rings rests.locks.rows
           rests.slots.rows nth Flagged
           (found_word shape store client) client after place = record {
@@ -181,38 +173,39 @@ module _ (shape : Shape) (store : Store) (ghost : Ghost) (rests : RestsOn shape 
           )
 
 pub step_is : (shape : Shape) (before after : Store) (goes : StepsTo shape before after) (ghost : Ghost)
-    (rests : RestsOn shape before ghost) (Flagged : ℕ → ℕ → Type 0) → AreFlagged shape before ghost rests Flagged
-    → let later = ghost_step shape before after goes ghost in
+    (rests : RestsOn shape before ghost) → LocksAfter shape before after goes ghost → (Flagged : ℕ → ℕ → Type 0)
+    → AreFlagged shape before ghost rests Flagged → let later = ghost_step shape before after goes ghost in
     StepIs shape before ghost rests Flagged after later.chains later.rings
-step_is shape before _ (Takes nth client place here runs at) ghost rests Flagged flags =
-    takes shape before ghost rests Flagged nth client here place runs at flags
-step_is shape before _ (Asks nth client asked here may words) ghost rests Flagged flags =
+step_is shape before _ (Takes nth client place here runs at) ghost rests locks Flagged flags =
+    takes shape before ghost rests Flagged nth client here place runs at locks flags
+step_is shape before _ (Asks nth client asked here may words) ghost rests locks Flagged flags =
     unmoved shape before ghost rests Flagged nth client here (client_ask shape client asked)
     (asks_own shape (memory shape before.words) ghost.chains ghost.rings client (client_ask shape client asked)
     (asked_sort shape before rests.base nth client here asked may))
-step_is shape before _ (Abandons nth client here gone) ghost rests Flagged flags =
+step_is shape before _ (Abandons nth client here gone) ghost rests locks Flagged flags =
     let plain = abandon_plain shape client (rests_aside client.call gone) in
     idle_after shape before ghost rests Flagged nth client here (client_abandon client) (aside_idle _ plain.aside)
-step_is shape before _ (Cuts nth client here) ghost rests Flagged flags =
+step_is shape before _ (Cuts nth client here) ghost rests locks Flagged flags =
     unmoved shape before ghost rests Flagged nth client here (client_cut client) (rests.slots.copiers nth client here)
 
 -- 3. The group
 
 pub slots_keep : KeepsLaw
-slots_keep shape before after goes ghost rests =
-    (step_is shape before after goes ghost rests (λ row number. Unit {0})
+slots_keep shape before after goes ghost rests locks =
+    (step_is shape before after goes ghost rests locks (λ row number. Unit {0})
     (λ nth client here table key position slot header at stands kept is. tt)).2
 
 -- what a step makes of each row, with any claim of what is flagged and of what is new
 pub rows_next : (shape : Shape) (before after : Store) (goes : StepsTo shape before after) (ghost : Ghost)
-    (rests : RestsOn shape before ghost) (Flagged : ℕ → ℕ → Type 0) → AreFlagged shape before ghost rests Flagged
-    → (row : ℕ) → IsRow shape row → (New : Version → Type 0) → let later = ghost_step shape before after goes ghost in
+    (rests : RestsOn shape before ghost) → LocksAfter shape before after goes ghost → (Flagged : ℕ → ℕ → Type 0)
+    → AreFlagged shape before ghost rests Flagged → (row : ℕ) → IsRow shape row → (New : Version → Type 0)
+    → let later = ghost_step shape before after goes ghost in
     ((later.chains row).old ≡ versions (ghost.chains row) → New (later.chains row).now)
     → RowNext (place_at shape row) (Flagged row) New (ghost.chains row) (ghost.rings row) (later.chains row)
     (later.rings row)
-rows_next shape before after goes ghost rests Flagged flags row is New new =
+rows_next shape before after goes ghost rests locks Flagged flags row is New new =
     let later = ghost_step shape before after goes ghost in
-    let all = step_is shape before after goes ghost rests Flagged flags in
+    let all = step_is shape before after goes ghost rests locks Flagged flags in
     row_goes (place_at shape row) (place_within_limits shape row rests.base.limits is).least_ring
     (slot_image (memory shape before.words) row) (slot_image (memory shape after.words) row) (ghost.chains row)
     (ghost.rings row) (rests.slots.rows row is) (Flagged row) New all.0 (later.chains row) (later.rings row) new
@@ -230,20 +223,8 @@ pub slots_next : NextLaw
 slots_next shape before after goes ghost ready row is =
     let m = memory shape before.words in
     let observers = map observer_of before.clients in
-    rows_next shape before after goes ghost ready.rests (IsElsewhere shape ghost.chains ghost.rings m ghost.cells)
-    (flags_law shape before ghost ready.rests.base ready.chains ready.rests.slots ready.cells) row is
+    rows_next shape before after goes ghost ready.rests ready.locks
+    (IsElsewhere shape ghost.chains ghost.rings m ghost.cells) ready.flags row is
     (IsNew (width_at shape.tables row) observers)
     (grown_new (width_at shape.tables row) observers (ghost.chains row)
     ((ghost_step shape before after goes ghost).chains row) (ready.grows row is))
-
--- 4. Each store that comes about
-
-pub slots_reached : ReachedLaw
-slots_reached shape limits rows loaded store ghost reached =
-    (reached_holds shape rows (opening_ghost shape rows) (ghost_step shape) limits loaded
-    (λ store ghost. LocksOk shape store ghost.chains × SlotsOk shape store ghost.chains ghost.rings)
-    (locks_open shape limits rows loaded, slots_open shape limits rows loaded)
-    (λ before after ghost goes base both. (
-      locks_keep shape before after goes ghost base both.0,
-      slots_keep shape before after goes ghost record { base = base; locks = both.0; slots = both.1 },
-    )) store ghost reached).1

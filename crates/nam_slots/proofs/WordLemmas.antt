@@ -5,7 +5,9 @@ use Rattle.std.proofs.lemmas.Option.{none-some}
 use Rattle.nam_calls.specs.declared.mover.MovePoint.{MovePoint}
 use Rattle.nam_catalog.specs.Fits.{FitsLimits}
 use Rattle.nam_catalog.specs.declared.shape.Shape.{Shape}
+use Rattle.nam_ghost.proofs.IdleLemmas.{aside_idle, begins_idle, ended_worker, idle_chains, same_place, snaps_idle}
 use Rattle.nam_ghost.specs.Copiers.{Copier, CopierOk, RowRing, copier_in, copier_now, copier_of, no_copier}
+use Rattle.nam_ghost.specs.Idle.{IsIdle, Verb}
 use Rattle.nam_ghost.specs.Locks.{HolderOk, RowOk}
 use Rattle.nam_ghost.specs.Slots.{Ring}
 use Rattle.nam_ghost.specs.Steps.{chains_after, commit_chains, commit_rings, move_rings, rings_after}
@@ -15,10 +17,6 @@ use Rattle.nam_layout.specs.Address.{IsRow}
 use Rattle.nam_layout.specs.Rows.{row_of}
 use Rattle.nam_layout.specs.declared.field.Field.{Field}
 use Rattle.nam_layout.specs.declared.field.Field.TheVariants.{Horizon, Key, Tag}
-use Rattle.nam_locks.proofs.IdleLemmas.{aside_idle, idle_chains}
-use Rattle.nam_locks.proofs.WordLemmas.{Verb, begins_idle, same_place, snaps_idle}
-use Rattle.nam_locks.specs.Idle.{IsIdle}
-use Rattle.nam_protocol.proofs.GoesClient.{on_answer_goes, step_lists, step_opens}
 use Rattle.nam_protocol.specs.Commit.{commit_after}
 use Rattle.nam_protocol.specs.Reader.{Reader, reader_at}
 use Rattle.nam_protocol.specs.Sorts.{Begins, Collects, Commits, Finds, IsKeyPlace, Moves, Reads, Snaps, StepOf}
@@ -123,10 +121,7 @@ stepped_copier client attempt before step = by_call step.state step.call
         ≡ copier_now client.worker state call
     by_call state (At (Committing at)) = refl
     by_call state (At _) = refl
-    by_call state (Over answer) =
-        let step : Stepped = record { state = state; call = Over answer } in
-        ap no_copier (on_answer_goes (λ (c : ClientState). c.worker ≡ client.worker) (step_lists client before step)
-        (step_opens attempt before step) answer (λ e. refl) (λ outcome e. refl) (λ outcome e. refl) (λ number e. refl))
+    by_call state (Over answer) = ap no_copier (ended_worker client attempt before state answer)
 
 -- 2. A word is taken
 

@@ -3,8 +3,8 @@
 use Rattle.std.specs.Prelude.{None, Some, false, true, ℕ, ◌+◌, ◌<◌, ◌≡◌, ◌≢◌, ◌⊎◌}
 use Rattle.nam_catalog.specs.declared.shape.Shape.{Shape}
 use Rattle.nam_ghost.specs.Copiers.{IsCopy}
-use Rattle.nam_ghost.specs.Slots.{IsFreeSlot, Kept, KeptOk, Ring, copy_ended, copy_of, flagged, home, marked}
-use Rattle.nam_ghost.specs.Slots.{moved_of, with_copy}
+use Rattle.nam_ghost.specs.Slots.{IsFreeSlot, Kept, KeptOk, Ring, copy_ended, copy_of, flagged, home, marked, moved_of}
+use Rattle.nam_ghost.specs.Slots.{with_copy}
 use Rattle.nam_ghost.specs.Versions.{Chain, SlotImage, current_number, slot_image, versions}
 use Rattle.nam_header.specs.Stamp.{mark, with_moved}
 use Rattle.nam_layout.specs.Address.{IsRow}

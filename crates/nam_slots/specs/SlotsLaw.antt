@@ -6,14 +6,14 @@ use Rattle.nam_calls.specs.declared.record.InstallPoint.{InstallPoint}
 use Rattle.nam_catalog.specs.Fits.{FitsLimits}
 use Rattle.nam_catalog.specs.declared.shape.Shape.{Shape}
 use Rattle.nam_ghost.specs.Cells.{IsElsewhere}
-use Rattle.nam_ghost.specs.Chains.{ChainNext, ChainsOk, IsNew}
+use Rattle.nam_ghost.specs.Chains.{ChainNext, IsNew}
 use Rattle.nam_ghost.specs.Copiers.{SlotsOk}
-use Rattle.nam_ghost.specs.Ghost.{Ghost, IsReachedWith, ghost_step, opening_ghost}
+use Rattle.nam_ghost.specs.Ghost.{Ghost, ghost_step, opening_ghost}
 use Rattle.nam_ghost.specs.Holders.{record_row}
 use Rattle.nam_ghost.specs.Locks.{LocksOk}
 use Rattle.nam_ghost.specs.Moments.{observer_of}
 use Rattle.nam_ghost.specs.Slots.{RowNext, home}
-use Rattle.nam_ghost.specs.Upkeep.{CellsOk}
+use Rattle.nam_ghost.specs.Upkeep.{FlagsElsewhere}
 use Rattle.nam_ghost.specs.Versions.{Chain, HasData, IsNth, Version, current_number, old_word}
 use Rattle.nam_header.specs.Stamp.{is_moved, mark, stamp_word}
 use Rattle.nam_layout.specs.Address.{IsRow, IsSlot}
@@ -40,12 +40,16 @@ module _ (shape : Shape) where
     pub locks : LocksOk shape before ghost.chains
     pub slots : SlotsOk shape before ghost.chains ghost.rings
 
+  -- what is claimed of locks after the step
+  abbrev pub LocksAfter : (before after : Store) → StepsTo shape before after → Ghost → Type 0
+  LocksAfter before after goes ghost = LocksOk shape after (ghost_step shape before after goes ghost).chains
+
   -- And what it takes to be one that others rely on: that each chain goes on as it may, so that a new version is new;
-  -- and what is said of cells, so that the moved flag is set only at a version that stands elsewhere.
+  -- and that the moved flag is set only at a version that stands elsewhere.
   pub record GoesOn (before after : Store) (goes : StepsTo shape before after) (ghost : Ghost) : Type 0 where
     pub rests : RestsOn before ghost
-    pub chains : ChainsOk shape before ghost.chains
-    pub cells : CellsOk shape before ghost.chains ghost.rings ghost.cells
+    pub locks : LocksAfter before after goes ghost
+    pub flags : FlagsElsewhere shape before ghost.chains ghost.rings ghost.cells
     pub grows : (row : ℕ) → IsRow shape row
         → ChainNext (width_at shape.tables row) (map observer_of before.clients) (ghost.chains row)
         ((ghost_step shape before after goes ghost).chains row)
@@ -58,13 +62,9 @@ OpensLaw = (shape : Shape) → FitsLimits shape → (rows : List Row) → AreLoa
 
 abbrev pub KeepsLaw : Type 0
 KeepsLaw = (shape : Shape) (before after : Store) (goes : StepsTo shape before after) (ghost : Ghost)
-    → RestsOn shape before ghost → let later = ghost_step shape before after goes ghost in
+    → RestsOn shape before ghost → LocksAfter shape before after goes ghost
+    → let later = ghost_step shape before after goes ghost in
     SlotsOk shape after later.chains later.rings
-
--- so each store that comes about has it, since it has what is claimed of locks
-abbrev pub ReachedLaw : Type 0
-ReachedLaw = (shape : Shape) → FitsLimits shape → (rows : List Row) → AreLoaded shape rows → (store : Store)
-    → (ghost : Ghost) → IsReachedWith shape rows store ghost → SlotsOk shape store ghost.chains ghost.rings
 
 abbrev pub NextLaw : Type 0
 NextLaw = (shape : Shape) (before after : Store) (goes : StepsTo shape before after) (ghost : Ghost)
@@ -124,6 +124,6 @@ DirtyLaw = (shape : Shape) (store : Store) (ghost : Ghost) → RestsOn shape sto
 -- a slot has the mark after a step only where its header had the moved flag before, as the mark has too
 abbrev pub MarkedLaw : Type 0
 MarkedLaw = (shape : Shape) (before after : Store) (goes : StepsTo shape before after) (ghost : Ghost)
-    → RestsOn shape before ghost → (row slot : ℕ) → IsSlot shape row slot
+    → RestsOn shape before ghost → LocksAfter shape before after goes ghost → (row slot : ℕ) → IsSlot shape row slot
     → memory shape after.words (SlotHeader row slot) ≡ mark
     → is_moved shape.form (memory shape before.words (SlotHeader row slot)) ≡ true

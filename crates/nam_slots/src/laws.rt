@@ -1,20 +1,19 @@
 //! What holds of slots of old versions, step by step, and in words of slots alone.
 
 ghost use Rattle.nam_slots.specs.SlotsLaw.{CopiedLaw, DirtyLaw, KeepsLaw, MarkedLaw, NextLaw, OpensLaw};
-ghost use Rattle.nam_slots.specs.SlotsLaw.{ReachedLaw, WholeLaw};
+ghost use Rattle.nam_slots.specs.SlotsLaw.{WholeLaw};
 
 /// What is claimed of slots (`SlotsOk`).
 ///
 /// The opening has it, with any rows that may be loaded (`opening`). Each verb, each call that is asked, each
 /// transaction that is given up and each stop keeps it (`step`): of a store that meets what holds of every store, and
-/// what is claimed of locks (`RestsOn`). So each store that comes about has it (`reached`). Where each chain goes on as
-/// it may, and cells are as they are claimed to be (`GoesOn`), the step makes of each row only what all others rely on
-/// (`next`): the mark in a free slot, a whole copy in a marked one, the moved flag at a version that stands elsewhere,
-/// or a new version, where the one before stands in its slot.
+/// what is claimed of locks (`RestsOn`), which is so after the step too. Where each chain goes on as it may, and what
+/// is flagged next stands elsewhere (`GoesOn`), the step makes of each row only what all others rely on (`next`): the
+/// mark in a free slot, a whole copy in a marked one, the moved flag at a version that stands elsewhere, or a new
+/// version, where the one before stands in its slot.
 pub fn slots_law()
     ensures opening { OpensLaw }
     ensures step { KeepsLaw }
-    ensures reached { ReachedLaw }
     ensures next { NextLaw }
 {}
 

@@ -1,22 +1,22 @@
 -- What one client's step makes of a chain keeps what is claimed of it, and is what a step may make of it.
-use Rattle.std.proofs.Common.{List, Some, [], ap, arith, false, length, slice_get, subst, sym, true, ℕ}
-use Rattle.std.proofs.Common.{⊎_elim, ◌++◌, ◌+◌, ◌-◌, ◌<◌, ◌∙◌, ◌∷◌, ◌≡◌, ◌≤◌, ◌⊎◌}
-use Rattle.std.specs.Prelude.{slice_index, slice_set}
+use Rattle.std.proofs.Common.{List, Some, [], ap, arith, false, length, slice_get, subst, sym, true, ℕ, ⊎_elim, ◌++◌}
+use Rattle.std.proofs.Common.{◌+◌, ◌-◌, ◌<◌, ◌∙◌, ◌∷◌, ◌≡◌, ◌≤◌, ◌⊎◌}
 use Rattle.std.proofs.lemmas.Bool.{both_ways, false_from_ne_true}
 use Rattle.std.proofs.lemmas.List.{length_push}
 use Rattle.std.proofs.lemmas.Option.{slice_get_within}
-use Rattle.si_model.specs.Lists.{Listed, Pairwise}
-use Rattle.si_model.proofs.ListLemmas.{listed_append_cases, listed_append_left}
-use Rattle.nam_header.specs.Visible.{IsLoaders, IsReached, is_visible}
+use Rattle.std.specs.Prelude.{slice_index, slice_set}
 use Rattle.nam_calls.specs.Fits.{HasWidth}
-use Rattle.nam_store.specs.Everyone.{Someone}
+use Rattle.nam_ghost.proofs.ListLemmas.{got_end, got_front, got_push, pairs_push, someone_stays}
+use Rattle.nam_ghost.proofs.OrderLemmas.{IsSnap, sees_front, snap_found}
+use Rattle.nam_ghost.proofs.VisibleLemmas.{visible_says}
 use Rattle.nam_ghost.specs.Chains.{ChainNext, ChainOk, Grows, IsSeenBy, Stands, WrittenBy}
 use Rattle.nam_ghost.specs.Moments.{AreObservers, Observer}
 use Rattle.nam_ghost.specs.Versions.{Chain, IsNth, IsVersion, Version, versions}
+use Rattle.nam_header.specs.Visible.{IsLoaders, IsReached, is_visible}
+use Rattle.nam_store.specs.Everyone.{Someone}
 use Rattle.nam_versions.specs.Turn.{ChainGoes, Installs, Overwrites, Stays}
-use Rattle.nam_versions.proofs.ListLemmas.{pairs_pushed, pushed_before, pushed_cases, pushed_last, someone_stays}
-use Rattle.nam_versions.proofs.OrderLemmas.{IsSnap, sees_front, snap_found}
-use Rattle.nam_versions.proofs.VisibleLemmas.{visible_says}
+use Rattle.si_model.proofs.ListLemmas.{listed_append_cases, listed_append_left}
+use Rattle.si_model.specs.Lists.{Listed, Pairwise}
 
 -- 1. Versions stay with their numbers
 
@@ -27,7 +27,7 @@ versions_stay width observers chain later (Stands old now) number version is =
     (λ t. slice_get (old t ++ now t ∷ []) number) ∙ is
 versions_stay width observers chain later (Grows old new) number version is =
     ap (λ xs. slice_get (xs ++ later.now ∷ []) number) old
-    ∙ pushed_before (versions chain) later.now version number is
+    ∙ got_front (versions chain) (later.now ∷ []) number version is
 
 pub versions_grow : (width nth : ℕ) (observer : Observer) (chain later : Chain)
     → ChainGoes width nth observer chain later → (version : Version) → IsVersion chain version
@@ -49,7 +49,7 @@ seen_stays width observers chain later (Grows old new) s snap number version is 
     (λ (last : (number ≡ length (versions chain)) × (later.now ≡ version)).
     absurd (both_ways (is_visible later.now.stamp s) (new.hidden s snap)
     (ap (λ (x : Version). is_visible x.stamp s) last.1 ∙ sees)))
-    (pushed_cases (versions chain) later.now version number
+    (got_push (versions chain) later.now version number
     (ap (λ xs. slice_get (xs ++ later.now ∷ []) number) (sym old) ∙ is))
 
 -- 2. Of observers, of whom one goes on
@@ -99,11 +99,11 @@ module _ (start workers : ℕ) (V : ℕ → ℕ) (observers : List Observer) (ok
     sees_all number earlier is =
         ⊎_elim (λ (before : slice_get chain.old number ≡ Some earlier).
         sees_front start workers V observers ok width chain chain_ok version.seen seen_is number (length chain.old)
-        earlier chain.now (slice_get_within chain.old number earlier before) is (pushed_last chain.old chain.now)
+        earlier chain.now (slice_get_within chain.old number earlier before) is (got_end chain.old chain.now)
         new.sees)
         (λ (last : (number ≡ length chain.old) × (chain.now ≡ earlier)).
         subst (λ (x : Version). IsSeenBy x version) last.1 new.sees)
-        (pushed_cases chain.old chain.now earlier number is)
+        (got_push chain.old chain.now earlier number is)
 
   pub chain_next : (later : Chain) → ChainGoes width nth was chain later → ChainNext width observers chain later
   chain_next later (Stays old now) = Stands old now
@@ -142,16 +142,16 @@ module _ (start workers : ℕ) (V : ℕ → ℕ) (observers : List Observer) (ok
               ⊎_elim (λ (before : slice_get (versions chain) 0 ≡ Some version). chain_ok.first version before)
               (λ (last : (0 ≡ length (versions chain)) × (later.now ≡ version)).
               let none = last.0 in absurd (omega arith))
-              (pushed_cases (versions chain) later.now version 0 (at 0 ∙ e));
+              (got_push (versions chain) later.now version 0 (at 0 ∙ e));
           later = λ n version e. still_written version
               (⊎_elim (λ (before : slice_get (versions chain) (n + 1) ≡ Some version).
               chain_ok.later n version before)
               (λ (last : (n + 1 ≡ length (versions chain)) × (later.now ≡ version)).
               subst (λ (x : Version). Someone (WrittenBy x) observers) last.1
               (nth, (was, (here, written_now later.now new))))
-              (pushed_cases (versions chain) later.now version (n + 1) (at (n + 1) ∙ e)));
+              (got_push (versions chain) later.now version (n + 1) (at (n + 1) ∙ e)));
           order = subst (Pairwise IsSeenBy) (sym all)
-              (pairs_pushed IsSeenBy (versions chain) later.now chain_ok.order (sees_all later.now new));
+              (pairs_push IsSeenBy (versions chain) later.now chain_ok.order (sees_all later.now new));
           wide = λ version e.
               ⊎_elim (λ (before : IsVersion chain version). chain_ok.wide version before)
               (λ (last : (later.now ≡ version) ⊎ ⊥).

@@ -1,6 +1,3 @@
-pub mod VisibleLemmas
-pub mod ListLemmas
-pub mod OrderLemmas
 pub mod ChainLemmas
 pub mod PublishedLemmas
 pub mod OpeningLemmas

@@ -1,29 +1,29 @@
 -- At the opening each row has its loaded version alone, and nothing is published.
-use Rattle.std.proofs.Common.{List, [], ap, arith, length, map, refl, slice_get, subst, suc, sym}
-use Rattle.std.proofs.Common.{zero, ℕ, ⊎_elim, ◌+◌, ◌∙◌, ◌∷◌, ◌≡◌}
+use Rattle.std.proofs.Common.{List, [], ap, arith, length, map, refl, slice_get, subst, suc, sym, zero, ℕ, ⊎_elim, ◌+◌}
+use Rattle.std.proofs.Common.{◌∙◌, ◌∷◌, ◌≡◌}
 use Rattle.std.proofs.lemmas.List.{length-map}
 use Rattle.std.proofs.lemmas.Option.{none-some, same_Some}
-use Rattle.si_model.specs.declared.row.Row.{Row}
-use Rattle.nam_catalog.specs.declared.shape.Shape.{Shape}
-use Rattle.nam_header.specs.Stamp.{is_deleted}
-use Rattle.nam_layout.specs.Place.{place_at}
-use Rattle.nam_layout.specs.declared.field.Field.{Field}
-use Rattle.nam_layout.specs.declared.field.Field.TheVariants.{Header, Word}
-use Rattle.nam_layout.specs.declared.field.Place.{Place}
+use Rattle.nam_calls.proofs.FallsTests.{wide_or_none}
 use Rattle.nam_calls.specs.Fits.{HasWidth}
 use Rattle.nam_calls.specs.Memory.{memory}
-use Rattle.nam_calls.proofs.FallsTests.{wide_or_none}
-use Rattle.nam_protocol.specs.Opening.{opening_words}
-use Rattle.nam_protocol.specs.Schedule.{numbers_from}
-use Rattle.nam_protocol.specs.Telling.{new_client}
-use Rattle.nam_store.specs.Opening.{opening_store}
-use Rattle.nam_store.proofs.OpeningLemmas.{opening_client}
+use Rattle.nam_catalog.specs.declared.shape.Shape.{Shape}
+use Rattle.nam_ghost.proofs.ObserverLemmas.{observed_client}
 use Rattle.nam_ghost.specs.Chains.{ChainOk, IsLoaded}
 use Rattle.nam_ghost.specs.Ghost.{loaded_chain, loaded_version, opening_ghost}
 use Rattle.nam_ghost.specs.Moments.{Observer, observer_of}
 use Rattle.nam_ghost.specs.Publications.{PublicationsOk}
 use Rattle.nam_ghost.specs.Versions.{Version}
-use Rattle.nam_moments.proofs.OpeningLemmas.{observed_client}
+use Rattle.nam_header.specs.Stamp.{is_deleted}
+use Rattle.nam_layout.specs.Place.{place_at}
+use Rattle.nam_layout.specs.declared.field.Field.{Field}
+use Rattle.nam_layout.specs.declared.field.Field.TheVariants.{Header, Word}
+use Rattle.nam_layout.specs.declared.field.Place.{Place}
+use Rattle.nam_protocol.specs.Opening.{opening_words}
+use Rattle.nam_protocol.specs.Schedule.{numbers_from}
+use Rattle.nam_protocol.specs.Telling.{new_client}
+use Rattle.nam_store.proofs.OpeningLemmas.{opening_client}
+use Rattle.nam_store.specs.Opening.{opening_store}
+use Rattle.si_model.specs.declared.row.Row.{Row}
 use Rattle.nam_versions.specs.ChainsLaw as chains
 use Rattle.nam_versions.specs.PublishedLaw as published
 

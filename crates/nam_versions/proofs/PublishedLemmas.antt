@@ -1,17 +1,17 @@
 -- What one client's step makes of publications keeps what is claimed of them.
-use Rattle.std.proofs.Common.{List, Some, [], ap, arith, length, refl, subst, sym, ℕ, ⊎_elim, ◌++◌, ◌+◌, ◌∙◌, ◌∷◌}
-use Rattle.std.proofs.Common.{slice_get, ◌≡◌, ◌⊎◌}
-use Rattle.std.specs.Prelude.{slice_set}
+use Rattle.std.proofs.Common.{List, Some, [], ap, arith, length, refl, slice_get, subst, sym, ℕ, ⊎_elim, ◌++◌, ◌+◌, ◌∙◌}
+use Rattle.std.proofs.Common.{◌∷◌, ◌≡◌, ◌⊎◌}
 use Rattle.std.proofs.lemmas.List.{length_push}
-use Rattle.si_model.specs.Lists.{Listed}
-use Rattle.si_model.proofs.ListLemmas.{listed_append_cases}
-use Rattle.nam_store.specs.Everyone.{Everyone, put}
-use Rattle.nam_store.proofs.Lists.{everyone_set, put_beside, put_here}
+use Rattle.std.specs.Prelude.{slice_set}
+use Rattle.nam_ghost.proofs.ListLemmas.{got_push}
 use Rattle.nam_ghost.specs.Moments.{Observer}
 use Rattle.nam_ghost.specs.Publications.{IsInstalled, Publication, PublicationsOk, published_version}
 use Rattle.nam_ghost.specs.Versions.{Chain, IsVersion, Version}
+use Rattle.nam_store.proofs.Lists.{everyone_set, put_beside, put_here}
+use Rattle.nam_store.specs.Everyone.{Everyone, put}
 use Rattle.nam_versions.specs.Turn.{Adds, Keeps, PublishedGoes, Publishes}
-use Rattle.nam_versions.proofs.ListLemmas.{pushed_cases}
+use Rattle.si_model.proofs.ListLemmas.{listed_append_cases}
+use Rattle.si_model.specs.Lists.{Listed}
 
 module _ (start : ℕ) (chains later : ℕ → Chain)
     (grows : (row : ℕ) (version : Version) → IsVersion (chains row) version → IsVersion (later row) version) where
@@ -49,7 +49,7 @@ module _ (start : ℕ) (chains later : ℕ → Chain)
             let next : was.number + 1 ≡ start + k + 1 = omega arith in
             sym (ap (λ (x : Publication). x.stamp) last.1) ∙ by.stamp
             ∙ ap (λ (n : ℕ). record { thread = nth + 1; number = n }) next)
-            (pushed_cases (published nth) commit other k (ap (λ (l : List Publication). slice_get l k) (sym here) ∙ e));
+            (got_push (published nth) commit other k (ap (λ (l : List Publication). slice_get l k) (sym here) ∙ e));
         installed = λ other e. still_installed other
             (⊎_elim (λ (before : Listed other (published nth)). ok.installed other before)
             (λ (last : (commit ≡ other) ⊎ ⊥).

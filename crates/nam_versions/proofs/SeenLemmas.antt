@@ -1,45 +1,40 @@
 -- What follows for snapshots that were taken, and that stamps come once.
-use Rattle.std.proofs.Common.{List, ap, arith, inl, inr, map, subst, suc, sym, true, zero, ℕ, ⊎_elim}
-use Rattle.std.proofs.Common.{◌+◌, ◌-◌, ◌<◌, ◌∙◌, ◌≡◌, ◌≤◌, ◌⊎◌}
-use Rattle.si_model.specs.Lists.{Listed}
+use Rattle.std.proofs.Common.{List, ap, arith, inl, inr, map, subst, suc, sym, true, zero, ℕ, ⊎_elim, ◌+◌, ◌-◌, ◌<◌}
+use Rattle.std.proofs.Common.{◌∙◌, ◌≡◌, ◌≤◌, ◌⊎◌}
 use Rattle.std.proofs.lemmas.Option.{slice_get_within}
-use Rattle.si_model.specs.declared.log.Stamp.{Stamp}
+use Rattle.nam_calls.specs.Memory.{memory}
 use Rattle.nam_catalog.specs.declared.shape.Shape.{Shape}
+use Rattle.nam_ghost.proofs.ChainLemmas.{once}
+use Rattle.nam_ghost.proofs.ListLemmas.{got_listed, someone_stays}
+use Rattle.nam_ghost.proofs.OrderLemmas.{IsSnap, sees_front, snap_found, snap_wide}
+use Rattle.nam_ghost.proofs.SnapshotLemmas.{snap_taken, taken_snap}
+use Rattle.nam_ghost.proofs.VisibleLemmas.{visible_says}
+use Rattle.nam_ghost.specs.Chains.{ChainOk, IsLoaded, WrittenBy}
+use Rattle.nam_ghost.specs.Commits.{CommitsOk}
+use Rattle.nam_ghost.specs.Ghost.{Ghost, ghost_step}
+use Rattle.nam_ghost.specs.Moments.{IsTaken, Observer, observer_of, vector_of}
+use Rattle.nam_ghost.specs.Versions.{Chain, IsNth, Version}
 use Rattle.nam_header.specs.Visible.{IsLoaders, IsReached, is_visible}
 use Rattle.nam_layout.specs.Address.{IsRow}
 use Rattle.nam_layout.specs.Rows.{width_at}
-use Rattle.nam_calls.specs.Memory.{memory}
+use Rattle.nam_store.proofs.Lists.{some_within}
 use Rattle.nam_store.specs.Everyone.{Someone}
 use Rattle.nam_store.specs.Store.{Store}
-use Rattle.nam_store.proofs.Lists.{some_within}
-use Rattle.nam_ghost.specs.Chains.{ChainOk, IsLoaded, WrittenBy}
-use Rattle.nam_ghost.specs.Ghost.{Ghost, ghost_step}
-use Rattle.nam_ghost.specs.Moments.{Observer, observer_of, vector_of}
-use Rattle.nam_ghost.specs.Versions.{Chain, IsNth, Version}
-use Rattle.nam_ghost.proofs.ChainLemmas.{once}
-use Rattle.nam_moments.specs.SnapshotsLaw.{IsTaken}
-use Rattle.nam_moments.proofs.SnapshotLemmas.{observer_at}
-use Rattle.nam_versions.specs.ChainsLaw.{RestsOn}
-use Rattle.nam_versions.specs.PublishedLaw.{IsPublished}
-use Rattle.nam_versions.specs.SeenLaw.{Begins, ComesAfter, FrontLaw, Goes, Sees, StaysLaw, WholeLaw}
 use Rattle.nam_versions.proofs.ChainLemmas.{seen_stays, versions_stay}
-use Rattle.nam_versions.proofs.ListLemmas.{listed_at, someone_stays}
-use Rattle.nam_versions.proofs.OrderLemmas.{IsSnap, sees_front, snap_found, snap_wide}
-use Rattle.nam_versions.proofs.StoreLemmas.{chains_next, rests_keep, rests_reached, step_turn}
-use Rattle.nam_versions.proofs.VisibleLemmas.{visible_says}
+use Rattle.nam_versions.proofs.StoreLemmas.{chains_next, step_turn}
+use Rattle.nam_versions.specs.PublishedLaw.{IsPublished}
+use Rattle.nam_versions.specs.SeenLaw.{FrontLaw, Sees, StaysLaw, WholeLaw}
+use Rattle.si_model.specs.Lists.{Listed}
+use Rattle.si_model.specs.declared.log.Stamp.{Stamp}
 use Rattle.nam_versions.specs.ChainsLaw as chains
 use Rattle.nam_versions.specs.PublishedLaw as published
 
-module _ (shape : Shape) (store : Store) (ghost : Ghost) (rests : RestsOn shape store ghost) where
+module _ (shape : Shape) (store : Store) (ghost : Ghost) (rests : CommitsOk shape store ghost) where
   abbrev observers : List Observer
   observers = map observer_of store.clients
 
   abbrev V : ℕ → ℕ
   V = vector_of (memory shape store.words)
-
-  pub taken_snap : (s : List ℕ) → IsTaken store s → IsSnap observers s
-  taken_snap s (nth, (client, (here, listed))) =
-      (nth, (observer_of client, (observer_at shape store rests.moments nth client here, listed)))
 
   -- 1. What a snapshot contains is published and installed
 
@@ -54,7 +49,7 @@ module _ (shape : Shape) (store : Store) (ghost : Ghost) (rests : RestsOn shape 
       let many = ok.all in
       let k = number - shape.start - 1 in
       let at = some_within (ghost.published nth) k (omega arith) in
-      let listed = listed_at (ghost.published nth) k at.0 at.1 in
+      let listed = got_listed (ghost.published nth) k at.0 at.1 in
       let number_is : shape.start + k + 1 ≡ number = omega arith in
       record {
         nth = nth;
@@ -70,7 +65,7 @@ module _ (shape : Shape) (store : Store) (ghost : Ghost) (rests : RestsOn shape 
   contained_installed s taken stamp sees least =
       ⊎_elim (λ (loaders : IsLoaders stamp). let none = loaders.1 in absurd (omega arith))
       (λ (reached : IsReached stamp s).
-      let snap = taken_snap s taken in
+      let snap = taken_snap store s taken in
       let nth = stamp.thread - 1 in
       let some = reached.0 in
       let few = reached.1 in
@@ -98,7 +93,7 @@ module _ (shape : Shape) (store : Store) (ghost : Ghost) (rests : RestsOn shape 
     front_seen s taken a b u v less at sees = record {
       is = at;
       visible = sees_front shape.start shape.workers V observers rests.moments (width_at shape.tables row) chain
-          chain_ok s (taken_snap s taken) a b u v less at sees.is sees.visible;
+          chain_ok s (taken_snap store s taken) a b u v less at sees.is sees.visible;
     }
 
     -- 3. Each version that it sees is the loader's, or published and installed
@@ -121,83 +116,58 @@ module _ (shape : Shape) (store : Store) (ghost : Ghost) (rests : RestsOn shape 
             let before = by.before in
             omega arith
 
--- 4. It sees the same whatever comes after
+-- 4. It sees the same after a step
 
-module _ (shape : Shape) (store : Store) (ghost : Ghost) (rests : RestsOn shape store ghost) (row : ℕ)
-    (is : IsRow shape row) (s : List ℕ) (snap : IsSnap (map observer_of store.clients) s) where
-  -- the snapshot is still one that was taken, and a row's versions that it sees are those that it saw
-  record SeesSame (after : Store) (later : Ghost) : Type 0 where
-    holds : RestsOn shape after later
-    taken : IsSnap (map observer_of after.clients) s
-    stays : (number : ℕ) (version : Version) → IsNth (ghost.chains row) number version
-        → IsNth (later.chains row) number version
-    was : (number : ℕ) (version : Version) → IsNth (later.chains row) number version
-        → is_visible version.stamp s ≡ true → IsNth (ghost.chains row) number version
+pub seen_same : StaysLaw
+seen_same shape before after goes ghost ok next row is s taken =
+    let snap = taken_snap before s taken in
+    let later = ghost_step shape before after goes ghost in
+    let turn = step_turn shape before after goes ghost ok next in
+    let width = width_at shape.tables row in
+    let observers = map observer_of before.clients in
+    let grows = chains_next shape before after goes ghost ok next row is in (
+      snap_taken after s
+          (subst (λ all. IsSnap all s) (sym turn.observers)
+          (someone_stays (λ _ (observer : Observer). Listed s observer.snaps) observers turn.nth turn.was turn.is
+          turn.here (turn.more s) snap)),
+      λ number version. (
+        λ sees. record {
+          is = versions_stay width observers (ghost.chains row) (later.chains row) grows number version sees.is;
+          visible = sees.visible;
+        },
+        λ sees. record {
+          is = seen_stays width observers (ghost.chains row) (later.chains row) grows s snap number version sees.is
+              sees.visible;
+          visible = sees.visible;
+        },
+      ),
+    )
 
-  along : (after : Store) (later : Ghost) → ComesAfter shape store ghost after later → SeesSame after later
-  along _ _ Begins = record {
-    holds = rests;
-    taken = snap;
-    stays = λ number version at. at;
-    was = λ number version at sees. at;
-  }
-  along _ _ (Goes before after known comes goes) =
-      let same = along before known comes in
-      let later = ghost_step shape before after goes known in
-      let turn = step_turn shape before after goes known same.holds in
-      let width = width_at shape.tables row in
-      let observers = map observer_of before.clients in
-      let next = chains_next shape before after goes known same.holds row is in
-      record {
-        holds = rests_keep shape before after goes known same.holds;
-        taken = subst (λ all. IsSnap all s) (sym turn.observers)
-            (someone_stays (λ _ (observer : Observer). Listed s observer.snaps) observers turn.nth turn.was turn.is
-            turn.here (turn.more s) same.taken);
-        stays = λ number version at.
-            versions_stay width observers (known.chains row) (later.chains row) next number version
-            (same.stays number version at);
-        was = λ number version at sees. same.was number version
-            (seen_stays width observers (known.chains row) (later.chains row) next s same.taken number version at sees)
-            sees;
-      }
-
--- 5. The laws
+-- 5. Stamps come once
 
 pub chains_once : chains.OnceLaw
-chains_once shape limits rows loaded store ghost reached row is =
-    let rests = rests_reached shape limits rows loaded store ghost reached in
-    once (width_at shape.tables row) (map observer_of store.clients) (ghost.chains row) (rests.chains row is)
-
-pub published_installed : published.InstalledLaw
-published_installed shape limits rows loaded store ghost reached =
-    contained_installed shape store ghost (rests_reached shape limits rows loaded store ghost reached)
+chains_once shape store ghost ok row is =
+    once (width_at shape.tables row) (map observer_of store.clients) (ghost.chains row) (ok row is)
 
 pub published_once : published.OnceLaw
-published_once shape limits rows loaded store ghost reached nth other k l one two within inside here there same =
-    let rests = rests_reached shape limits rows loaded store ghost reached in
-    let all = rests.moments.all in
+published_once shape store ghost ok nth other k l one two within inside here there same =
+    let all = ok.moments.all in
     let observers = map observer_of store.clients in
     let a = some_within observers nth (omega arith) in
     let b = some_within observers other (omega arith) in
-    let stamps = sym ((rests.published nth a.0 a.1).stamped k one here) ∙ same
-    ∙ (rests.published other b.0 b.1).stamped l two there in
+    let stamps = sym ((ok.published nth a.0 a.1).stamped k one here) ∙ same
+    ∙ (ok.published other b.0 b.1).stamped l two there in
     let thread = ap (λ (s : Stamp). s.thread) stamps in
     let number = ap (λ (s : Stamp). s.number) stamps in
     (omega arith, omega arith)
 
-pub seen_front : FrontLaw
-seen_front shape limits rows loaded store ghost reached =
-    front_seen shape store ghost (rests_reached shape limits rows loaded store ghost reached)
+-- 6. The laws
 
-pub seen_same : StaysLaw
-seen_same shape limits rows loaded store ghost reached row is s taken after later comes number version =
-    let rests = rests_reached shape limits rows loaded store ghost reached in
-    let snap = taken_snap shape store ghost rests s taken in
-    let same = along shape store ghost rests row is s snap after later comes in (
-      λ sees. record { is = same.stays number version sees.is; visible = sees.visible },
-      λ sees. record { is = same.was number version sees.is sees.visible; visible = sees.visible },
-    )
+pub published_installed : published.InstalledLaw
+published_installed = contained_installed
+
+pub seen_front : FrontLaw
+seen_front = front_seen
 
 pub seen_whole : WholeLaw
-seen_whole shape limits rows loaded store ghost reached =
-    whole_seen shape store ghost (rests_reached shape limits rows loaded store ghost reached)
+seen_whole = whole_seen

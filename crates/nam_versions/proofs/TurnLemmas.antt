@@ -1,19 +1,31 @@
 -- What a word makes of chains and of publications, by the point at which its client is.
-use Rattle.std.proofs.Common.{List, None, Option, Some, ap, arith, length, option_map, refl, subst, sym, true, ℕ}
-use Rattle.std.proofs.Common.{◌+◌, ◌∙◌, ◌==◌, ◌≡◌}
+use Rattle.std.proofs.Common.{List, None, Option, Some, ap, arith, length, option_map, refl, subst, sym, true, ℕ, ◌+◌}
+use Rattle.std.proofs.Common.{◌==◌, ◌∙◌, ◌≡◌}
 use Rattle.std.proofs.lemmas.Option.{slice_get-map}
-use Rattle.nam_verbs.specs.declared.now.Now.TheVariants.{At}
-use Rattle.nam_verbs.proofs.TestLemmas.{by_test}
+use Rattle.nam_calls.specs.Fits.{HasWidth}
+use Rattle.nam_calls.specs.Memory.{memory}
+use Rattle.nam_calls.specs.declared.lock.LockPoint.TheVariants.{GiveBack, Peek, Seize}
+use Rattle.nam_calls.specs.declared.record.InstallPoint.TheVariants.{InstallCount, InstallHead, InstallWord}
 use Rattle.nam_catalog.specs.declared.shape.Shape.{Shape}
+use Rattle.nam_ghost.proofs.EntryLemmas.{IsNoEntry, commit_no_entry}
+use Rattle.nam_ghost.proofs.SnapshotLemmas.{observer_ok}
+use Rattle.nam_ghost.specs.Holders.{holder_of, record_row}
+use Rattle.nam_ghost.specs.Idle.{at_place}
+use Rattle.nam_ghost.specs.Locks.{HolderOk, LocksOk}
+use Rattle.nam_ghost.specs.Moments.{MomentsOk, Observer, ObserverOk, observer_of, vector_of}
+use Rattle.nam_ghost.specs.Publications.{Publication, publication_of}
+use Rattle.nam_ghost.specs.Steps.{at_record, chains_after, commit_chains, given_back, locked_for, new_version}
+use Rattle.nam_ghost.specs.Steps.{published_after, renewed}
+use Rattle.nam_ghost.specs.Versions.{Chain}
 use Rattle.nam_layout.specs.Address.{IsField}
 use Rattle.nam_layout.specs.Rows.{width_at}
 use Rattle.nam_layout.specs.declared.field.Field.{Field}
 use Rattle.nam_layout.specs.declared.field.Field.TheVariants.{Entry}
 use Rattle.nam_layout.specs.declared.field.Place.{Place}
-use Rattle.nam_calls.specs.Fits.{HasWidth}
-use Rattle.nam_calls.specs.Memory.{memory}
-use Rattle.nam_calls.specs.declared.lock.LockPoint.TheVariants.{GiveBack, Peek, Seize}
-use Rattle.nam_calls.specs.declared.record.InstallPoint.TheVariants.{InstallCount, InstallHead, InstallWord}
+use Rattle.nam_protocol.proofs.FieldLemmas.{placed, written_less}
+use Rattle.nam_protocol.proofs.GivesCommit.{commit_gives}
+use Rattle.nam_protocol.specs.Commit.{record_place, value_at}
+use Rattle.nam_protocol.specs.Sorts.{committing_at}
 use Rattle.nam_protocol.specs.declared.client.CallPoint.{CallPoint}
 use Rattle.nam_protocol.specs.declared.client.CallPoint.TheVariants.{InTxn}
 use Rattle.nam_protocol.specs.declared.client.ClientState.{ClientState}
@@ -22,25 +34,13 @@ use Rattle.nam_protocol.specs.declared.txn.CommitPoint.{CommitPoint}
 use Rattle.nam_protocol.specs.declared.txn.CommitPoint.TheVariants.{Freeing, Installing, Locking, Publishing, Returning}
 use Rattle.nam_protocol.specs.declared.txn.TxnPoint.TheVariants.{Committing}
 use Rattle.nam_protocol.specs.declared.txn.TxnState.{TxnState}
-use Rattle.nam_protocol.specs.Sorts.{committing_at}
-use Rattle.nam_protocol.specs.Commit.{record_place, value_at}
-use Rattle.nam_protocol.proofs.FieldLemmas.{placed, written_less}
-use Rattle.nam_protocol.proofs.GivesCommit.{commit_gives}
-use Rattle.nam_store.specs.Base.{BaseOk, ClientOk}
-use Rattle.nam_store.specs.Changed.{Does}
-use Rattle.nam_store.specs.Store.{Store, client_at, step}
 use Rattle.nam_store.proofs.BaseLemmas.{client_within}
 use Rattle.nam_store.proofs.KindsLemmas.{AllWritten}
 use Rattle.nam_store.proofs.Lists.{put_cases}
-use Rattle.nam_ghost.specs.Holders.{holder_of, record_row}
-use Rattle.nam_ghost.specs.Locks.{HolderOk, LocksOk}
-use Rattle.nam_ghost.specs.Moments.{MomentsOk, Observer, ObserverOk, observer_of, vector_of}
-use Rattle.nam_ghost.specs.Publications.{Publication, publication_of}
-use Rattle.nam_ghost.specs.Steps.{at_record, chains_after, commit_chains, given_back, locked_for, new_version}
-use Rattle.nam_ghost.specs.Steps.{published_after, renewed}
-use Rattle.nam_ghost.specs.Versions.{Chain}
-use Rattle.nam_moments.proofs.EntryLemmas.{IsNoEntry, commit_no_entry}
-use Rattle.nam_moments.proofs.SnapshotLemmas.{observer_ok}
+use Rattle.nam_store.specs.Base.{BaseOk, ClientOk}
+use Rattle.nam_store.specs.Changed.{Does}
+use Rattle.nam_store.specs.Store.{Store, client_at, step}
+use Rattle.nam_verbs.proofs.TestLemmas.{by_test}
 use Rattle.nam_versions.specs.Turn.{Adds, ChainGoes, Installs, Keeps, PublishedGoes, Stays}
 
 -- 1. Words that install nothing
@@ -88,9 +88,6 @@ module _ (state : TxnState) (chains : ℕ → Chain) where
   commit_stays _ found is row = same_versions (chains row)
 
 -- 2. A client at a point
-
-abbrev pub at_place : ClientState → Option Open → CallPoint → ClientState
-at_place client opened place = record client { call = Some (At place); txn = opened }
 
 -- how the number that a client has published goes on
 abbrev pub RisesAs : Option Open → CallPoint → ℕ → ℕ → Type 0

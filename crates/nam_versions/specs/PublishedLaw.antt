@@ -1,18 +1,18 @@
 -- What is claimed of publications holds of each store that comes about, and what it comes to for snapshots.
+use Rattle.std.specs.Prelude.{List, Some, slice_get, true, ℕ, ◌<◌, ◌≡◌}
 use Rattle.nam_catalog.specs.Fits.{FitsLimits}
 use Rattle.nam_catalog.specs.declared.shape.Shape.{Shape}
-use Rattle.nam_ghost.specs.Ghost.{Ghost, IsReachedWith, ghost_step, opening_ghost}
+use Rattle.nam_ghost.specs.Commits.{CommitsOk}
+use Rattle.nam_ghost.specs.Ghost.{Ghost, ghost_step, opening_ghost}
+use Rattle.nam_ghost.specs.Moments.{IsTaken, MomentsNext}
 use Rattle.nam_ghost.specs.Publications.{IsInstalled, Publication, PublishedOk}
 use Rattle.nam_ghost.specs.Versions.{Chain}
 use Rattle.nam_header.specs.Visible.{is_visible}
-use Rattle.nam_moments.specs.SnapshotsLaw.{IsTaken}
 use Rattle.nam_store.specs.Opening.{AreLoaded, opening_store}
 use Rattle.nam_store.specs.Store.{StepsTo, Store}
-use Rattle.nam_versions.specs.ChainsLaw.{RestsOn}
 use Rattle.si_model.specs.Lists.{Listed}
 use Rattle.si_model.specs.declared.log.Stamp.{Stamp}
 use Rattle.si_model.specs.declared.row.Row.{Row}
-use Rattle.std.specs.Prelude.{List, Some, slice_get, true, ℕ, ◌<◌, ◌≡◌}
 
 -- 1. The claims
 
@@ -23,12 +23,9 @@ OpensLaw = (shape : Shape) → FitsLimits shape → (rows : List Row) → AreLoa
 
 abbrev pub KeepsLaw : Type 0
 KeepsLaw = (shape : Shape) (before after : Store) (goes : StepsTo shape before after) (ghost : Ghost)
-    → RestsOn shape before ghost → let later = ghost_step shape before after goes ghost in
+    → CommitsOk shape before ghost → MomentsNext shape before after goes
+    → let later = ghost_step shape before after goes ghost in
     PublishedOk shape after later.chains later.published
-
-abbrev pub ReachedLaw : Type 0
-ReachedLaw = (shape : Shape) → FitsLimits shape → (rows : List Row) → AreLoaded shape rows → (store : Store)
-    → (ghost : Ghost) → IsReachedWith shape rows store ghost → PublishedOk shape store ghost.chains ghost.published
 
 -- 2. What they come to
 
@@ -42,15 +39,23 @@ pub record IsPublished (chains : ℕ → Chain) (published : ℕ → List Public
 
 -- so it is of each stamp that a snapshot sees which some client has taken, but the loader's and those of numbers up to
 -- the start, which no commit has had
-abbrev pub InstalledLaw : Type 0
-InstalledLaw = (shape : Shape) → FitsLimits shape → (rows : List Row) → AreLoaded shape rows → (store : Store)
-    → (ghost : Ghost) → IsReachedWith shape rows store ghost → (snapshot : List ℕ) → IsTaken store snapshot
+abbrev pub SeesInstalled : Shape → Store → Ghost → Type 0
+SeesInstalled shape store ghost =
+    (snapshot : List ℕ) → IsTaken store snapshot
     → (stamp : Stamp) → is_visible stamp snapshot ≡ true → shape.start < stamp.number
     → IsPublished ghost.chains ghost.published stamp
 
+abbrev pub InstalledLaw : Type 0
+InstalledLaw = (shape : Shape) (store : Store) (ghost : Ghost) → CommitsOk shape store ghost
+    → SeesInstalled shape store ghost
+
 -- of two publications with one stamp both are the same client's, and the same one of its
-abbrev pub OnceLaw : Type 0
-OnceLaw = (shape : Shape) → FitsLimits shape → (rows : List Row) → AreLoaded shape rows → (store : Store)
-    → (ghost : Ghost) → IsReachedWith shape rows store ghost → (nth other k l : ℕ) (one two : Publication)
+abbrev pub PublishedOnce : Shape → Store → Ghost → Type 0
+PublishedOnce shape store ghost =
+    (nth other k l : ℕ) (one two : Publication)
     → nth < shape.workers → other < shape.workers → slice_get (ghost.published nth) k ≡ Some one
     → slice_get (ghost.published other) l ≡ Some two → one.stamp ≡ two.stamp → (nth ≡ other) × (k ≡ l)
+
+abbrev pub OnceLaw : Type 0
+OnceLaw = (shape : Shape) (store : Store) (ghost : Ghost) → CommitsOk shape store ghost
+    → PublishedOnce shape store ghost

@@ -1,4 +1,5 @@
 -- What one step makes of chains and publications: the view that both groups have of it, whichever call it is of.
+use Rattle.std.specs.Prelude.{List, Some, [], map, slice_get, slice_set, ℕ, ◌++◌, ◌+◌, ◌∷◌, ◌≡◌}
 use Rattle.nam_calls.specs.Fits.{HasWidth}
 use Rattle.nam_catalog.specs.declared.shape.Shape.{Shape}
 use Rattle.nam_ghost.specs.Chains.{IsSeenBy}
@@ -10,7 +11,6 @@ use Rattle.nam_layout.specs.Rows.{width_at}
 use Rattle.nam_store.specs.Everyone.{put}
 use Rattle.nam_store.specs.Store.{Store}
 use Rattle.si_model.specs.Lists.{Listed}
-use Rattle.std.specs.Prelude.{List, Some, [], map, slice_get, slice_set, ℕ, ◌++◌, ◌+◌, ◌∷◌, ◌≡◌}
 
 -- A version that the nth client installs over the current one: of the row's width, of the number that the client
 -- publishes next, and written from one of its snapshots, which sees the current version.

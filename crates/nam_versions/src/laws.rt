@@ -1,4 +1,4 @@
-//! What holds of version chains and publications in every store, and what snapshots see of them.
+//! What holds of version chains and publications, step by step, and what snapshots see of them.
 
 ghost use Rattle.nam_versions.specs.ChainsLaw as chains;
 ghost use Rattle.nam_versions.specs.PublishedLaw as published;
@@ -12,13 +12,12 @@ ghost use Rattle.nam_versions.specs.SeenLaw as seen;
 ///
 /// The opening has it, with any rows that may be loaded, and each verb, each call that may be asked, each transaction
 /// that is given up and each stop keeps it, of a store that meets what is said of every store, of moments, of locks and
-/// of publications. Such a step leaves a row's versions as they are, or installs one more, which no snapshot sees that
-/// was taken before.
+/// of publications (`CommitsOk`), where the step's client goes on as an observer of the vector may. Such a step leaves
+/// a row's versions as they are, or installs one more, which no snapshot sees that was taken before.
 pub fn chains_law()
     ensures opening { chains.OpensLaw }
     ensures step { chains.KeepsLaw }
     ensures next { chains.NextLaw }
-    ensures reached { chains.ReachedLaw }
     ensures once { chains.OnceLaw }
 {}
 
@@ -30,15 +29,14 @@ pub fn chains_law()
 pub fn published_law()
     ensures opening { published.OpensLaw }
     ensures step { published.KeepsLaw }
-    ensures reached { published.ReachedLaw }
     ensures installed { published.InstalledLaw }
     ensures once { published.OnceLaw }
 {}
 
-/// What a snapshot that some client has taken sees of a row's versions, in each store that comes about.
+/// What a snapshot that some client has taken sees of a row's versions, in a store that meets `CommitsOk`.
 ///
-/// It sees a front of the chain. Whatever the clients do after it was taken, it sees the same. And each version that it
-/// sees is the loader's, or its commit was published and is installed in all its records.
+/// It sees a front of the chain. After each step it sees the same. And each version that it sees is the loader's, or its
+/// commit was published and is installed in all its records.
 pub fn seen_law()
     ensures front { seen.FrontLaw }
     ensures stays { seen.StaysLaw }

@@ -1,5 +1,5 @@
 use Rattle.nam_past.proofs.OpeningLemmas.{past_open}
-use Rattle.nam_past.proofs.StepLemmas.{past_keep, past_reached}
+use Rattle.nam_past.proofs.StepLemmas.{past_keep}
 use Rattle.nam_past.proofs.laws.past_law.Goals as goal
 
 pub returns-clause-opening : goal.returns-clause-opening
@@ -7,6 +7,3 @@ returns-clause-opening c = past_open
 
 pub returns-clause-step : goal.returns-clause-step
 returns-clause-step c = past_keep
-
-pub returns-clause-reached : goal.returns-clause-reached
-returns-clause-reached c = past_reached

@@ -1,4 +1,4 @@
-use Rattle.nam_refused.proofs.LockerSteps.{listed_holds, lockers_keep, lockers_open, lockers_reached}
+use Rattle.nam_refused.proofs.LockerSteps.{listed_holds, lockers_keep, lockers_open}
 use Rattle.nam_refused.proofs.laws.lockers_law.Goals as goal
 
 pub returns-clause-opening : goal.returns-clause-opening
@@ -6,9 +6,6 @@ returns-clause-opening c = lockers_open
 
 pub returns-clause-step : goal.returns-clause-step
 returns-clause-step c = lockers_keep
-
-pub returns-clause-reached : goal.returns-clause-reached
-returns-clause-reached c = lockers_reached
 
 pub returns-clause-listed : goal.returns-clause-listed
 returns-clause-listed c = listed_holds

@@ -1,15 +1,15 @@
--- A snapshot that was taken sees a front of each chain, and nothing that is installed later.
-use Rattle.std.proofs.Common.{List, arith, inr, length, refl, subst, suc}
-use Rattle.std.proofs.Common.{true, zero, ℕ, ⊎_elim, ◌+◌, ◌-◌, ◌<◌, ◌≡◌, ◌≤◌}
+-- A snapshot that was taken sees a front of each chain: with a version each one before it.
+use Rattle.std.proofs.Common.{List, arith, inr, length, refl, subst, suc, true, zero, ℕ, ⊎_elim, ◌+◌, ◌-◌, ◌<◌, ◌≡◌}
+use Rattle.std.proofs.Common.{◌≤◌}
 use Rattle.std.specs.Prelude.{slice_index}
-use Rattle.si_model.specs.Lists.{Listed}
-use Rattle.nam_header.specs.Visible.{IsLoaders, IsReached, is_visible}
-use Rattle.nam_store.specs.Everyone.{Someone}
+use Rattle.nam_ghost.proofs.ChainLemmas.{pairs_got}
+use Rattle.nam_ghost.proofs.VisibleLemmas.{visible_rises, visible_says}
 use Rattle.nam_ghost.specs.Chains.{ChainOk, IsSeenBy, WrittenBy}
 use Rattle.nam_ghost.specs.Moments.{AreFound, AreObservers, AreOrdered, AtMost, IsCandidate, Observer}
 use Rattle.nam_ghost.specs.Versions.{Chain, IsNth, Version, versions}
-use Rattle.nam_ghost.proofs.ChainLemmas.{pairs_got}
-use Rattle.nam_versions.proofs.VisibleLemmas.{visible_rises, visible_says}
+use Rattle.nam_header.specs.Visible.{IsLoaders, IsReached, is_visible}
+use Rattle.nam_store.specs.Everyone.{Someone}
+use Rattle.si_model.specs.Lists.{Listed}
 
 -- some observer has taken it
 abbrev pub IsSnap : List Observer → List ℕ → Type 0
@@ -17,7 +17,7 @@ IsSnap observers s = Someone (λ _ (observer : Observer). Listed s observer.snap
 
 module _ (start workers : ℕ) (V : ℕ → ℕ) (observers : List Observer)
     (ok : AreObservers start workers V observers) where
-  snap_candidate : (s : List ℕ) → IsSnap observers s → IsCandidate workers observers s workers
+  pub snap_candidate : (s : List ℕ) → IsSnap observers s → IsCandidate workers observers s workers
   snap_candidate s (nth, (observer, (here, listed))) = (nth, (observer, (here, inr (refl, listed))))
 
   pub snap_wide : (s : List ℕ) → IsSnap observers s → length s ≡ workers
@@ -32,7 +32,7 @@ module _ (start workers : ℕ) (V : ℕ → ℕ) (observers : List Observer)
       (λ a from less. absurd (omega arith)) (λ a from less. absurd (omega arith))
 
   -- one that sees a version sees each that its writer saw
-  pub sees_before : (version earlier : Version) → Someone (WrittenBy version) observers → IsSeenBy earlier version
+  sees_before : (version earlier : Version) → Someone (WrittenBy version) observers → IsSeenBy earlier version
       → (s : List ℕ) → IsSnap observers s → is_visible version.stamp s ≡ true → is_visible earlier.stamp s ≡ true
   sees_before version earlier (nth, (observer, (here, by))) before s is sees =
       let seen : IsSnap observers version.seen = (nth, (observer, (here, by.seen))) in

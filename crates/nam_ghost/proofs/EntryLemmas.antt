@@ -1,28 +1,29 @@
 -- Which steps of a commit write the vector: the publication alone.
 use Rattle.std.proofs.Common.{List, ap, arith, ℕ, ◌+◌, ◌≡◌}
 use Rattle.std.specs.Prelude.{slice_index}
-use Rattle.nam_verbs.specs.VerbAt.{target}
-use Rattle.nam_layout.specs.declared.field.Field.{Field}
-use Rattle.nam_layout.specs.declared.field.Field.TheVariants.{Entry}
-use Rattle.nam_layout.specs.declared.field.Place.{Place}
+use Rattle.nam_calls.specs.Writes.{copy_writes, install_writes, lock_writes}
 use Rattle.nam_calls.specs.declared.lock.LockPoint.{LockPoint}
 use Rattle.nam_calls.specs.declared.lock.LockPoint.TheVariants.{GiveBack, Peek, Seize}
 use Rattle.nam_calls.specs.declared.record.InstallPoint.{InstallPoint}
 use Rattle.nam_calls.specs.declared.record.InstallPoint.TheVariants.{InstallCount, InstallHead, InstallWord}
 use Rattle.nam_calls.specs.declared.ring.CopyPoint.{CopyPoint}
 use Rattle.nam_calls.specs.declared.ring.CopyPoint.TheVariants.{CopyEnding, CopyHead, CopyMark, CopyWord}
-use Rattle.nam_calls.specs.Writes.{copy_writes, install_writes, lock_writes}
+use Rattle.nam_layout.specs.declared.field.Field.{Field}
+use Rattle.nam_layout.specs.declared.field.Field.TheVariants.{Entry}
+use Rattle.nam_layout.specs.declared.field.Place.{Place}
+use Rattle.nam_protocol.specs.CallWrites.{commit_writes}
+use Rattle.nam_protocol.specs.Commit.{list_verb, places, record_place}
 use Rattle.nam_protocol.specs.declared.txn.CommitPoint.{CommitPoint}
-use Rattle.nam_protocol.specs.declared.txn.CommitPoint.TheVariants.{Copying}
-use Rattle.nam_protocol.specs.declared.txn.CommitPoint.TheVariants.{Installing, Listing, Locking}
-use Rattle.nam_protocol.specs.declared.txn.CommitPoint.TheVariants.{Publishing}
+use Rattle.nam_protocol.specs.declared.txn.CommitPoint.TheVariants.{Copying, Installing, Listing, Locking, Publishing}
 use Rattle.nam_protocol.specs.declared.txn.ListPoint.{ListPoint}
 use Rattle.nam_protocol.specs.declared.txn.ListPoint.TheVariants.{ListData, ListKind, ListNumber, ListRow, ListState}
 use Rattle.nam_protocol.specs.declared.txn.TxnState.{TxnState}
-use Rattle.nam_protocol.specs.CallWrites.{commit_writes}
-use Rattle.nam_protocol.specs.Commit.{list_verb, places, record_place}
 use Rattle.nam_store.proofs.KindsLemmas.{AllWritten}
-use Rattle.nam_moments.proofs.ViewLemmas.{IsPublishing}
+use Rattle.nam_verbs.specs.VerbAt.{target}
+
+abbrev pub IsPublishing : CommitPoint → Type 0
+IsPublishing Publishing = Unit {0}
+IsPublishing _ = ⊥
 
 -- no word of the vector
 abbrev pub IsNoEntry : Field → Type 0

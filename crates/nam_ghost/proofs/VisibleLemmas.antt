@@ -1,10 +1,15 @@
 -- Which stamps a snapshot sees: the loader's, and those that its entries have reached.
-use Rattle.std.proofs.Common.{List, [], arith, eqb, inl, inr, leb, length, true, ℕ, ⊎_elim, ◌&&◌, ◌-◌, ◌≡◌}
-use Rattle.std.specs.Prelude.{Bool, slice_index}
-use Rattle.std.proofs.lemmas.Bool.{and_from, and_parts, cond_both, eq-eqb, eqb-false, eqb-true, le-leb, leb-true}
-use Rattle.si_model.specs.declared.log.Stamp.{Stamp}
-use Rattle.nam_header.specs.Visible.{IsLoaders, IsReached, IsVisible, is_visible}
+use Rattle.std.proofs.Common.{List, arith, eqb, inl, inr, leb, length, subst, true, ℕ, ⊎_elim, ◌&&◌, ◌+◌, ◌-◌, ◌<◌, ◌≡◌}
+use Rattle.std.proofs.Common.{◌≤◌}
+use Rattle.std.proofs.lemmas.Bool.{and_from, and_parts, cond_both, eq-eqb, eqb-false, eqb-true, false_from_ne_true}
+use Rattle.std.proofs.lemmas.Bool.{le-leb, leb-true}
+use Rattle.std.proofs.lemmas.Bool.Decides.{nat_tests}
+use Rattle.std.specs.Prelude.{Bool, false, slice_index}
 use Rattle.nam_ghost.specs.Moments.{AtMost}
+use Rattle.nam_header.specs.Visible.{IsLoaders, IsReached, IsVisible, is_visible}
+use Rattle.si_model.specs.declared.log.Stamp.{Stamp}
+
+-- 1. The loader's stamp, and those of workers
 
 module _ (stamp : Stamp) (seen : List ℕ) where
   abbrev within : Bool
@@ -46,9 +51,22 @@ visible_rises workers stamp s t wide long most is =
     reached_visible stamp t (some, omega arith, omega arith))
     (visible_says stamp s is)
 
--- the empty snapshot sees the loader's stamp alone
-pub visible_nowhere : (stamp : Stamp) → is_visible stamp [] ≡ true → IsLoaders stamp
-visible_nowhere stamp is =
-    ⊎_elim (λ (loaders : IsLoaders stamp). loaders)
-    (λ (reached : IsReached stamp []). let some = reached.0 in let few = reached.1 in absurd (omega arith))
-    (visible_says stamp [] is)
+-- 2. A stamp of a worker; workers count from 0
+
+pub sees_says : (stamp : Stamp) (nth : ℕ) (seen : List ℕ) → stamp.thread ≡ nth + 1 → is_visible stamp seen ≡ true
+    → (nth < length seen) × (stamp.number ≤ slice_index seen nth)
+sees_says stamp nth seen thread sees =
+    let entry : stamp.thread - 1 ≡ nth = omega arith in
+    (grind (arith, nat_tests), subst (λ a. stamp.number ≤ slice_index seen a) entry (grind (arith, nat_tests)))
+
+pub sees_by : (stamp : Stamp) (nth : ℕ) (seen : List ℕ) → stamp.thread ≡ nth + 1 → nth < length seen
+    → stamp.number ≤ slice_index seen nth → is_visible stamp seen ≡ true
+sees_by stamp nth seen thread less reached =
+    let entry : nth ≡ stamp.thread - 1 = omega arith in
+    let number = subst (λ a. stamp.number ≤ slice_index seen a) entry reached in grind (arith, nat_tests)
+
+pub unreached_hidden : (nth : ℕ) (stamp : Stamp) (seen : List ℕ) → stamp.thread ≡ nth + 1
+    → slice_index seen nth < stamp.number → is_visible stamp seen ≡ false
+unreached_hidden nth stamp seen thread past =
+    false_from_ne_true (is_visible stamp seen)
+    (λ sees. let reached = (sees_says stamp nth seen thread sees).1 in omega arith)

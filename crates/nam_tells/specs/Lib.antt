@@ -3,3 +3,4 @@ pub mod Steps
 pub mod TellsLaw
 pub mod EndsLaw
 pub mod AskedLaw
+pub mod Logs

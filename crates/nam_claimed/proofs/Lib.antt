@@ -1,0 +1,13 @@
+pub mod FirstLemmas
+pub mod HomeLemmas
+pub mod ViewLemmas
+pub mod AskedLemmas
+pub mod WriteLemmas
+pub mod StoreLemmas
+pub mod ClientLemmas
+pub mod PathLemmas
+pub mod ModelLemmas
+pub mod EndLemmas
+pub mod PlacedLemmas
+pub mod SpaceLemmas
+pub mod ClaimedExample

@@ -1,0 +1,4 @@
+pub mod Shown
+pub mod Logs
+pub mod OfShape
+pub mod Commits
